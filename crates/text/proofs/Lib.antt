@@ -1,0 +1,5 @@
+-- What the proofs of several functions use, here and in the crates above.
+pub mod Begun
+pub mod Steps
+pub mod Values
+pub mod Ways

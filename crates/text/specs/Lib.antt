@@ -1,0 +1,5 @@
+pub mod Runs
+pub mod Numbers
+pub mod Classes
+pub mod Tokens
+pub mod Examples

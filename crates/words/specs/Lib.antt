@@ -1,0 +1,4 @@
+pub mod Bytes
+pub mod Spelling
+pub mod Fixed
+pub mod Names
