@@ -1,0 +1,157 @@
+-- A domain, and reading its text: "In order, a domain has requirements, types, constants, predicates, functions, actions of both kinds, each optional".
+use Prim.Native.Nat.{ℕ, zero, suc, _+_}
+use mathlib.Core.List.{List, [], _∷_}
+use mathlib.Core.Bool.{Bool, true, false, cond, _&&_}
+use Prim.Native.Char.{code}
+use Prim.Native.String.{String}
+use lib.ListN.{length, getD}
+use lib.Dec.{eqb}
+use Rattle.words.specs.Bytes.{bytes}
+use Rattle.words.specs.Spelling.{sameWord}
+use Rattle.words.specs.Fixed.{isFlag}
+use Rattle.text.specs.Runs.{part}
+use Rattle.text.specs.Tokens.{tokenAt}
+use Rattle.text.specs.declared.tokens.Token.{Token}
+use Rattle.text.specs.declared.tokens.Token.the-variants as T
+use Rattle.text.specs.declared.tokens.Word.{Word}
+use Rattle.text.specs.declared.tokens.Word.the-variants as W
+use Rattle.grammar.specs.Read.{Read, Reader, andThen, _>>=_, got, refused, give, refuse}
+use Rattle.grammar.specs.Tables.{Entry, entry, Table}
+use Rattle.grammar.specs.Due.{token, peek, wrong, onOpen, opening, closing, onClose, onWord, fixed, Name, anyName}
+use Rattle.grammar.specs.Lists.{namesTo, typesTo, declarations}
+use Rattle.grammar.specs.Terms.{Scope}
+use Rattle.grammar.specs.Actions.{Action, action}
+
+pub record Domain : Type 0 where
+  pub name : List ℕ
+  pub types : Table
+  pub constants : Table
+  pub predicates : Table
+  pub functions : Table
+  pub actions : List Action
+
+-- ---- sections: a bracket and a keyword
+
+-- a section that was asked for: the place of its word, or that another thing stands there
+pub data Opened : Type 0 where
+  opened : ℕ → Opened
+  other : Opened
+
+abbrev pub onOpened : {A : Type 0} → Opened → (ℕ → A) → A → A
+onOpened (opened p) f a = f p
+onOpened other f a = a
+
+-- where the next section has the keyword w, its word is read; else nothing is read
+abbrev pub sectionWord : List ℕ → ℕ → String → Token → Read Opened
+sectionWord s at w t = onWord t (λ k p e. cond (sameWord (part s p e) (bytes w)) (got (opened p) e) (got other at)) (got other at)
+
+abbrev pub behindOpen : List ℕ → ℕ → String → Token → Read Opened
+behindOpen s at w t = onOpen t (λ p. sectionWord s at w (tokenAt s (p + 1))) (got other at)
+
+unfoldable pub begins : List ℕ → String → Reader Opened
+begins s w at = behindOpen s at w (tokenAt s at)
+
+-- a section that may be missing
+abbrev pub section : {A : Type 0} → List ℕ → String → A → Reader A → Reader A
+section s w none body = do
+  o ← begins s w
+  onOpened o (λ p. body) (give none)
+
+-- the bracket that closes the text's first one, and behind it the end. A bracket opens a section, whose word is judged: none may follow
+abbrev pub behindLast : Token → Reader ℕ
+behindLast (T.End p) = give p
+behindLast (T.Word k p e) = wrong 16 (T.Word k p e)
+behindLast (T.Number z p e) = wrong 16 (T.Number z p e)
+behindLast (T.Open p n) = wrong 16 (T.Open p n)
+behindLast (T.Close p n) = wrong 16 (T.Close p n)
+behindLast (T.Mark m p n) = wrong 16 (T.Mark m p n)
+behindLast (T.Refusal k p) = wrong 16 (T.Refusal k p)
+
+unfoldable pub ending : List ℕ → Reader ℕ
+ending s = do
+  t ← token s
+  onClose t
+      (λ p. do
+        u ← token s
+        behindLast u)
+      (onOpen t
+      (λ p. do
+        u ← token s
+        wrong 14 u)
+      (wrong 15 t))
+
+-- `(define (domain NAME)` or `(define (problem NAME)`
+unfoldable pub heading : List ℕ → String → Reader Name
+heading s w = do
+  _ ← opening s 16
+  _ ← fixed s 15 "define"
+  _ ← opening s 15
+  _ ← fixed s 14 w
+  n ← anyName s 14
+  _ ← closing s 14
+  give n
+
+-- ---- requirements: "a requirement flag other than .." is 11, however long
+
+abbrev pub flagWord : List ℕ → Word → ℕ → ℕ → Reader ℕ
+flagWord s W.Keyword p e = cond (isFlag (part s p e)) (give p) (refuse 11 p)
+flagWord s W.Name p e = refuse 3 p
+flagWord s W.Variable p e = refuse 3 p
+flagWord s W.Operator p e = refuse 3 p
+
+abbrev pub flagOf : List ℕ → Token → Reader ℕ
+flagOf s (T.Word k p e) = flagWord s k p e
+flagOf s (T.Refusal k p) = cond (eqb k 5 && eqb (getD s p 0) (code ":")) (refuse 11 p) (refuse k p)
+flagOf s (T.Number z p e) = wrong 14 (T.Number z p e)
+flagOf s (T.Open p n) = wrong 14 (T.Open p n)
+flagOf s (T.Close p n) = wrong 14 (T.Close p n)
+flagOf s (T.Mark m p n) = wrong 14 (T.Mark m p n)
+flagOf s (T.End p) = wrong 14 (T.End p)
+
+-- flags to the closing bracket. The first number bounds the steps
+unfoldable pub flagsTo : ℕ → List ℕ → Reader ℕ
+flagsTo zero s = refuse 0 0
+flagsTo (suc k) s = do
+  t ← token s
+  onClose t
+      (λ p. give p)
+      (do
+        _ ← flagOf s t
+        flagsTo k s)
+
+-- ---- actions: any number of both kinds. The first number bounds the steps
+unfoldable pub actionsTo : ℕ → List ℕ → Scope → List Action → Reader (List Action)
+actionsTo zero s c as′ = refuse 0 0
+actionsTo (suc k) s c as′ = do
+  simple ← begins s ":action"
+  onOpened simple
+      (λ p. do
+        bs ← action s c false as′
+        actionsTo k s c bs)
+      (do
+        durative ← begins s ":durative-action"
+        onOpened durative
+            (λ p. do
+              bs ← action s c true as′
+              actionsTo k s c bs)
+            (give as′))
+
+-- ---- "types 16 besides `object`; objects with constants 64; predicates 32 of at most 3 arguments; functions 16 of at most 2"
+
+abbrev pub onlyObject : Table
+onlyObject = entry (bytes "object") (0 ∷ []) ∷ []
+
+unfoldable pub domainText : List ℕ → Reader Domain
+domainText s = do
+  n ← heading s "domain"
+  _ ← section s ":requirements" 0 (flagsTo (length s + 1) s)
+  ts ← section s ":types" onlyObject (typesTo s)
+  os ← section s ":constants" [] (namesTo s ts 64 [])
+  ps ← section s ":predicates" [] (declarations (length s + 1) s ts 32 3 [])
+  fs ← section s ":functions" [] (declarations (length s + 1) s ts 16 2 [])
+  as′ ← actionsTo (length s + 1) s (record { types = ts; objects = os; predicates = ps; functions = fs; variables = []; inAction = false }) []
+  _ ← ending s
+  give (record { name = n .word; types = ts; constants = os; predicates = ps; functions = fs; actions = as′ })
+
+unfoldable pub readDomain : List ℕ → Read Domain
+readDomain s = domainText s 0

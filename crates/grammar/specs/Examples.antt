@@ -1,0 +1,75 @@
+-- Worked examples: the bench of document 01 as trees, and a text for each refusal. Each by computation.
+use mathlib.Core.Path.{_≡_, refl}
+use mathlib.Core.List.{List, [], _∷_}
+use mathlib.Core.Bool.{true, false}
+use Prim.Native.Nat.{ℕ}
+use Prim.Native.String.{String}
+use lib.IntN.{pos, negsuc}
+use Rattle.words.specs.Bytes.{bytes, kindOf, lowerOf, inRun}
+use Rattle.words.specs.Spelling.{sameWord, nameByte, nameBytes, isName, placeFrom, wordsOf, wordIn}
+use Rattle.words.specs.Fixed.{headOf, isFlag, isListed, isReserved, isOperator}
+use Rattle.text.specs.Runs.{gapStep, gap, gapEnd, run, runEnd}
+use Rattle.text.specs.Numbers.{leading, decimal, scaleOf, fractionOf, numberFrom, signed}
+use Rattle.text.specs.Classes.{beginsNumber, classOf}
+use Rattle.text.specs.Tokens.{sizedOf, numberToken, domainWord, isPast, bracketOf, tokenAt, spotAt}
+use Rattle.grammar.specs.Read.{Read, got, refused}
+use Rattle.grammar.specs.Tables.{Entry, entry, Table, lookup, fresh, declared, isBelow, retype}
+use Rattle.grammar.specs.Due.{opening, closing, fixed, anyName, newName}
+use Rattle.grammar.specs.Lists.{typeNamed, typeDue, group, item, declare, waiting, typed, namesTo, variablesTo, typesTo, declaration, declarations}
+use Rattle.grammar.specs.Terms.{object, variable, Ref, Expr, number, value, minus, plus, argument, fits, arguments, reference, counted, expr, expression}
+use Rattle.grammar.specs.Conditions.{Cond, all, atom, compare, none, cons, atLeast, atomAt, comparison, sameObjects, equality, negation, listTo, conjunction, condition}
+use Rattle.grammar.specs.Effects.{Effect, becomes, changes, assign, raise, becomesAt, target, changeAt, deletion, effectsTo, effect}
+use Rattle.grammar.specs.Actions.{Timed, start, whole, end, Action, moment, rule, timeOf, partBehind, partAt, partsTo, parts, durationRule, field, simpleBody, durativeBody, action}
+use Rattle.grammar.specs.Domain.{Domain, begins, ending, heading, flagsTo, actionsTo, domainText, readDomain}
+use Rattle.grammar.specs.Problem.{Valued, Init, Problem, sumOf, firstOf, digits, indexOf, isGiven, initTo, sectionDue, initAndGoal, problemText, readProblem}
+
+benchText : List ℕ
+benchText = bytes "(define (domain bench) (:requirements :strips :typing :fluents :durative-actions) (:types pump) (:predicates (ready ?p - pump) (on ?p - pump)) (:functions (lock ?p - pump) (doses ?p - pump)) (:durative-action dose :parameters (?p - pump) :duration (= ?duration (lock ?p)) :condition (and (at start (ready ?p)) (over all (on ?p))) :effect (and (at start (not (ready ?p))) (at end (ready ?p)) (at end (increase (doses ?p) 1)))) (:action off :parameters (?p - pump) :precondition (on ?p) :effect (not (on ?p))) (:action note :parameters (?p - pump) :effect (increase (doses ?p) 1)) (:action zero :parameters (?p - pump) :effect (assign (doses ?p) 0)))"
+
+problemBytes : List ℕ
+problemBytes = bytes "(define (problem two-doses) (:domain bench) (:objects a b - pump) (:init (ready a) (ready b) (on a) (on b) (= (lock a) 5) (= (lock b) 5) (= (doses a) 0) (= (doses b) 0)) (:goal (>= (doses a) 2)))"
+
+pump : List ℕ → Entry
+pump w = entry w (1 ∷ 1 ∷ [])
+
+ofPump : ℕ → Ref
+ofPump i = record { head = i; args = variable 0 ∷ [] }
+
+bench : Domain
+bench = record {
+  name = bytes "bench";
+  types = entry (bytes "object") (0 ∷ []) ∷ entry (bytes "pump") (0 ∷ []) ∷ [];
+  constants = [];
+  predicates = pump (bytes "ready") ∷ pump (bytes "on") ∷ [];
+  functions = pump (bytes "lock") ∷ pump (bytes "doses") ∷ [];
+  actions =
+      record {
+        declared = pump (bytes "dose");
+        lasting = rule (value (ofPump 0));
+        conditions = record { when = start; what = atom true (ofPump 0) } ∷ record { when = whole; what = atom true (ofPump 1) } ∷ [];
+        effects = record { when = start; what = becomes false (ofPump 0) } ∷ record { when = end; what = becomes true (ofPump 0) }
+            ∷ record { when = end; what = changes raise (ofPump 1) (number (pos 1000)) } ∷ [];
+      }
+      ∷ record { declared = pump (bytes "off"); lasting = moment; conditions = record { when = start; what = atom true (ofPump 1) } ∷ []; effects = record { when = start; what = becomes false (ofPump 1) } ∷ [] }
+      ∷ record { declared = pump (bytes "note"); lasting = moment; conditions = []; effects = record { when = start; what = changes raise (ofPump 1) (number (pos 1000)) } ∷ [] }
+      ∷ record { declared = pump (bytes "zero"); lasting = moment; conditions = []; effects = record { when = start; what = changes assign (ofPump 1) (number (pos 0)) } ∷ [] }
+      ∷ [];
+}
+
+bench-read : readDomain benchText ≡ got bench 648
+unfolding bytes kindOf lowerOf inRun sameWord nameByte nameBytes isName placeFrom wordsOf wordIn headOf isFlag isListed isReserved isOperator gapStep gap gapEnd run runEnd leading decimal scaleOf fractionOf numberFrom signed beginsNumber classOf sizedOf numberToken domainWord isPast bracketOf tokenAt spotAt lookup fresh declared isBelow retype opening closing fixed anyName newName typeNamed typeDue group item declare waiting typed namesTo variablesTo typesTo declaration declarations argument fits arguments reference counted expr expression atomAt comparison sameObjects equality negation listTo conjunction condition becomesAt target changeAt deletion effectsTo effect timeOf partBehind partAt partsTo parts durationRule field simpleBody durativeBody action begins ending heading flagsTo actionsTo domainText readDomain benchText bench pump ofPump
+bench-read = refl
+
+valued : ℕ → ℕ → Valued
+valued i z = record { index = i; value = pos z }
+
+two-doses : Problem
+two-doses = record {
+  objects = entry (bytes "a") (1 ∷ []) ∷ entry (bytes "b") (1 ∷ []) ∷ [];
+  init = record { facts = 0 ∷ 1 ∷ 2 ∷ 3 ∷ []; numbers = valued 0 5000 ∷ valued 1 5000 ∷ valued 2 0 ∷ valued 3 0 ∷ [] };
+  goal = compare true atLeast (value (record { head = 1; args = object 0 ∷ [] })) (number (pos 2000));
+}
+
+problem-read : readProblem problemBytes bench ≡ got two-doses 195
+unfolding bytes kindOf lowerOf inRun sameWord nameByte nameBytes isName placeFrom wordsOf wordIn headOf isFlag isListed isReserved isOperator gapStep gap gapEnd run runEnd leading decimal scaleOf fractionOf numberFrom signed beginsNumber classOf sizedOf numberToken domainWord isPast bracketOf tokenAt spotAt lookup fresh declared isBelow retype opening closing fixed anyName newName typeNamed typeDue group item declare waiting typed namesTo variablesTo typesTo declaration declarations argument fits arguments reference counted expr expression atomAt comparison sameObjects equality negation listTo conjunction condition becomesAt target changeAt deletion effectsTo effect timeOf partBehind partAt partsTo parts durationRule field simpleBody durativeBody action begins ending heading flagsTo actionsTo domainText readDomain sumOf firstOf digits indexOf isGiven initTo sectionDue initAndGoal problemText readProblem problemBytes bench pump ofPump two-doses valued
+problem-read = refl

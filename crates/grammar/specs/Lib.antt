@@ -1,0 +1,11 @@
+pub mod Read
+pub mod Tables
+pub mod Due
+pub mod Lists
+pub mod Terms
+pub mod Conditions
+pub mod Effects
+pub mod Actions
+pub mod Domain
+pub mod Problem
+pub mod Examples

@@ -1,0 +1,211 @@
+-- A problem, and reading its text: "a problem domain, objects, init, goal, the middle two optional".
+use Prim.Native.Nat.{ℕ, zero, suc, _+_, _*_, _^_}
+use mathlib.Core.List.{List, [], _∷_, _++_}
+use mathlib.Core.Bool.{Bool, true, false, cond, _&&_, _||_}
+use Prim.Native.String.{String}
+use lib.IntN.{ℤ}
+use lib.ListN.{length, getD}
+use lib.Dec.{eqb, leb}
+use Rattle.words.specs.Bytes.{bytes}
+use Rattle.words.specs.Spelling.{sameWord}
+use Rattle.words.specs.Fixed.{headOf}
+use Rattle.text.specs.Runs.{part}
+use Rattle.text.specs.Tokens.{tokenAt}
+use Rattle.text.specs.declared.tokens.Token.{Token}
+use Rattle.text.specs.declared.tokens.Token.the-variants as T
+use Rattle.text.specs.declared.tokens.Word.{Word}
+use Rattle.text.specs.declared.tokens.Word.the-variants as W
+use Rattle.grammar.specs.Read.{Read, Reader, andThen, _>>=_, got, refused, give, refuse}
+use Rattle.grammar.specs.Tables.{Entry, entry, Table, infoOf, declared}
+use Rattle.grammar.specs.Due.{token, peek, wrong, onOpen, opening, closing, onClose, onWord, fixed, Name, anyName}
+use Rattle.grammar.specs.Lists.{namesTo}
+use Rattle.grammar.specs.Terms.{Scope, Arg, object, variable, Ref, reference}
+use Rattle.grammar.specs.Conditions.{Cond, condition}
+use Rattle.grammar.specs.Domain.{Domain, onOpened, begins, section, ending, heading}
+
+-- ---- index rules, with n objects
+
+-- how many arguments a predicate or function has
+abbrev pub arity : Entry → ℕ
+arity e = getD (infoOf e) 0 0
+
+-- "the sum of n^arguments"
+unfoldable pub sumOf : ℕ → Table → ℕ
+sumOf n [] = 0
+sumOf n (e ∷ t) = n ^ arity e + sumOf n t
+
+-- the first index of number i of a table
+unfoldable pub firstOf : ℕ → Table → ℕ → ℕ
+firstOf n t zero = 0
+firstOf n [] (suc i) = 0
+firstOf n (e ∷ t) (suc i) = n ^ arity e + firstOf n t i
+
+-- "its arguments read as digits in base n, first argument highest", behind those that make acc; no variable stands in init
+abbrev pub objectOf : Arg → ℕ
+objectOf (object i) = i
+objectOf (variable i) = 0
+
+unfoldable pub digits : ℕ → ℕ → List Arg → ℕ
+digits n acc [] = acc
+digits n acc (a ∷ as′) = digits n (acc * n + objectOf a) as′
+
+-- "a fact's index is its predicate's first index plus its arguments read as digits in base n ..; a number's likewise"
+unfoldable pub indexOf : ℕ → Table → Ref → ℕ
+indexOf n t r = firstOf n t (r .head) + digits n 0 (r .args)
+
+-- ---- init: "atoms and `(= (f ..) number)`; other facts are false, other numbers undefined"
+
+-- a ground number's first value
+pub record Valued : Type 0 where
+  pub index : ℕ
+  pub value : ℤ
+
+-- the facts that are true, and the numbers that are defined, in their order
+pub record Init : Type 0 where
+  pub facts : List ℕ
+  pub numbers : List Valued
+
+unfoldable pub isGiven : ℕ → List Valued → Bool
+isGiven i [] = false
+isGiven i (v ∷ vs) = eqb i (v .index) || isGiven i vs
+
+-- "7 .. number in init, given twice: the second name", as soon as its `(f ..)` is closed
+abbrev pub once : ℕ → ℕ → List Valued → Reader ℕ
+once p i vs = cond (isGiven i vs) (refuse 7 p) (give i)
+
+abbrev pub numberDue : Token → Reader ℤ
+numberDue (T.Number z p e) = give z
+numberDue (T.Word k p e) = wrong 13 (T.Word k p e)
+numberDue (T.Open p n) = wrong 13 (T.Open p n)
+numberDue (T.Close p n) = wrong 13 (T.Close p n)
+numberDue (T.Mark m p n) = wrong 13 (T.Mark m p n)
+numberDue (T.Refusal k p) = wrong 13 (T.Refusal k p)
+numberDue (T.End p) = wrong 13 (T.End p)
+
+abbrev pub withFact : Init → ℕ → Init
+withFact x i = record { facts = x .facts ++ i ∷ []; numbers = x .numbers }
+
+abbrev pub withNumber : Init → ℕ → ℤ → Init
+withNumber x i z = record { facts = x .facts; numbers = x .numbers ++ record { index = i; value = z } ∷ [] }
+
+abbrev pub valueOf : List ℕ → Scope → Init → Reader Init
+valueOf s c x = do
+  _ ← opening s 13
+  n ← anyName s 12
+  f ← declared (c .functions) (n .place) (n .word)
+  r ← reference s 12 c (c .functions) f
+  i ← once (n .place) (indexOf (length (c .objects)) (c .functions) r) (x .numbers)
+  t ← token s
+  z ← numberDue t
+  _ ← closing s 13
+  give (withNumber x i z)
+
+abbrev pub factOf : List ℕ → Scope → Init → ℕ → ℕ → Reader Init
+factOf s c x p e = do
+  i ← declared (c .predicates) p (part s p e)
+  r ← reference s 13 c (c .predicates) i
+  give (withFact x (indexOf (length (c .objects)) (c .predicates) r))
+
+abbrev pub initWord : List ℕ → Scope → Init → Word → ℕ → ℕ → Reader Init
+initWord s c x W.Name p e = factOf s c x p e
+initWord s c x W.Operator p e = cond (sameWord (part s p e) (bytes "=")) (valueOf s c x) (refuse 3 p)
+initWord s c x W.Variable p e = refuse 3 p
+initWord s c x W.Keyword p e = refuse 3 p
+
+-- what init holds, to its closing bracket. The first number bounds the steps
+unfoldable pub initTo : ℕ → List ℕ → Scope → Init → Reader Init
+initTo zero s c x = refuse 0 0
+initTo (suc k) s c x = do
+  t ← peek s
+  onClose t
+      (λ p. do
+        _ ← closing s 14
+        give x)
+      (do
+        _ ← opening s 14
+        h ← token s
+        y ← onWord h (initWord s c x) (wrong 13 h)
+        initTo k s c y)
+
+-- ---- "With n objects, .. the sum of n^arguments is at most 16,384 over predicates and 1,024 over functions": 12 at `:init`, else `:goal`
+
+abbrev pub sumsFit : Scope → Bool
+sumsFit c = leb (sumOf (length (c .objects)) (c .predicates)) 16384 && leb (sumOf (length (c .objects)) (c .functions)) 1024
+
+abbrev pub sumsAt : Scope → ℕ → Reader ℕ
+sumsAt c p = cond (sumsFit c) (give p) (refuse 12 p)
+
+-- a section's word from p to e that is `:init` or `:goal`
+abbrev pub judgesSums : List ℕ → ℕ → ℕ → Bool
+judgesSums s p e = sameWord (part s p e) (bytes ":init") || sameWord (part s p e) (bytes ":goal")
+
+-- the section w is due. Another word is 3, but 12 if it is `:init` or `:goal` and a sum is passed already
+abbrev pub dueWord : List ℕ → Scope → String → ℕ → ℕ → Reader ℕ
+dueWord s c w p e =
+    cond (sameWord (part s p e) (bytes w)) (give p)
+    (cond (judgesSums s p e) (do
+      _ ← sumsAt c p
+      refuse 3 p)
+    (refuse 3 p))
+
+unfoldable pub sectionDue : List ℕ → Scope → String → Reader ℕ
+sectionDue s c w = do
+  _ ← opening s 15
+  t ← token s
+  onWord t (λ k p e. dueWord s c w p e) (wrong 14 t)
+
+pub record Problem : Type 0 where
+  pub objects : Table
+  pub init : Init
+  pub goal : Cond
+
+abbrev pub scopeOf : Domain → Table → Scope
+scopeOf d os = record { types = d .types; objects = os; predicates = d .predicates; functions = d .functions; variables = []; inAction = false }
+
+-- "13 problem names another domain: the name"
+abbrev pub sameDomain : Domain → Name → Reader Name
+sameDomain d n = cond (sameWord (n .word) (d .name)) (give n) (refuse 13 (n .place))
+
+abbrev pub ofDomain : List ℕ → Domain → Reader ℕ
+ofDomain s d = do
+  _ ← sectionDue s (scopeOf d (d .constants)) ":domain"
+  n ← anyName s 14
+  _ ← sameDomain d n
+  closing s 14
+
+abbrev pub nothing : Init
+nothing = record { facts = []; numbers = [] }
+
+abbrev pub initAt : List ℕ → Scope → ℕ → Reader Init
+initAt s c p = do
+  _ ← sumsAt c p
+  initTo (length s + 1) s c nothing
+
+-- "64 single conditions in the goal"
+abbrev pub goalTo : List ℕ → Scope → Reader Cond
+goalTo s c = do
+  g ← condition 14 s c 64
+  _ ← closing s 14
+  give (g .tree)
+
+-- init and goal: the sums are judged at the first of them
+unfoldable pub initAndGoal : List ℕ → Scope → Reader Problem
+initAndGoal s c = do
+  o ← begins s ":init"
+  x ← onOpened o (λ p. initAt s c p) (give nothing)
+  q ← sectionDue s c ":goal"
+  _ ← onOpened o (λ p. give q) (sumsAt c q)
+  g ← goalTo s c
+  give (record { objects = c .objects; init = x; goal = g })
+
+unfoldable pub problemText : List ℕ → Domain → Reader Problem
+problemText s d = do
+  _ ← heading s "problem"
+  _ ← ofDomain s d
+  os ← section s ":objects" (d .constants) (namesTo s (d .types) 64 (d .constants))
+  p ← initAndGoal s (scopeOf d os)
+  _ ← ending s
+  give p
+
+unfoldable pub readProblem : List ℕ → Domain → Read Problem
+readProblem s d = problemText s d 0
