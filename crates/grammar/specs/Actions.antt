@@ -7,20 +7,14 @@ use lib.ListN.{length}
 use lib.Dec.{eqb}
 use Rattle.words.specs.Bytes.{bytes}
 use Rattle.words.specs.Spelling.{sameWord}
-use Rattle.words.specs.Fixed.{headOf}
-use Rattle.words.specs.declared.fixed.Head.{Head}
-use Rattle.words.specs.declared.fixed.Head.the-variants as H
 use Rattle.text.specs.Runs.{part}
-use Rattle.text.specs.Tokens.{tokenAt, spotAt}
+use Rattle.text.specs.Tokens.{spotAt}
 use Rattle.text.specs.declared.tokens.Token.{Token}
-use Rattle.text.specs.declared.tokens.Token.the-variants as T
-use Rattle.text.specs.declared.tokens.Word.{Word}
-use Rattle.text.specs.declared.tokens.Word.the-variants as W
 use Rattle.text.specs.declared.tokens.Spot.{Spot}
 use Rattle.text.specs.declared.tokens.Spot.the-variants as P
-use Rattle.grammar.specs.Read.{Read, Reader, andThen, _>>=_, got, refused, give, refuse}
-use Rattle.grammar.specs.Tables.{Entry, entry, Table, fresh}
-use Rattle.grammar.specs.Due.{token, peek, wrong, opening, closing, onClose, onWord, fixed, Name, newName}
+use Rattle.grammar.specs.Read.{Reader, got, give, refuse}
+use Rattle.grammar.specs.Tables.{Entry, Table, fresh}
+use Rattle.grammar.specs.Due.{token, peek, wrong, onRefusal, opening, closing, onClose, onWord, fixed, newName}
 use Rattle.grammar.specs.Lists.{variablesTo, signature}
 use Rattle.grammar.specs.Terms.{Scope, Expr, Counted, counts, expression}
 use Rattle.grammar.specs.Conditions.{Cond, condition}
@@ -115,13 +109,9 @@ module _ {A : Type 0} (s : List ℕ) (over : Bool) (f : ℕ → ℕ → Reader (
 
 -- "`:duration` is `(= ?duration e)`"; "a duration rule's head word other than `=`" is 11, however long it is
 abbrev pub ruleHead : List ℕ → Token → Reader ℕ
-ruleHead s (T.Word k p e) = cond (sameWord (part s p e) (bytes "=")) (give p) (refuse 11 p)
-ruleHead s (T.Refusal k p) = cond (eqb k 5) (refuse 11 p) (refuse k p)
-ruleHead s (T.Number z p e) = wrong 13 (T.Number z p e)
-ruleHead s (T.Open p n) = wrong 13 (T.Open p n)
-ruleHead s (T.Close p n) = wrong 13 (T.Close p n)
-ruleHead s (T.Mark m p n) = wrong 13 (T.Mark m p n)
-ruleHead s (T.End p) = wrong 13 (T.End p)
+ruleHead s t =
+    onWord t (λ k p e. cond (sameWord (part s p e) (bytes "=")) (give p) (refuse 11 p))
+    (onRefusal t (λ k p. cond (eqb k 5) (refuse 11 p) (refuse k p)) (wrong 13 t))
 
 -- `?duration` may stand here and nowhere else
 abbrev pub durationSpot : List ℕ → Spot → Reader ℕ

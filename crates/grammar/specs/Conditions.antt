@@ -1,21 +1,18 @@
 -- Conditions as trees, and reading them. "An `and` holds conditions, and a condition may be an `and`; an empty one holds."
 use Prim.Native.Nat.{ℕ, zero, suc, _+_, _-_}
-use mathlib.Core.List.{List, [], _∷_}
-use mathlib.Core.Bool.{Bool, true, false, cond}
+use mathlib.Core.List.{List}
+use mathlib.Core.Bool.{Bool, true, false}
 use lib.ListN.{length}
 use Rattle.words.specs.Fixed.{headOf}
 use Rattle.words.specs.declared.fixed.Head.{Head}
 use Rattle.words.specs.declared.fixed.Head.the-variants as H
 use Rattle.text.specs.Runs.{part}
-use Rattle.text.specs.Tokens.{tokenAt}
-use Rattle.text.specs.declared.tokens.Token.{Token}
-use Rattle.text.specs.declared.tokens.Token.the-variants as T
 use Rattle.text.specs.declared.tokens.Word.{Word}
 use Rattle.text.specs.declared.tokens.Word.the-variants as W
-use Rattle.grammar.specs.Read.{Read, Reader, andThen, _>>=_, got, refused, give, refuse}
-use Rattle.grammar.specs.Tables.{Table, declared}
+use Rattle.grammar.specs.Read.{Reader, give, refuse}
+use Rattle.grammar.specs.Tables.{declared}
 use Rattle.grammar.specs.Due.{token, peek, wrong, opening, closing, onClose, onWord}
-use Rattle.grammar.specs.Terms.{Scope, Arg, Ref, Expr, Given, argument, reference, Counted, counts, counted, onName, expression}
+use Rattle.grammar.specs.Terms.{Scope, Arg, Ref, Expr, argument, reference, Counted, counts, counted, onName, expression}
 
 -- "comparisons `= < <= > >=`"
 pub data Comparison : Type 0 where

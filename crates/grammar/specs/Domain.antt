@@ -1,7 +1,7 @@
 -- A domain, and reading its text: "In order, a domain has requirements, types, constants, predicates, functions, actions of both kinds, each optional".
 use Prim.Native.Nat.{ℕ, zero, suc, _+_}
 use mathlib.Core.List.{List, [], _∷_}
-use mathlib.Core.Bool.{Bool, true, false, cond, _&&_}
+use mathlib.Core.Bool.{true, false, cond, _&&_}
 use Prim.Native.Char.{code}
 use Prim.Native.String.{String}
 use lib.ListN.{length, getD}
@@ -12,12 +12,11 @@ use Rattle.words.specs.Fixed.{isFlag}
 use Rattle.text.specs.Runs.{part}
 use Rattle.text.specs.Tokens.{tokenAt}
 use Rattle.text.specs.declared.tokens.Token.{Token}
-use Rattle.text.specs.declared.tokens.Token.the-variants as T
 use Rattle.text.specs.declared.tokens.Word.{Word}
 use Rattle.text.specs.declared.tokens.Word.the-variants as W
-use Rattle.grammar.specs.Read.{Read, Reader, andThen, _>>=_, got, refused, give, refuse}
-use Rattle.grammar.specs.Tables.{Entry, entry, Table}
-use Rattle.grammar.specs.Due.{token, peek, wrong, onOpen, opening, closing, onClose, onWord, fixed, Name, anyName}
+use Rattle.grammar.specs.Read.{Read, Reader, got, give, refuse}
+use Rattle.grammar.specs.Tables.{entry, Table}
+use Rattle.grammar.specs.Due.{token, wrong, onRefusal, onEnd, onOpen, opening, closing, onClose, onWord, fixed, Name, anyName}
 use Rattle.grammar.specs.Lists.{namesTo, typesTo, declarations}
 use Rattle.grammar.specs.Terms.{Scope}
 use Rattle.grammar.specs.Actions.{Action, action}
@@ -58,22 +57,13 @@ section s w none body = do
   onOpened o (λ p. body) (give none)
 
 -- the bracket that closes the text's first one, and behind it the end. A bracket opens a section, whose word is judged: none may follow
-abbrev pub behindLast : Token → Reader ℕ
-behindLast (T.End p) = give p
-behindLast (T.Word k p e) = wrong 16 (T.Word k p e)
-behindLast (T.Number z p e) = wrong 16 (T.Number z p e)
-behindLast (T.Open p n) = wrong 16 (T.Open p n)
-behindLast (T.Close p n) = wrong 16 (T.Close p n)
-behindLast (T.Mark m p n) = wrong 16 (T.Mark m p n)
-behindLast (T.Refusal k p) = wrong 16 (T.Refusal k p)
-
 unfoldable pub ending : List ℕ → Reader ℕ
 ending s = do
   t ← token s
   onClose t
       (λ p. do
         u ← token s
-        behindLast u)
+        onEnd u (λ q. give q) (wrong 16 u))
       (onOpen t
       (λ p. do
         u ← token s
@@ -100,13 +90,9 @@ flagWord s W.Variable p e = refuse 3 p
 flagWord s W.Operator p e = refuse 3 p
 
 abbrev pub flagOf : List ℕ → Token → Reader ℕ
-flagOf s (T.Word k p e) = flagWord s k p e
-flagOf s (T.Refusal k p) = cond (eqb k 5 && eqb (getD s p 0) (code ":")) (refuse 11 p) (refuse k p)
-flagOf s (T.Number z p e) = wrong 14 (T.Number z p e)
-flagOf s (T.Open p n) = wrong 14 (T.Open p n)
-flagOf s (T.Close p n) = wrong 14 (T.Close p n)
-flagOf s (T.Mark m p n) = wrong 14 (T.Mark m p n)
-flagOf s (T.End p) = wrong 14 (T.End p)
+flagOf s t =
+    onWord t (flagWord s)
+    (onRefusal t (λ k p. cond (eqb k 5 && eqb (getD s p 0) (code ":")) (refuse 11 p) (refuse k p)) (wrong 14 t))
 
 -- flags to the closing bracket. The first number bounds the steps
 unfoldable pub flagsTo : ℕ → List ℕ → Reader ℕ

@@ -1,19 +1,16 @@
 -- Effects as trees, and reading them: "effects `assign`, `increase`, `decrease`, atoms and their negations"; "Effects nest under `and`."
 use Prim.Native.Nat.{ℕ, zero, suc, _+_, _-_}
 use mathlib.Core.List.{List, [], _∷_, _++_}
-use mathlib.Core.Bool.{Bool, true, false, cond}
+use mathlib.Core.Bool.{Bool, true, false}
 use lib.ListN.{length}
 use Rattle.words.specs.Fixed.{headOf}
 use Rattle.words.specs.declared.fixed.Head.{Head}
 use Rattle.words.specs.declared.fixed.Head.the-variants as H
 use Rattle.text.specs.Runs.{part}
-use Rattle.text.specs.Tokens.{tokenAt}
-use Rattle.text.specs.declared.tokens.Token.{Token}
-use Rattle.text.specs.declared.tokens.Token.the-variants as T
 use Rattle.text.specs.declared.tokens.Word.{Word}
 use Rattle.text.specs.declared.tokens.Word.the-variants as W
-use Rattle.grammar.specs.Read.{Read, Reader, andThen, _>>=_, got, refused, give, refuse}
-use Rattle.grammar.specs.Tables.{Table, declared}
+use Rattle.grammar.specs.Read.{Reader, give, refuse}
+use Rattle.grammar.specs.Tables.{declared}
 use Rattle.grammar.specs.Due.{token, peek, wrong, opening, closing, onClose, onWord, Name, anyName}
 use Rattle.grammar.specs.Terms.{Scope, Ref, Expr, reference, Counted, counts, counted, onName, expression}
 

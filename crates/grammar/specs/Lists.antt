@@ -1,23 +1,21 @@
 -- Typed lists: names, each group of them before its type; and declarations with typed arguments.
 use Prim.Native.Nat.{ℕ, zero, suc, _+_}
 use mathlib.Core.List.{List, [], _∷_, _++_, map}
-use mathlib.Core.Bool.{Bool, true, false, cond, _&&_, _||_}
+use mathlib.Core.Bool.{Bool, true, false, cond, _||_}
 use lib.ListN.{length}
 use lib.Dec.{ltb}
 use Rattle.words.specs.Bytes.{bytes}
 use Rattle.words.specs.Spelling.{sameWord}
 use Rattle.words.specs.Fixed.{isReserved}
 use Rattle.text.specs.Runs.{part}
-use Rattle.text.specs.Tokens.{tokenAt, spotAt}
-use Rattle.text.specs.declared.tokens.Token.{Token}
-use Rattle.text.specs.declared.tokens.Token.the-variants as T
+use Rattle.text.specs.Tokens.{spotAt}
 use Rattle.text.specs.declared.tokens.Word.{Word}
 use Rattle.text.specs.declared.tokens.Word.the-variants as W
 use Rattle.text.specs.declared.tokens.Spot.{Spot}
 use Rattle.text.specs.declared.tokens.Spot.the-variants as P
-use Rattle.grammar.specs.Read.{Read, Reader, andThen, _>>=_, got, refused, give, refuse}
+use Rattle.grammar.specs.Read.{Reader, give, refuse}
 use Rattle.grammar.specs.Tables.{Entry, entry, Table, typeOf, lookup, onFound, fresh, retype}
-use Rattle.grammar.specs.Due.{token, peek, wrong, opening, closing, onClose, onWord, Name, newName}
+use Rattle.grammar.specs.Due.{token, peek, wrong, onOpen, opening, closing, onClose, onWord, Name, newName}
 
 -- ---- "A parent type is `object` or stands earlier in the list than its children."
 
@@ -36,20 +34,14 @@ typeOfWord s ts b W.Variable p e = refuse 3 p
 typeOfWord s ts b W.Keyword p e = refuse 3 p
 typeOfWord s ts b W.Operator p e = refuse 3 p
 
-abbrev pub asType : List ℕ → Table → ℕ → Token → Reader ℕ
-asType s ts b (T.Word k p e) = typeOfWord s ts b k p e
-asType s ts b (T.Open p n) = eitherOf p (spotAt s n (bytes "either"))
-asType s ts b (T.Number z p e) = wrong 1 (T.Number z p e)
-asType s ts b (T.Close p n) = wrong 1 (T.Close p n)
-asType s ts b (T.Mark m p n) = wrong 1 (T.Mark m p n)
-asType s ts b (T.Refusal k p) = wrong 1 (T.Refusal k p)
-asType s ts b (T.End p) = wrong 1 (T.End p)
+abbrev pub typeOfOther : List ℕ → ℕ → Reader ℕ
+typeOfOther s p = eitherOf p (spotAt s (p + 1) (bytes "either"))
 
 -- a type is due
 unfoldable pub typeDue : List ℕ → Table → ℕ → Reader ℕ
 typeDue s ts b = do
   t ← token s
-  asType s ts b t
+  onWord t (typeOfWord s ts b) (onOpen t (typeOfOther s) (wrong 1 t))
 
 -- behind a dash: the type of the names from number g on. A type's parent is a type before the group (`own`); any other name's type is one of ts
 unfoldable pub group : List ℕ → Bool → Table → Table → ℕ → Reader Table

@@ -8,16 +8,13 @@ use lib.ListN.{length, getD}
 use lib.Dec.{eqb, leb}
 use Rattle.words.specs.Bytes.{bytes}
 use Rattle.words.specs.Spelling.{sameWord}
-use Rattle.words.specs.Fixed.{headOf}
 use Rattle.text.specs.Runs.{part}
-use Rattle.text.specs.Tokens.{tokenAt}
 use Rattle.text.specs.declared.tokens.Token.{Token}
-use Rattle.text.specs.declared.tokens.Token.the-variants as T
 use Rattle.text.specs.declared.tokens.Word.{Word}
 use Rattle.text.specs.declared.tokens.Word.the-variants as W
-use Rattle.grammar.specs.Read.{Read, Reader, andThen, _>>=_, got, refused, give, refuse}
-use Rattle.grammar.specs.Tables.{Entry, entry, Table, infoOf, declared}
-use Rattle.grammar.specs.Due.{token, peek, wrong, onOpen, opening, closing, onClose, onWord, fixed, Name, anyName}
+use Rattle.grammar.specs.Read.{Read, Reader, give, refuse}
+use Rattle.grammar.specs.Tables.{Entry, Table, infoOf, declared}
+use Rattle.grammar.specs.Due.{token, peek, wrong, onNumber, opening, closing, onClose, onWord, Name, anyName}
 use Rattle.grammar.specs.Lists.{namesTo}
 use Rattle.grammar.specs.Terms.{Scope, Arg, object, variable, Ref, reference}
 use Rattle.grammar.specs.Conditions.{Cond, condition}
@@ -74,13 +71,7 @@ abbrev pub once : ℕ → ℕ → List Valued → Reader ℕ
 once p i vs = cond (isGiven i vs) (refuse 7 p) (give i)
 
 abbrev pub numberDue : Token → Reader ℤ
-numberDue (T.Number z p e) = give z
-numberDue (T.Word k p e) = wrong 13 (T.Word k p e)
-numberDue (T.Open p n) = wrong 13 (T.Open p n)
-numberDue (T.Close p n) = wrong 13 (T.Close p n)
-numberDue (T.Mark m p n) = wrong 13 (T.Mark m p n)
-numberDue (T.Refusal k p) = wrong 13 (T.Refusal k p)
-numberDue (T.End p) = wrong 13 (T.End p)
+numberDue t = onNumber t (λ z p. give z) (wrong 13 t)
 
 abbrev pub withFact : Init → ℕ → Init
 withFact x i = record { facts = x .facts ++ i ∷ []; numbers = x .numbers }

@@ -1,22 +1,19 @@
 -- Arguments, references to facts and numbers, and expressions: as trees, and reading them.
-use Prim.Native.Nat.{ℕ, zero, suc, _+_, _-_, _*_}
+use Prim.Native.Nat.{ℕ, zero, suc, _+_, _-_}
 use mathlib.Core.List.{List, [], _∷_}
-use mathlib.Core.Bool.{Bool, true, false, cond}
+use mathlib.Core.Bool.{Bool, cond}
 use lib.IntN.{ℤ}
-use lib.ListN.{length, getD}
-use lib.Dec.{eqb}
+use lib.ListN.{length}
 use Rattle.words.specs.Fixed.{headOf}
 use Rattle.words.specs.declared.fixed.Head.{Head}
 use Rattle.words.specs.declared.fixed.Head.the-variants as H
 use Rattle.text.specs.Runs.{part}
-use Rattle.text.specs.Tokens.{tokenAt}
 use Rattle.text.specs.declared.tokens.Token.{Token}
-use Rattle.text.specs.declared.tokens.Token.the-variants as T
 use Rattle.text.specs.declared.tokens.Word.{Word}
 use Rattle.text.specs.declared.tokens.Word.the-variants as W
-use Rattle.grammar.specs.Read.{Read, Reader, andThen, _>>=_, got, refused, give, refuse}
-use Rattle.grammar.specs.Tables.{Entry, entry, Table, entryAt, typeOf, wantedOf, declared, isBelow}
-use Rattle.grammar.specs.Due.{token, peek, wrong, onOpen, closing, onClose, onWord}
+use Rattle.grammar.specs.Read.{Reader, give, refuse}
+use Rattle.grammar.specs.Tables.{Table, entryAt, typeOf, wantedOf, declared, isBelow}
+use Rattle.grammar.specs.Due.{token, peek, wrong, onNumber, onOpen, closing, onClose, onWord}
 
 -- what has been declared where a condition or an effect stands
 pub record Scope : Type 0 where
@@ -128,16 +125,13 @@ abbrev pub counts : {A : Type 0} → A → ℕ → Counted A
 counts x n = record { tree = x; left = n }
 
 -- a number; anything else is no expression
-abbrev pub leaf : ℕ → ℕ → Token → Reader (Counted Expr)
-leaf d n (T.Number z p e) = do
+abbrev pub numberAt : ℕ → ℤ → ℕ → Reader (Counted Expr)
+numberAt n z p = do
   m ← counted p n
   give (counts (number z) m)
-leaf d n (T.Word k p e) = wrong d (T.Word k p e)
-leaf d n (T.Open p q) = wrong d (T.Open p q)
-leaf d n (T.Close p q) = wrong d (T.Close p q)
-leaf d n (T.Mark m p q) = wrong d (T.Mark m p q)
-leaf d n (T.Refusal k p) = wrong d (T.Refusal k p)
-leaf d n (T.End p) = wrong d (T.End p)
+
+abbrev pub leaf : ℕ → ℕ → Token → Reader (Counted Expr)
+leaf d n t = onNumber t (numberAt n) (wrong d t)
 
 -- "`+` of two": f reads an expression one level down
 abbrev pub plusOf : List ℕ → ℕ → (ℕ → Reader (Counted Expr)) → ℕ → Reader (Counted Expr)

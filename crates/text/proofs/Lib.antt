@@ -3,3 +3,4 @@ pub mod Begun
 pub mod Steps
 pub mod Values
 pub mod Ways
+pub mod Within
