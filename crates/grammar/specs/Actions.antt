@@ -12,7 +12,7 @@ use Rattle.text.specs.Tokens.{spotAt}
 use Rattle.text.specs.declared.tokens.Token.{Token}
 use Rattle.text.specs.declared.tokens.Spot.{Spot}
 use Rattle.text.specs.declared.tokens.Spot.the-variants as P
-use Rattle.grammar.specs.Read.{Reader, got, give, refuse}
+use Rattle.grammar.specs.Read.{_>>=_, Reader, got, give, refuse}
 use Rattle.grammar.specs.Tables.{Entry, Table, fresh}
 use Rattle.grammar.specs.Due.{token, peek, wrong, onRefusal, opening, closing, onClose, onWord, fixed, newName}
 use Rattle.grammar.specs.Lists.{variablesTo, signature}

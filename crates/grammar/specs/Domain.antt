@@ -14,7 +14,7 @@ use Rattle.text.specs.Tokens.{tokenAt}
 use Rattle.text.specs.declared.tokens.Token.{Token}
 use Rattle.text.specs.declared.tokens.Word.{Word}
 use Rattle.text.specs.declared.tokens.Word.the-variants as W
-use Rattle.grammar.specs.Read.{Read, Reader, got, give, refuse}
+use Rattle.grammar.specs.Read.{_>>=_, Read, Reader, got, give, refuse}
 use Rattle.grammar.specs.Tables.{entry, Table}
 use Rattle.grammar.specs.Due.{token, wrong, onRefusal, onEnd, onOpen, opening, closing, onClose, onWord, fixed, Name, anyName}
 use Rattle.grammar.specs.Lists.{namesTo, typesTo, declarations}

@@ -14,7 +14,7 @@ use Rattle.text.specs.declared.tokens.Token.{Token}
 use Rattle.text.specs.declared.tokens.Token.the-variants as T
 use Rattle.text.specs.declared.tokens.Word.{Word}
 use Rattle.text.specs.declared.tokens.Word.the-variants as W
-use Rattle.grammar.specs.Read.{Reader, got, give, refuse}
+use Rattle.grammar.specs.Read.{_>>=_, Reader, got, give, refuse}
 
 abbrev pub afterOf : Token → ℕ
 afterOf (T.Word k p e) = e

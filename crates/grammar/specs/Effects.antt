@@ -9,7 +9,7 @@ use Rattle.words.specs.declared.fixed.Head.the-variants as H
 use Rattle.text.specs.Runs.{part}
 use Rattle.text.specs.declared.tokens.Word.{Word}
 use Rattle.text.specs.declared.tokens.Word.the-variants as W
-use Rattle.grammar.specs.Read.{Reader, give, refuse}
+use Rattle.grammar.specs.Read.{_>>=_, Reader, give, refuse}
 use Rattle.grammar.specs.Tables.{declared}
 use Rattle.grammar.specs.Due.{token, peek, wrong, opening, closing, onClose, onWord, Name, anyName}
 use Rattle.grammar.specs.Terms.{Scope, Ref, Expr, reference, Counted, counts, counted, onName, expression}

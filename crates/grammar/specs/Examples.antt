@@ -3,7 +3,8 @@ use mathlib.Core.Path.{_≡_, refl}
 use mathlib.Core.List.{List, [], _∷_}
 use mathlib.Core.Bool.{true, false}
 use Prim.Native.Nat.{ℕ}
-use lib.IntN.{pos}
+use Prim.Native.String.{String}
+use lib.IntN.{pos, negsuc}
 use Rattle.words.specs.Bytes.{bytes, kindOf, lowerOf, inRun}
 use Rattle.words.specs.Spelling.{sameWord, nameByte, nameBytes, isName, placeFrom, wordsOf, wordIn}
 use Rattle.words.specs.Fixed.{headOf, isFlag, isListed, isReserved, isOperator}
@@ -11,16 +12,16 @@ use Rattle.text.specs.Runs.{gapStep, gap, gapEnd, run, runEnd}
 use Rattle.text.specs.Numbers.{leading, decimal, scaleOf, fractionOf, numberFrom, signed}
 use Rattle.text.specs.Classes.{beginsNumber, classOf}
 use Rattle.text.specs.Tokens.{sizedOf, numberToken, domainWord, isPast, bracketOf, tokenAt, spotAt}
-use Rattle.grammar.specs.Read.{got}
-use Rattle.grammar.specs.Tables.{Entry, entry, lookup, fresh, declared, isBelow, retype}
+use Rattle.grammar.specs.Read.{Read, got, refused}
+use Rattle.grammar.specs.Tables.{Entry, entry, Table, lookup, fresh, declared, isBelow, retype}
 use Rattle.grammar.specs.Due.{opening, closing, wordDue, anyName, newName}
 use Rattle.grammar.specs.Lists.{typeNamed, typeDue, group, item, declare, waiting, typed, namesTo, variablesTo, typesTo, declaration, declarations}
-use Rattle.grammar.specs.Terms.{object, variable, Ref, number, value, argument, fits, arguments, reference, counted, expr, expression}
-use Rattle.grammar.specs.Conditions.{all, atom, compare, atLeast, atomAt, comparison, sameObjects, equality, negation, listTo, conjunction, condition}
-use Rattle.grammar.specs.Effects.{becomes, changes, assign, raise, becomesAt, target, changeAt, deletion, effectsTo, effect}
-use Rattle.grammar.specs.Actions.{start, whole, end, moment, rule, timeOf, partBehind, partAt, partsTo, parts, durationRule, field, simpleBody, durativeBody, action}
+use Rattle.grammar.specs.Terms.{object, variable, Ref, Expr, number, value, minus, plus, argument, fits, arguments, reference, counted, operandsEnd, expr, expression}
+use Rattle.grammar.specs.Conditions.{Cond, all, atom, compare, none, cons, atLeast, atomAt, comparison, sameObjects, equality, negation, listTo, conjunction, condition}
+use Rattle.grammar.specs.Effects.{Effect, becomes, changes, assign, raise, becomesAt, target, changeAt, deletion, effectsTo, effect}
+use Rattle.grammar.specs.Actions.{Timed, start, whole, end, Action, moment, rule, timeOf, partBehind, partAt, partsTo, parts, durationRule, field, simpleBody, durativeBody, action}
 use Rattle.grammar.specs.Domain.{Domain, begins, ending, heading, flagsTo, actionsTo, domainText, readDomain}
-use Rattle.grammar.specs.Problem.{Valued, Problem, sumOf, firstOf, digits, indexOf, isGiven, initTo, sectionDue, initAndGoal, problemText, readProblem}
+use Rattle.grammar.specs.Problem.{Valued, Init, Problem, sumOf, firstOf, digits, indexOf, isGiven, initTo, sectionDue, initAndGoal, problemText, readProblem}
 
 benchText : List ℕ
 benchText = bytes "(define (domain bench) (:requirements :strips :typing :fluents :durative-actions) (:types pump) (:predicates (ready ?p - pump) (on ?p - pump)) (:functions (lock ?p - pump) (doses ?p - pump)) (:durative-action dose :parameters (?p - pump) :duration (= ?duration (lock ?p)) :condition (and (at start (ready ?p)) (over all (on ?p))) :effect (and (at start (not (ready ?p))) (at end (ready ?p)) (at end (increase (doses ?p) 1)))) (:action off :parameters (?p - pump) :precondition (on ?p) :effect (not (on ?p))) (:action note :parameters (?p - pump) :effect (increase (doses ?p) 1)) (:action zero :parameters (?p - pump) :effect (assign (doses ?p) 0)))"
@@ -56,7 +57,7 @@ bench = record {
 }
 
 bench-read : readDomain benchText ≡ got bench 648
-unfolding bytes kindOf lowerOf inRun sameWord nameByte nameBytes isName placeFrom wordsOf wordIn headOf isFlag isListed isReserved isOperator gapStep gap gapEnd run runEnd leading decimal scaleOf fractionOf numberFrom signed beginsNumber classOf sizedOf numberToken domainWord isPast bracketOf tokenAt spotAt lookup fresh declared isBelow retype opening closing wordDue anyName newName typeNamed typeDue group item declare waiting typed namesTo variablesTo typesTo declaration declarations argument fits arguments reference counted expr expression atomAt comparison sameObjects equality negation listTo conjunction condition becomesAt target changeAt deletion effectsTo effect timeOf partBehind partAt partsTo parts durationRule field simpleBody durativeBody action begins ending heading flagsTo actionsTo domainText readDomain benchText bench pump ofPump
+unfolding bytes kindOf lowerOf inRun sameWord nameByte nameBytes isName placeFrom wordsOf wordIn headOf isFlag isListed isReserved isOperator gapStep gap gapEnd run runEnd leading decimal scaleOf fractionOf numberFrom signed beginsNumber classOf sizedOf numberToken domainWord isPast bracketOf tokenAt spotAt lookup fresh declared isBelow retype opening closing wordDue anyName newName typeNamed typeDue group item declare waiting typed namesTo variablesTo typesTo declaration declarations argument fits arguments reference counted operandsEnd expr expression atomAt comparison sameObjects equality negation listTo conjunction condition becomesAt target changeAt deletion effectsTo effect timeOf partBehind partAt partsTo parts durationRule field simpleBody durativeBody action begins ending heading flagsTo actionsTo domainText readDomain benchText bench pump ofPump
 bench-read = refl
 
 valued : ℕ → ℕ → Valued
@@ -70,5 +71,5 @@ two-doses = record {
 }
 
 problem-read : readProblem problemBytes bench ≡ got two-doses 195
-unfolding bytes kindOf lowerOf inRun sameWord nameByte nameBytes isName placeFrom wordsOf wordIn headOf isFlag isListed isReserved isOperator gapStep gap gapEnd run runEnd leading decimal scaleOf fractionOf numberFrom signed beginsNumber classOf sizedOf numberToken domainWord isPast bracketOf tokenAt spotAt lookup fresh declared isBelow retype opening closing wordDue anyName newName typeNamed typeDue group item declare waiting typed namesTo variablesTo typesTo declaration declarations argument fits arguments reference counted expr expression atomAt comparison sameObjects equality negation listTo conjunction condition becomesAt target changeAt deletion effectsTo effect timeOf partBehind partAt partsTo parts durationRule field simpleBody durativeBody action begins ending heading flagsTo actionsTo domainText readDomain sumOf firstOf digits indexOf isGiven initTo sectionDue initAndGoal problemText readProblem problemBytes bench pump ofPump two-doses valued
+unfolding bytes kindOf lowerOf inRun sameWord nameByte nameBytes isName placeFrom wordsOf wordIn headOf isFlag isListed isReserved isOperator gapStep gap gapEnd run runEnd leading decimal scaleOf fractionOf numberFrom signed beginsNumber classOf sizedOf numberToken domainWord isPast bracketOf tokenAt spotAt lookup fresh declared isBelow retype opening closing wordDue anyName newName typeNamed typeDue group item declare waiting typed namesTo variablesTo typesTo declaration declarations argument fits arguments reference counted operandsEnd expr expression atomAt comparison sameObjects equality negation listTo conjunction condition becomesAt target changeAt deletion effectsTo effect timeOf partBehind partAt partsTo parts durationRule field simpleBody durativeBody action begins ending heading flagsTo actionsTo domainText readDomain sumOf firstOf digits indexOf isGiven initTo sectionDue initAndGoal problemText readProblem problemBytes bench pump ofPump two-doses valued
 problem-read = refl

@@ -13,7 +13,7 @@ use Rattle.text.specs.declared.tokens.Word.{Word}
 use Rattle.text.specs.declared.tokens.Word.the-variants as W
 use Rattle.text.specs.declared.tokens.Spot.{Spot}
 use Rattle.text.specs.declared.tokens.Spot.the-variants as P
-use Rattle.grammar.specs.Read.{Reader, give, refuse}
+use Rattle.grammar.specs.Read.{_>>=_, Reader, give, refuse}
 use Rattle.grammar.specs.Tables.{Entry, entry, Table, typeOf, lookup, onFound, fresh, retype}
 use Rattle.grammar.specs.Due.{token, peek, wrong, onOpen, opening, closing, onClose, onWord, Name, newName}
 

@@ -12,7 +12,7 @@ use Rattle.text.specs.Runs.{part}
 use Rattle.text.specs.declared.tokens.Token.{Token}
 use Rattle.text.specs.declared.tokens.Word.{Word}
 use Rattle.text.specs.declared.tokens.Word.the-variants as W
-use Rattle.grammar.specs.Read.{Read, Reader, give, refuse}
+use Rattle.grammar.specs.Read.{_>>=_, Read, Reader, give, refuse}
 use Rattle.grammar.specs.Tables.{Entry, Table, infoOf, declared}
 use Rattle.grammar.specs.Due.{token, peek, wrong, onNumber, opening, closing, onClose, onWord, Name, anyName}
 use Rattle.grammar.specs.Lists.{namesTo}

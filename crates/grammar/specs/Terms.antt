@@ -3,6 +3,7 @@ use Prim.Native.Nat.{ℕ, zero, suc, _+_, _-_}
 use mathlib.Core.List.{List, [], _∷_}
 use mathlib.Core.Bool.{Bool, cond}
 use lib.IntN.{ℤ}
+use lib.Dec.{eqb}
 use lib.ListN.{length}
 use Rattle.words.specs.Fixed.{headOf}
 use Rattle.words.specs.declared.fixed.Head.{Head}
@@ -11,7 +12,7 @@ use Rattle.text.specs.Runs.{part}
 use Rattle.text.specs.declared.tokens.Token.{Token}
 use Rattle.text.specs.declared.tokens.Word.{Word}
 use Rattle.text.specs.declared.tokens.Word.the-variants as W
-use Rattle.grammar.specs.Read.{Reader, give, refuse}
+use Rattle.grammar.specs.Read.{_>>=_, Reader, give, refuse}
 use Rattle.grammar.specs.Tables.{Table, entryAt, typeOf, wantedOf, declared, isBelow}
 use Rattle.grammar.specs.Due.{token, peek, wrong, onNumber, onOpen, closing, onClose, onWord}
 
@@ -133,12 +134,18 @@ numberAt n z p = do
 abbrev pub leaf : ℕ → ℕ → Token → Reader (Counted Expr)
 leaf d n t = onNumber t (numberAt n) (wrong d t)
 
+-- behind the last operand, n operators and operands being left: a number there is one too many, or not allowed
+unfoldable pub operandsEnd : List ℕ → ℕ → ℕ → Reader ℕ
+operandsEnd s d n = do
+  t ← token s
+  onClose t (λ p. give p) (onNumber t (λ z p. cond (eqb n 0) (refuse 12 p) (refuse 3 p)) (wrong d t))
+
 -- "`+` of two": f reads an expression one level down
 abbrev pub plusOf : List ℕ → ℕ → (ℕ → Reader (Counted Expr)) → ℕ → Reader (Counted Expr)
 plusOf s d f n = do
   a ← f n
   b ← f (a .left)
-  _ ← closing s d
+  _ ← operandsEnd s d (b .left)
   give (counts (plus (a .tree) (b .tree)) (b .left))
 
 -- "`-` of one or two expressions"
@@ -152,7 +159,7 @@ minusOf s d f n = do
         give (counts (minus (a .tree)) (a .left)))
       (do
         b ← f (a .left)
-        _ ← closing s d
+        _ ← operandsEnd s d (b .left)
         give (counts (less (a .tree) (b .tree)) (b .left)))
 
 -- what to do with the heads `and` and `not`, and with any other
