@@ -109,3 +109,18 @@ pub fn new_name(text: &[u8], from: usize, d: usize) -> Answer
     }
     Answer::Done(e, p)
 }
+
+// Where a token begins.
+pub fn place_of(t: Token) -> usize
+    ensures { λ r. ⌜ r ≡ placeOf t ⌝ }
+{
+    match t {
+        Token::Word(_, p, _) => p,
+        Token::Number(_, p, _) => p,
+        Token::Open(p, _) => p,
+        Token::Close(p, _) => p,
+        Token::Mark(_, p, _) => p,
+        Token::Refusal(_, p) => p,
+        Token::End(p) => p,
+    }
+}
