@@ -16,7 +16,7 @@ use Rattle.text.specs.declared.tokens.Word.{Word}
 use Rattle.text.specs.declared.tokens.Word.the-variants as W
 use Rattle.grammar.specs.Read.{_>>=_, Read, Reader, got, give, refuse}
 use Rattle.grammar.specs.Tables.{entry, Table}
-use Rattle.grammar.specs.Due.{token, wrong, onRefusal, onEnd, onOpen, opening, closing, onClose, onWord, fixed, Name, anyName}
+use Rattle.grammar.specs.Due.{token, wrong, wordDue, onRefusal, onEnd, onOpen, opening, closing, onClose, onWord, fixed, Name, anyName}
 use Rattle.grammar.specs.Lists.{namesTo, typesTo, declarations}
 use Rattle.grammar.specs.Terms.{Scope}
 use Rattle.grammar.specs.Actions.{Action, action}
@@ -41,14 +41,17 @@ onOpened (opened p) f a = f p
 onOpened other f a = a
 
 -- where the next section has the keyword w, its word is read; else nothing is read
-abbrev pub sectionWord : List ℕ → ℕ → String → Token → Read Opened
-sectionWord s at w t = onWord t (λ k p e. cond (sameWord (part s p e) (bytes w)) (got (opened p) e) (got other at)) (got other at)
+abbrev pub sectionWord : List ℕ → ℕ → List ℕ → Token → Read Opened
+sectionWord s at w t = onWord t (λ k p e. cond (sameWord (part s p e) w) (got (opened p) e) (got other at)) (got other at)
 
-abbrev pub behindOpen : List ℕ → ℕ → String → Token → Read Opened
+abbrev pub behindOpen : List ℕ → ℕ → List ℕ → Token → Read Opened
 behindOpen s at w t = onOpen t (λ p. sectionWord s at w (tokenAt s (p + 1))) (got other at)
 
-unfoldable pub begins : List ℕ → String → Reader Opened
-begins s w at = behindOpen s at w (tokenAt s at)
+unfoldable pub beginsWith : List ℕ → List ℕ → Reader Opened
+beginsWith s w at = behindOpen s at w (tokenAt s at)
+
+abbrev pub begins : List ℕ → String → Reader Opened
+begins s w = beginsWith s (bytes w)
 
 -- a section that may be missing
 abbrev pub section : {A : Type 0} → List ℕ → String → A → Reader A → Reader A
@@ -71,15 +74,18 @@ ending s = do
       (wrong 15 t))
 
 -- `(define (domain NAME)` or `(define (problem NAME)`
-unfoldable pub heading : List ℕ → String → Reader Name
-heading s w = do
+unfoldable pub headingOf : List ℕ → List ℕ → Reader Name
+headingOf s w = do
   _ ← opening s 16
   _ ← fixed s 15 "define"
   _ ← opening s 15
-  _ ← fixed s 14 w
+  _ ← wordDue s 14 w
   n ← anyName s 14
   _ ← closing s 14
   give n
+
+abbrev pub heading : List ℕ → String → Reader Name
+heading s w = headingOf s (bytes w)
 
 -- ---- requirements: "a requirement flag other than .." is 11, however long
 

@@ -9,7 +9,7 @@ use Rattle.words.specs.Bytes.{bytes, kindOf, lowerOf, inRun}
 use Rattle.words.specs.Spelling.{sameWord, nameByte, nameBytes, isName, placeFrom, wordsOf, wordIn}
 use Rattle.words.specs.Fixed.{headOf, isFlag, isListed, isReserved, isOperator}
 use Rattle.text.specs.Runs.{gapStep, gap, gapEnd, run, runEnd}
-use Rattle.text.specs.Numbers.{leading, decimal, scaleOf, fractionOf, numberFrom, signed}
+use Rattle.text.specs.Numbers.{leading, decimal, scaleOf, fractionOf, numberFrom, numberOf}
 use Rattle.text.specs.Classes.{beginsNumber, classOf}
 use Rattle.text.specs.Tokens.{sizedOf, numberToken, domainWord, isPast, bracketOf, tokenAt, spotAt}
 use Rattle.grammar.specs.Read.{Read, got, refused}
@@ -20,7 +20,7 @@ use Rattle.grammar.specs.Terms.{object, variable, Ref, Expr, number, val
 use Rattle.grammar.specs.Conditions.{Cond, all, atom, compare, none, cons, atLeast, atomAt, comparison, sameObjects, equality, negation, listTo, conjunction, condition}
 use Rattle.grammar.specs.Effects.{Effect, becomes, changes, assign, raise, becomesAt, target, changeAt, deletion, effectsTo, effect}
 use Rattle.grammar.specs.Actions.{Timed, start, whole, end, Action, moment, rule, timeOf, partBehind, partAt, partsTo, parts, durationRule, field, simpleBody, durativeBody, action}
-use Rattle.grammar.specs.Domain.{Domain, begins, ending, heading, flagsTo, actionsTo, domainText, readDomain}
+use Rattle.grammar.specs.Domain.{Domain, beginsWith, ending, headingOf, flagsTo, actionsTo, domainText, readDomain}
 use Rattle.grammar.specs.Problem.{Valued, Init, Problem, sumOf, firstOf, digits, indexOf, isGiven, initTo, sectionDue, initAndGoal, problemText, readProblem}
 
 benchText : List ℕ
@@ -57,7 +57,7 @@ bench = record {
 }
 
 bench-read : readDomain benchText ≡ got bench 648
-unfolding bytes kindOf lowerOf inRun sameWord nameByte nameBytes isName placeFrom wordsOf wordIn headOf isFlag isListed isReserved isOperator gapStep gap gapEnd run runEnd leading decimal scaleOf fractionOf numberFrom signed beginsNumber classOf sizedOf numberToken domainWord isPast bracketOf tokenAt spotAt lookup fresh declared isBelow retype opening closing wordDue anyName newName typeNamed typeDue group item declare waiting typed namesTo variablesTo typesTo declaration declarations argument fits arguments reference counted operandsEnd expr expression atomAt comparison sameObjects equality negation listTo conjunction condition becomesAt target changeAt deletion effectsTo effect timeOf partBehind partAt partsTo parts durationRule field simpleBody durativeBody action begins ending heading flagsTo actionsTo domainText readDomain benchText bench pump ofPump
+unfolding bytes kindOf lowerOf inRun sameWord nameByte nameBytes isName placeFrom wordsOf wordIn headOf isFlag isListed isReserved isOperator gapStep gap gapEnd run runEnd leading decimal scaleOf fractionOf numberFrom numberOf beginsNumber classOf sizedOf numberToken domainWord isPast bracketOf tokenAt spotAt lookup fresh declared isBelow retype opening closing wordDue anyName newName typeNamed typeDue group item declare waiting typed namesTo variablesTo typesTo declaration declarations argument fits arguments reference counted operandsEnd expr expression atomAt comparison sameObjects equality negation listTo conjunction condition becomesAt target changeAt deletion effectsTo effect timeOf partBehind partAt partsTo parts durationRule field simpleBody durativeBody action beginsWith ending headingOf flagsTo actionsTo domainText readDomain benchText bench pump ofPump
 bench-read = refl
 
 valued : ℕ → ℕ → Valued
@@ -71,5 +71,5 @@ two-doses = record {
 }
 
 problem-read : readProblem problemBytes bench ≡ got two-doses 195
-unfolding bytes kindOf lowerOf inRun sameWord nameByte nameBytes isName placeFrom wordsOf wordIn headOf isFlag isListed isReserved isOperator gapStep gap gapEnd run runEnd leading decimal scaleOf fractionOf numberFrom signed beginsNumber classOf sizedOf numberToken domainWord isPast bracketOf tokenAt spotAt lookup fresh declared isBelow retype opening closing wordDue anyName newName typeNamed typeDue group item declare waiting typed namesTo variablesTo typesTo declaration declarations argument fits arguments reference counted operandsEnd expr expression atomAt comparison sameObjects equality negation listTo conjunction condition becomesAt target changeAt deletion effectsTo effect timeOf partBehind partAt partsTo parts durationRule field simpleBody durativeBody action begins ending heading flagsTo actionsTo domainText readDomain sumOf firstOf digits indexOf isGiven initTo sectionDue initAndGoal problemText readProblem problemBytes bench pump ofPump two-doses valued
+unfolding bytes kindOf lowerOf inRun sameWord nameByte nameBytes isName placeFrom wordsOf wordIn headOf isFlag isListed isReserved isOperator gapStep gap gapEnd run runEnd leading decimal scaleOf fractionOf numberFrom numberOf beginsNumber classOf sizedOf numberToken domainWord isPast bracketOf tokenAt spotAt lookup fresh declared isBelow retype opening closing wordDue anyName newName typeNamed typeDue group item declare waiting typed namesTo variablesTo typesTo declaration declarations argument fits arguments reference counted operandsEnd expr expression atomAt comparison sameObjects equality negation listTo conjunction condition becomesAt target changeAt deletion effectsTo effect timeOf partBehind partAt partsTo parts durationRule field simpleBody durativeBody action beginsWith ending headingOf flagsTo actionsTo domainText readDomain sumOf firstOf digits indexOf isGiven initTo sectionDue initAndGoal problemText readProblem problemBytes bench pump ofPump two-doses valued
 problem-read = refl

@@ -4,7 +4,7 @@ use mathlib.Core.List.{List}
 use mathlib.Core.Bool.{Bool, true, false, cond}
 use Prim.Native.Nat.{ℕ, _+_, _-_, _≤_, _<_}
 use native.Mathlib.Omega.{arith}
-use lib.ListN.{length, getD, drop, length-take, length-drop}
+use lib.ListN.{length, getD, length-take, length-drop}
 use lib.Dec.{eqb, leb, ltb}
 use borrow.Author.Tests.{ltb-false, leb-false}
 use Rattle.words.specs.Bytes.{kindOf, onStart}
@@ -12,11 +12,11 @@ use Rattle.words.specs.Fixed.{isListed}
 use Rattle.words.specs.declared.bytes.Kind.{Kind}
 use Rattle.words.specs.declared.bytes.Kind.the-variants as K
 use Rattle.text.specs.Runs.{part, gapEnd, runEnd}
-use Rattle.text.specs.Numbers.{numberFrom}
-use Rattle.text.specs.Classes.{begunBy, classOf}
-use Rattle.text.specs.Tokens.{sizedOf, numeralToken, numberToken, byClass, domainWord, isPast, bracketOf, domainRun, endOf, tokenFrom, tokenAt}
-use Rattle.text.specs.declared.numbers.Numeral.{Numeral}
-use Rattle.text.specs.declared.numbers.Numeral.the-variants.{Thousandths, Malformed}
+use Rattle.text.specs.Numbers.{numberOf}
+use Rattle.text.specs.Classes.{classOf}
+use Rattle.text.specs.Tokens.{sizedOf, asToken, numberToken, byClass, domainWord, isPast, bracketOf, domainRun, endOf, tokenFrom, tokenAt}
+use Rattle.text.specs.declared.numbers.Number.{Number}
+use Rattle.text.specs.declared.numbers.Number.the-variants.{Thousandths, Malformed}
 use Rattle.text.specs.declared.classes.Class.{Class}
 use Rattle.text.specs.declared.classes.Class.the-variants as C
 use Rattle.text.specs.declared.tokens.Word.{Word}
@@ -51,18 +51,14 @@ module _ (s : List ℕ) (at p e : ℕ) (lo : at ≤ p) (mid : p < e) (hi : e ≤
       go true h = tt
       go false h = (lo, mid, hi, rw q at (f long (ltb-false most long h)))
 
-  numeral-in : (minus : Bool) (n : Numeral) → Within s at (numeralToken minus n p e)
+  signed-in : (n : Number) → Within s at (asToken n p e)
   unfolding Within
-  numeral-in minus (Thousandths m) = (lo, mid, hi)
-  numeral-in minus Malformed = tt
+  signed-in (Thousandths z) = (lo, mid, hi)
+  signed-in Malformed = tt
 
   number-in : (w : List ℕ) → Within s at (numberToken w p e)
   unfolding numberToken
-  number-in w = go (begunBy 45 w)
-    where
-      go : (t : Bool) → Within s at (cond t (numeralToken true (numberFrom (drop 1 w)) p e) (numeralToken false (numberFrom w) p e))
-      go true = numeral-in true (numberFrom (drop 1 w))
-      go false = numeral-in false (numberFrom w)
+  number-in w = signed-in (numberOf w)
 
   class-in : (k : Class) (w : List ℕ) → length w ≡ e - p → Within s at (byClass k w p e)
   unfolding Within

@@ -10,7 +10,7 @@ use Rattle.words.specs.Bytes.{bytes, kindOf, lowerOf, inRun}
 use Rattle.words.specs.Spelling.{sameWord, nameByte, nameBytes, isName, placeFrom, wordsOf, wordIn}
 use Rattle.words.specs.Fixed.{isListed, isOperator}
 use Rattle.text.specs.Runs.{gapStep, gap, gapEnd, run, runEnd}
-use Rattle.text.specs.Numbers.{leading, decimal, scaleOf, fractionOf, numberFrom, signed}
+use Rattle.text.specs.Numbers.{leading, decimal, scaleOf, fractionOf, numberFrom, numberOf}
 use Rattle.text.specs.Classes.{beginsNumber, classOf}
 use Rattle.text.specs.Tokens.{sizedOf, numberToken, domainWord, isPast, bracketOf, tokenAt, spotAt, judgedOf, strangeOf, planNumber, planWord, squareOf, planTokenAt}
 use Rattle.text.specs.declared.tokens.Token.{Token}
@@ -73,7 +73,7 @@ domainNumbersRows =
     ∷ []
 
 domainNumbers : Each tokenAt domainNumbersRows
-unfolding bytes tokenAt gapEnd gap gapStep runEnd run inRun kindOf isPast domainWord isListed isOperator wordIn wordsOf placeFrom sameWord lowerOf classOf beginsNumber isName nameBytes nameByte sizedOf bracketOf numberToken numberFrom leading decimal fractionOf scaleOf signed domainNumbersRows
+unfolding bytes tokenAt gapEnd gap gapStep runEnd run inRun kindOf isPast domainWord isListed isOperator wordIn wordsOf placeFrom sameWord lowerOf classOf beginsNumber isName nameBytes nameByte sizedOf bracketOf numberToken numberFrom leading decimal fractionOf scaleOf numberOf domainNumbersRows
 domainNumbers = refl
 
 -- domain and problem: brackets and refusals 2, 3, 5, 6 and 11
@@ -116,7 +116,7 @@ domainRefusedRows =
     ∷ []
 
 domainRefused : Each tokenAt domainRefusedRows
-unfolding bytes tokenAt gapEnd gap gapStep runEnd run inRun kindOf isPast domainWord isListed isOperator wordIn wordsOf placeFrom sameWord lowerOf classOf beginsNumber isName nameBytes nameByte sizedOf bracketOf numberToken numberFrom leading decimal fractionOf scaleOf signed domainRefusedRows
+unfolding bytes tokenAt gapEnd gap gapStep runEnd run inRun kindOf isPast domainWord isListed isOperator wordIn wordsOf placeFrom sameWord lowerOf classOf beginsNumber isName nameBytes nameByte sizedOf bracketOf numberToken numberFrom leading decimal fractionOf scaleOf numberOf domainRefusedRows
 domainRefused = refl
 
 -- plan lines: names, numbers, colons, brackets of both kinds, and refusals
@@ -146,7 +146,7 @@ planTokensRows =
     ∷ []
 
 planTokens : Each planTokenAt planTokensRows
-unfolding bytes planTokenAt gapEnd gap gapStep runEnd run inRun kindOf isOperator wordIn wordsOf placeFrom sameWord lowerOf classOf beginsNumber isName nameBytes nameByte sizedOf numberToken numberFrom leading decimal fractionOf scaleOf signed planWord planNumber strangeOf squareOf judgedOf planTokensRows
+unfolding bytes planTokenAt gapEnd gap gapStep runEnd run inRun kindOf isOperator wordIn wordsOf placeFrom sameWord lowerOf classOf beginsNumber isName nameBytes nameByte sizedOf numberToken numberFrom leading decimal fractionOf scaleOf numberOf planWord planNumber strangeOf squareOf judgedOf planTokensRows
 planTokens = refl
 
 -- plan lines of 256 and 257 bytes: only what ends before column 257 is judged
@@ -162,7 +162,7 @@ planEdgeRows =
     ∷ []
 
 planEdge : Each planTokenAt planEdgeRows
-unfolding bytes planTokenAt gapEnd gap gapStep runEnd run inRun kindOf isOperator wordIn wordsOf placeFrom sameWord lowerOf classOf beginsNumber isName nameBytes nameByte sizedOf numberToken numberFrom leading decimal fractionOf scaleOf signed planWord planNumber strangeOf squareOf judgedOf planEdgeRows
+unfolding bytes planTokenAt gapEnd gap gapStep runEnd run inRun kindOf isOperator wordIn wordsOf placeFrom sameWord lowerOf classOf beginsNumber isName nameBytes nameByte sizedOf numberToken numberFrom leading decimal fractionOf scaleOf numberOf planWord planNumber strangeOf squareOf judgedOf planEdgeRows
 planEdge = refl
 
 -- a text of 32,768 bytes ends there; of a longer one, what begins below is read whole, and the rest is 1

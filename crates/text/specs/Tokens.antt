@@ -1,18 +1,18 @@
 -- "Each token read is a word, a number, a bracket or a refusal." Document 01, "Bytes and words".
 use Prim.Native.Nat.{ℕ, _+_, _-_}
 use mathlib.Core.List.{List}
-use mathlib.Core.Bool.{Bool, true, false, cond, _||_}
+use mathlib.Core.Bool.{Bool, false, cond, _||_}
 use Prim.Native.Char.{code}
-use lib.ListN.{length, getD, drop}
+use lib.ListN.{length, getD}
 use lib.Dec.{eqb, leb, ltb}
 use Rattle.words.specs.Bytes.{kindOf, onStart}
 use Rattle.words.specs.Spelling.{sameWord}
 use Rattle.words.specs.Fixed.{isListed}
 use Rattle.text.specs.Runs.{part, gapEnd, runEnd}
-use Rattle.text.specs.Numbers.{numberFrom, signed}
+use Rattle.text.specs.Numbers.{numberOf}
 use Rattle.text.specs.Classes.{begunBy, classOf}
-use Rattle.text.specs.declared.numbers.Numeral.{Numeral}
-use Rattle.text.specs.declared.numbers.Numeral.the-variants.{Thousandths, Malformed}
+use Rattle.text.specs.declared.numbers.Number.{Number}
+use Rattle.text.specs.declared.numbers.Number.the-variants.{Thousandths, Malformed}
 use Rattle.text.specs.declared.classes.Class.{Class}
 use Rattle.text.specs.declared.classes.Class.the-variants as C
 use Rattle.text.specs.declared.tokens.Word.{Word}
@@ -27,13 +27,12 @@ unfoldable pub sizedOf : Word → ℕ → ℕ → ℕ → ℕ → Token
 sizedOf kind most long p e = cond (ltb most long) (T.Refusal 5 p) (T.Word kind p e)
 
 -- 6: "number malformed, too large or too fine"
-abbrev pub numeralToken : Bool → Numeral → ℕ → ℕ → Token
-numeralToken minus (Thousandths m) p e = T.Number (signed minus m) p e
-numeralToken minus Malformed p e = T.Refusal 6 p
+abbrev pub asToken : Number → ℕ → ℕ → Token
+asToken (Thousandths z) p e = T.Number z p e
+asToken Malformed p e = T.Refusal 6 p
 
 unfoldable pub numberToken : List ℕ → ℕ → ℕ → Token
-numberToken w p e =
-    cond (begunBy (code "-") w) (numeralToken true (numberFrom (drop 1 w)) p e) (numeralToken false (numberFrom w) p e)
+numberToken w p e = asToken (numberOf w) p e
 
 -- ---- domain and problem
 

@@ -1,14 +1,20 @@
 // Numbers in thousandths.
-use crate::runs;
+use crate::classes;
 use words::bytes;
 ghost use mathlib.Core.Path.{_≡_};
 ghost use Prim.Native.Nat.{_+_, _-_, _*_, _≤_, _<_};
 ghost use lib.ListN.{length, drop};
-ghost use Rattle.text.specs.Numbers.{digitsEnd, decimal, scaleOf, fractionOf, numberFrom, signed};
+ghost use Rattle.text.specs.Numbers.{digitsEnd, decimal, scaleOf, fractionOf, numberFrom, Small, withSign, numberOf};
 ghost use Rattle.text.specs.Runs.{part};
 
+// A number without its sign, and with it.
 pub enum Numeral {
     Thousandths(usize),
+    Malformed,
+}
+
+pub enum Number {
+    Thousandths(i64),
     Malformed,
 }
 
@@ -79,7 +85,7 @@ fn fraction(w: &[u8], whole: usize, point: usize) -> Numeral
 }
 
 // The number that stands from `from` on: `from` is 1 behind a minus.
-pub fn number_from(w: &[u8], from: usize) -> Numeral
+fn number_from(w: &[u8], from: usize) -> Numeral
     ensures { λ r. ⌜ r ≡ numberFrom (drop from (now (w .entry))) ⌝ }
 {
     let end = digits_end(w, from);
@@ -100,11 +106,26 @@ pub fn number_from(w: &[u8], from: usize) -> Numeral
     fraction(w, whole, end)
 }
 
-// A number with its sign.
-pub fn signed_of(minus: bool, m: usize) -> i64
-    requires { ⌜ m < 1000000000000 ⌝ }
-    ensures { λ r. ⌜ r ≡ signed minus m ⌝ }
+fn signed_of(minus: bool, n: Numeral) -> Number
+    requires { ⌜ Small n ⌝ }
+    ensures { λ r. ⌜ r ≡ withSign minus n ⌝ }
 {
+    let Numeral::Thousandths(m) = n else {
+        return Number::Malformed;
+    };
     let v = m as i64;
-    if minus { -v } else { v }
+    if minus {
+        return Number::Thousandths(-v);
+    }
+    Number::Thousandths(v)
+}
+
+// A number, with a minus before it or without.
+pub fn number_of(w: &[u8]) -> Number
+    ensures { λ r. ⌜ r ≡ numberOf (now (w .entry)) ⌝ }
+{
+    if classes::begins_with(w, 45) {
+        return signed_of(true, number_from(w, 1));
+    }
+    signed_of(false, number_from(w, 0))
 }

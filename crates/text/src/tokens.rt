@@ -2,7 +2,7 @@
 use crate::classes;
 use crate::classes::Class;
 use crate::numbers;
-use crate::numbers::Numeral;
+use crate::numbers::Number;
 use crate::runs;
 use words::bytes;
 use words::bytes::Kind;
@@ -11,8 +11,7 @@ use words::spelling;
 ghost use mathlib.Core.Path.{_≡_};
 ghost use lib.ListN.{length};
 ghost use Prim.Native.Nat.{_<_};
-ghost use Rattle.text.specs.Numbers.{Small};
-ghost use Rattle.text.specs.Tokens.{sizedOf, numeralToken, numberToken, isPast, bracketOf, domainWord, tokenAt, spotAt, judgedOf, strangeOf, planNumber, planWord, squareOf, planTokenAt};
+ghost use Rattle.text.specs.Tokens.{sizedOf, numberToken, isPast, bracketOf, domainWord, tokenAt, spotAt, judgedOf, strangeOf, planNumber, planWord, squareOf, planTokenAt};
 
 pub enum Word {
     Name,
@@ -43,24 +42,14 @@ fn sized(kind: Word, most: usize, long: usize, p: usize, e: usize) -> Token
     Token::Word(kind, p, e)
 }
 
-fn numeral(minus: bool, n: Numeral, p: usize, e: usize) -> Token
-    requires { ⌜ Small n ⌝ }
-    ensures { λ r. ⌜ r ≡ numeralToken minus n p e ⌝ }
-{
-    let Numeral::Thousandths(m) = n else {
-        return Token::Refusal(6, p);
-    };
-    Token::Number(numbers::signed_of(minus, m), p, e)
-}
-
-// A number, with a minus before it or without.
 fn number_token(w: &[u8], p: usize, e: usize) -> Token
     ensures { λ r. ⌜ r ≡ numberToken (now (w .entry)) p e ⌝ }
 {
-    if classes::begins_with(w, 45) {
-        return numeral(true, numbers::number_from(w, 1), p, e);
-    }
-    numeral(false, numbers::number_from(w, 0), p, e)
+    let n = numbers::number_of(w);
+    let Number::Thousandths(z) = n else {
+        return Token::Refusal(6, p);
+    };
+    Token::Number(z, p, e)
 }
 
 fn domain_word(w: &[u8], p: usize, e: usize) -> Token

@@ -137,8 +137,8 @@ fn effects(world: &mut World, over: usize, random: &mut Random) {
     let present: usize = list.iter().map(|(_, part)| writes(part)).sum();
     for place in present..16 + over {
         let effect = match scope(world, &world.actions[index]).effect(0, random) {
-            _ if place == 16 && random.chance(25) => Effect::Delete(UNDECLARED),
-            _ if place == 16 && random.chance(25) => {
+            _ if place == 16 && random.chance(30) => Effect::Delete(UNDECLARED),
+            _ if place == 16 && random.chance(50) => {
                 Effect::Change("increase", UNDECLARED, Expression::Number(1))
             }
             Effect::All(_) | Effect::Change("assign", ..) => Effect::Add(mark.clone()),

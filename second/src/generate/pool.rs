@@ -96,6 +96,7 @@ assign 0 change; =; assigned; scale-up; assign (; not; ASSIGN
 decrease 0 scale-down; -; descrease; increase ( a ) 5 ) ( decrease
 = 0 <; <=; >; >=; ==; <>; eq
 = 0 +; -; *; or; and; ; = =; = 5
++ 1 ; 5 5; ( + 5 ); ( - 5 ); a
 = 1 ; a; 5; ?x; ( ); ( - 5 ) (; ( + 1 2 ) (; ( a; ?duration
 = 2 5; a; ?x; ( ); ( a ); ); ( - 5 ); ; =; no-such-name; ( f )
 :parameters 0 ; :params; :precondition; :parameters ( ) :parameters; params
@@ -106,6 +107,7 @@ decrease 0 scale-down; -; descrease; increase ( a ) 5 ) ( decrease
 :condition 0 :condition ( and ) :condition; :conditions; condition
 :effect 0 :effects; :precondition; ; effect; :effect ( ) :effect
 :effect 0 :effect ( and ) :effect; :effect ( and ) :condition; :effect ( not ( and ) ) :effect
+:effect 1 ( over all (; ( at start (; ( at end (; ( and ( over all (; ( not ( and (
 :action 0 :durative-action; :actions; :process; action
 :action 0 :derived; :axiom; ; :metric; :types; :predicates ) ( :action
 :durative-action 0 ; :action; :durative; :durative-actions
