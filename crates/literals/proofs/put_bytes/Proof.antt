@@ -1,0 +1,61 @@
+-- `literals::put_bytes` meets its contract. Assumes nothing.
+use mathlib.Core.Path.{_≡_, refl, sym, _∙_}
+use Prim.Native.Nat.{_+_, _-_, _≤_}
+use native.Mathlib.Omega.{arith}
+use native.Mathlib.Nat.{add-zero, sub-zero}
+use lib.ListN.{length, length-set}
+use lib.Seq.{sets}
+use borrow.Author.Needs.{needs}
+use Rattle.literals.specs.Literal.{bytesOf}
+use Rattle.literals.proofs.Cells.{bytes-step, bytes-end}
+use Rattle.literals.proofs.put_bytes.Statement.{statement}
+use Rattle.literals.proofs.put_bytes.Tie as tie
+
+abbrev Inv-loop : tie.InvT-loop
+Inv-loop code₀ at k v i₀ rest₀ code i rest = (i ≤ k) × (length code ≡ length code₀) × (sets code (at + i) (bytesOf (k - i) rest) ≡ sets code₀ at (bytesOf k v))
+
+abbrev μ-loop : tie.MeasureT-loop
+μ-loop code₀ at k v i₀ rest₀ code i rest = k - i
+
+loop-holds : tie.Need-loop-holds Inv-loop μ-loop
+loop-holds c = (omega arith, refl, rw (add-zero (c .args .at), sub-zero (c .args .k)))
+
+cast-code : tie.Need-cast-code Inv-loop μ-loop
+cast-code c = search needs
+
+add-code : tie.Need-add-code Inv-loop μ-loop
+add-code c = omega arith
+
+slice-write-code : tie.Need-slice-write-code Inv-loop μ-loop
+slice-write-code c = omega arith
+
+add-i : tie.Need-add-i Inv-loop μ-loop
+add-i c = omega arith
+
+loop-less : tie.Need-loop-less Inv-loop μ-loop
+loop-less c = omega arith
+
+loop-again : tie.Need-loop-again Inv-loop μ-loop
+loop-again c = (omega arith, simp length-set (c .before .loop .inv .1), bytes-step (c .before .loop .code) (c .before .before .args .at) (c .before .loop .i) (c .before .before .args .k) (c .before .loop .rest) (c .loop-test .taken) ∙ c .before .loop .inv .2)
+
+same-length : tie.Need-same-length Inv-loop μ-loop
+same-length c = search needs
+
+returns : tie.Need-returns Inv-loop μ-loop
+returns c = sym (bytes-end (c .before .loop .code) (c .before .before .args .at) (c .before .loop .i) (c .before .before .args .k) (c .before .loop .rest) (c .loop-test .left)) ∙ c .before .loop .inv .2
+
+pub put-bytes-spec : {M : Type 1} → statement M
+put-bytes-spec =
+    tie.close
+    (tie.spec
+    Inv-loop
+    μ-loop
+    loop-holds
+    cast-code
+    add-code
+    slice-write-code
+    add-i
+    loop-less
+    loop-again
+    same-length
+    returns)
