@@ -1,9 +1,10 @@
 -- A number as cells: 16, 24 if it is negative, 16 more if it counts wholes and not thousandths, and the count of its bytes; then the bytes, lowest first.
 -- So a number takes at most one cell more than its text has bytes.
-use Prim.Native.Nat.{ℕ, zero, suc, _+_, _/_, _%_}
+use Prim.Native.Nat.{ℕ, zero, suc, _+_, _-_, _*_, _/_, _%_}
 use mathlib.Core.List.{List, [], _∷_}
-use mathlib.Core.Bool.{cond}
-use lib.IntN.{ℤ, pos, natAbs}
+use mathlib.Core.Bool.{Bool, cond}
+use lib.IntN.{ℤ, pos, natAbs, _-ℤ_}
+use lib.ListN.{take}
 use lib.Signed.{ltZ}
 use lib.Dec.{ltb, eqb}
 
@@ -24,3 +25,27 @@ literal base v = (base + sizeOf v) ∷ bytesOf (sizeOf v) v
 
 unfoldable pub numberCells : ℤ → List ℕ
 numberCells z = cond (eqb (natAbs z % 1000) 0) (literal (signBase z + 16) (natAbs z / 1000)) (literal (signBase z) (natAbs z))
+
+-- ---- back from cells
+
+unfoldable pub littleOf : List ℕ → ℕ
+littleOf [] = 0
+littleOf (b ∷ bs) = b + 256 * littleOf bs
+
+-- what the first cell says
+abbrev pub sizeIn : ℕ → ℕ
+sizeIn tag = (tag - 16) % 8
+
+abbrev pub isNegative : ℕ → Bool
+isNegative tag = eqb ((tag - 16) / 8 % 2) 1
+
+abbrev pub isWhole : ℕ → Bool
+isWhole tag = ltb 15 (tag - 16)
+
+abbrev pub valueIn : ℕ → ℕ → ℤ
+valueIn tag m = cond (isNegative tag) (pos 0 -ℤ pos m) (pos m)
+
+-- the number whose cells stand at the front; any cells give one
+unfoldable pub numberIn : List ℕ → ℤ
+numberIn [] = pos 0
+numberIn (tag ∷ cells) = valueIn tag (cond (isWhole tag) (littleOf (take (sizeIn tag) cells) * 1000) (littleOf (take (sizeIn tag) cells)))
