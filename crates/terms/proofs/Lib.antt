@@ -2,3 +2,4 @@
 pub mod Kept
 pub mod Givens
 pub mod Wanted
+pub mod Signing
