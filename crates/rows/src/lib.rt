@@ -15,7 +15,7 @@ pub fn byte(rows: &[u8], at: usize) -> u8
 }
 
 // The bytes of w, stored from `at` on.
-fn copy(rows: &mut [u8], at: usize, w: &[u8])
+pub fn copy(rows: &mut [u8], at: usize, w: &[u8])
     requires { ⌜ at + length (now w) ≤ length (now rows) ⌝ }
     ensures { λ _. ⌜ now (rows .exit) ≡ sets (now (rows .entry)) at (now (w .entry)) ⌝ }
 {
