@@ -1,3 +1,4 @@
+-- What the contracts name, module by module.
 pub mod Read
 pub mod Tables
 pub mod Due

@@ -1,1 +1,2 @@
+-- What the contracts name, module by module.
 pub mod Literal

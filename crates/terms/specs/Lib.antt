@@ -1,2 +1,3 @@
+-- What the contracts name, module by module.
 pub mod Scoped
 pub mod Cells

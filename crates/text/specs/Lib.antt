@@ -1,3 +1,4 @@
+-- What the contracts name, module by module.
 pub mod Runs
 pub mod Numbers
 pub mod Classes

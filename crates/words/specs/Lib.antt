@@ -1,3 +1,4 @@
+-- What the contracts name, module by module.
 pub mod Bytes
 pub mod Spelling
 pub mod Fixed
