@@ -133,17 +133,45 @@ actionsTo (suc k) s c as′ = do
 abbrev pub onlyObject : Table
 onlyObject = entry (bytes "object") (0 ∷ []) ∷ []
 
+unfoldable pub flagsSection : List ℕ → Reader ℕ
+flagsSection s = section s ":requirements" 0 (flagsTo (length s + 1) s)
+
+unfoldable pub typesSection : List ℕ → Reader Table
+typesSection s = section s ":types" onlyObject (typesTo s)
+
+unfoldable pub constantsSection : List ℕ → Table → Reader Table
+constantsSection s ts = section s ":constants" [] (namesTo s ts 64 [])
+
+-- predicates or functions: at most `max` of at most `most` arguments
+unfoldable pub declaredSection : List ℕ → List ℕ → Table → ℕ → ℕ → Reader Table
+declaredSection s w ts max most = do
+  o ← beginsWith s w
+  onOpened o (λ p. declarations (length s + 1) s ts max most []) (give [])
+
+-- what a domain declares before its actions
+pub record Vocabulary : Type 0 where
+  pub name : List ℕ
+  pub types : Table
+  pub constants : Table
+  pub predicates : Table
+  pub functions : Table
+
+unfoldable pub vocabulary : List ℕ → Reader Vocabulary
+vocabulary s = do
+  n ← heading s "domain"
+  _ ← flagsSection s
+  ts ← typesSection s
+  os ← constantsSection s ts
+  ps ← declaredSection s (bytes ":predicates") ts 32 3
+  fs ← declaredSection s (bytes ":functions") ts 16 2
+  give (record { name = n .word; types = ts; constants = os; predicates = ps; functions = fs })
+
 unfoldable pub domainText : List ℕ → Reader Domain
 domainText s = do
-  n ← heading s "domain"
-  _ ← section s ":requirements" 0 (flagsTo (length s + 1) s)
-  ts ← section s ":types" onlyObject (typesTo s)
-  os ← section s ":constants" [] (namesTo s ts 64 [])
-  ps ← section s ":predicates" [] (declarations (length s + 1) s ts 32 3 [])
-  fs ← section s ":functions" [] (declarations (length s + 1) s ts 16 2 [])
-  as′ ← actionsTo (length s + 1) s (record { types = ts; objects = os; predicates = ps; functions = fs; variables = []; inAction = false }) []
+  v ← vocabulary s
+  as′ ← actionsTo (length s + 1) s (record { types = v .types; objects = v .constants; predicates = v .predicates; functions = v .functions; variables = []; inAction = false }) []
   _ ← ending s
-  give (record { name = n .word; types = ts; constants = os; predicates = ps; functions = fs; actions = as′ })
+  give (record { name = v .name; types = v .types; constants = v .constants; predicates = v .predicates; functions = v .functions; actions = as′ })
 
 unfoldable pub readDomain : List ℕ → Read Domain
 readDomain s = domainText s 0
