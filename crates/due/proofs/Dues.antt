@@ -241,3 +241,22 @@ module _ (s : List ℕ) (d at : ℕ) (r : Answer) (q : r ≡ nameOf (anyName s d
     pub new-named : isReserved (part s v a) ≡ false → Named s v a (newName s d at)
     unfolding newName
     new-named h = record { is = rw (any-named s d at v a (sym q ∙ e) .is, h) }
+
+-- a name that was read has a byte at least
+any-between : (s : List ℕ) (d at : ℕ) (t : Token) (v a : ℕ) → Within s at t
+    → nameOf (onWord t (λ k p e. cond (isNameWord k) (give (record { place = p; word = part s p e })) (refuse 3 p)) (wrong d t) (afterOf t)) ≡ Done a v → v < a
+unfolding Within
+any-between s d at (T.Word W.Name p e) v a w h = let q : p ≡ v = cc in let r : e ≡ a = cc in omega (arith, w .1)
+any-between s d at (T.Word W.Variable p e) v a w h = absurd (let z : _≡_ {A = ℕ} 0 1 = cc in let y : ⊥ = omega arith in y)
+any-between s d at (T.Word W.Keyword p e) v a w h = absurd (let z : _≡_ {A = ℕ} 0 1 = cc in let y : ⊥ = omega arith in y)
+any-between s d at (T.Word W.Operator p e) v a w h = absurd (let z : _≡_ {A = ℕ} 0 1 = cc in let y : ⊥ = omega arith in y)
+any-between s d at (T.Number z p e) v a w h = absurd (let x : _≡_ {A = ℕ} 0 1 = cc in let y : ⊥ = omega arith in y)
+any-between s d at (T.Open p n) v a w h = absurd (let z : _≡_ {A = ℕ} 0 1 = cc in let y : ⊥ = omega arith in y)
+any-between s d at (T.Close p n) v a w h = absurd (let z : _≡_ {A = ℕ} 0 1 = cc in let y : ⊥ = omega arith in y)
+any-between s d at (T.Mark m p n) v a w h = absurd (let z : _≡_ {A = ℕ} 0 1 = cc in let y : ⊥ = omega arith in y)
+any-between s d at (T.Refusal k p) v a w h = absurd (let z : _≡_ {A = ℕ} 0 1 = cc in let y : ⊥ = omega arith in y)
+any-between s d at (T.End p) v a w h = absurd (let z : _≡_ {A = ℕ} 0 1 = cc in let y : ⊥ = omega arith in y)
+
+pub any-inside : (s : List ℕ) (d at v a : ℕ) → at ≤ length s → nameOf (anyName s d at) ≡ Done a v → v < a
+unfolding anyName
+any-inside s d at v a h q = any-between s d at (tokenAt s at) v a (token-within s at h) q

@@ -19,7 +19,7 @@ use Rattle.text.specs.declared.tokens.Word.{Word}
 use Rattle.text.specs.declared.tokens.Word.the-variants as W
 use Rattle.text.proofs.tokens.Token as token-type
 use Rattle.text.proofs.tokens.Word as word-type
-use Rattle.text.proofs.Within.{Within, token-within}
+use Rattle.text.proofs.Within.{Within, token-within, part-length}
 use Rattle.grammar.specs.Read.{Read, got, refused, give, refuse}
 use Rattle.grammar.specs.Due.{afterOf, numberOf, placeOf, Name, opening, closing, wordDue, fixed, anyName}
 use Rattle.grammar.specs.Domain.{beginsWith, ending, headingOf, flagWord, flagOf, flagsTo}
@@ -27,8 +27,10 @@ use Rattle.due.specs.Answers.{answerOf}
 use Rattle.due.specs.declared.Answer.{Answer}
 use Rattle.due.specs.declared.Answer.the-variants.{Done, Refused}
 use Rattle.due.proofs.Dues.{not-refusal, not-word, not-open, not-close, not-end, open-in, word-in, answer-done, answer-refused}
-use Rattle.sections.specs.Openings.{openedOf, Further}
+use Rattle.sections.specs.Openings.{openedOf, Further, untitledOf, titledOf, TitledIn}
 use Rattle.sections.specs.declared.Opened.the-variants.{At, Other}
+use Rattle.sections.specs.declared.Titled.{Titled}
+use Rattle.sections.specs.declared.Titled.the-variants as H
 
 -- the place behind a bracket
 open-next : (s : List ℕ) (at p n : ℕ) → at ≤ length s → tokenAt s at ≡ T.Open p n → n ≡ p + 1
@@ -117,6 +119,19 @@ module _ (s w : List ℕ) (at : ℕ) where
             pub heading-7 : (v6 a6 : ℕ) → closing s 14 e ≡ got v6 a6 → headingOf s w at ≡ got n a6
             unfolding headingOf
             heading-7 v6 a6 f = rw (q, q2, q3, q4, q5, f)
+
+-- a refusal on the way
+pub heading-stops : (s : List ℕ) (x : Read Name) (r : Answer) (u : Titled) (k p : ℕ) → x ≡ refused k p → r ≡ Refused k p → u ≡ untitledOf r → (u ≡ titledOf x) × TitledIn (length s) u
+unfolding TitledIn
+heading-stops s x r u k p e q h = let f : u ≡ H.Refused k p = h ∙ ap untitledOf q in (f ∙ sym (ap titledOf e), rw f tt)
+
+-- the whole heading, with its name from p to e
+pub heading-read : (s : List ℕ) (x : Read Name) (p e a : ℕ) → x ≡ got (record { place = p; word = part s p e }) a → p ≤ e → e ≤ length s → a ≤ length s
+    → (H.At a p e ≡ titledOf x) × TitledIn (length s) (H.At a p e)
+unfolding TitledIn
+heading-read s x p e a q lo hi in′ =
+    let n : p + length (part s p e) ≡ e = omega (arith, part-length s p e hi) in
+    (sym (ap titledOf q ∙ ap (λ (k : ℕ). H.At a p k) n), in′)
 
 -- ---- flags
 

@@ -1,8 +1,14 @@
--- What is answered of a section that was asked for.
-use Prim.Native.Nat.{ℕ, _≤_, _<_}
+-- What is answered of a section that was asked for, and of a heading.
+use Prim.Native.Nat.{ℕ, _+_, _≤_, _<_}
+use lib.ListN.{length}
 use Rattle.grammar.specs.Read.{Read, got, refused}
 use Rattle.grammar.specs.Domain.{opened, other}
 use Rattle.grammar.specs.Domain as Domain
+use Rattle.grammar.specs.Due.{Name}
+use Rattle.due.specs.declared.Answer.{Answer}
+use Rattle.due.specs.declared.Answer.the-variants.{Done, Refused}
+use Rattle.sections.specs.declared.Titled.{Titled}
+use Rattle.sections.specs.declared.Titled.the-variants as T
 use Rattle.sections.specs.declared.Opened.{Opened}
 use Rattle.sections.specs.declared.Opened.the-variants.{At, Other}
 
@@ -15,3 +21,18 @@ openedOf (refused k p) = Other
 unfoldable pub Further : ℕ → ℕ → Opened → Type 0
 Further n from (At p e) = (from < e) × (e ≤ n)
 Further n from Other = Unit {0}
+
+-- a heading was read: the place after it, and its name from, to
+abbrev pub titledOf : Read Name → Titled
+titledOf (got n a) = T.At a (n .place) (n .place + length (n .word))
+titledOf (refused k p) = T.Refused k p
+
+-- a refusal, and 0 where there is none
+abbrev pub untitledOf : Answer → Titled
+untitledOf (Done a v) = T.Refused 0 0
+untitledOf (Refused k p) = T.Refused k p
+
+-- the place after is within the text's n bytes
+unfoldable pub TitledIn : ℕ → Titled → Type 0
+TitledIn n (T.At a p e) = a ≤ n
+TitledIn n (T.Refused k p) = Unit {0}

@@ -10,10 +10,10 @@ ghost use mathlib.Core.Path.{_≡_};
 ghost use Prim.Native.Nat.{ℕ, _-_, _≤_, _<_};
 ghost use lib.Dec.{eqb};
 ghost use lib.ListN.{length, getD};
-ghost use Rattle.due.specs.Answers.{answerOf, nameOf, Ahead};
+ghost use Rattle.due.specs.Answers.{answerOf, Ahead};
 ghost use Rattle.grammar.specs.Due.{afterOf};
 ghost use Rattle.grammar.specs.Domain.{beginsWith, ending, headingOf, flagOf, flagsTo};
-ghost use Rattle.sections.specs.Openings.{openedOf, Further};
+ghost use Rattle.sections.specs.Openings.{openedOf, Further, untitledOf, titledOf, TitledIn};
 
 // A section that was asked for: its word from, to; or that another thing stands there.
 pub enum Opened {
@@ -58,36 +58,52 @@ pub fn ending_at(text: &[u8], from: usize) -> Answer
     Answer::Done(p, p)
 }
 
-// `(define (domain NAME)` or `(define (problem NAME)`, the word being w: the place after it, and where the name begins.
-pub fn heading_at(text: &[u8], from: usize, w: &[u8]) -> Answer
+// A heading: the place after it, and its name from, to.
+pub enum Titled {
+    At(usize, usize, usize),
+    Refused(u8, usize),
+}
+
+// What was refused in a heading.
+fn untitled(a: Answer) -> Titled
+    ensures { λ r. ⌜ r ≡ untitledOf a ⌝ }
+{
+    match a {
+        Answer::Done(_, _) => Titled::Refused(0, 0),
+        Answer::Refused(k, p) => Titled::Refused(k, p),
+    }
+}
+
+// `(define (domain NAME)` or `(define (problem NAME)`, the word being w.
+pub fn heading_at(text: &[u8], from: usize, w: &[u8]) -> Titled
     requires { ⌜ from ≤ length (now text) ⌝ }
-    ensures { λ r. ⌜ (r ≡ nameOf (headingOf (now (text .entry)) (now (w .entry)) from)) × Ahead (length (now (text .entry))) from r ⌝ }
+    ensures { λ r. ⌜ (r ≡ titledOf (headingOf (now (text .entry)) (now (w .entry)) from)) × TitledIn (length (now (text .entry))) r ⌝ }
 {
     let first = due::opening(text, from, 16);
     let Answer::Done(a, _) = first else {
-        return first;
+        return untitled(first);
     };
     let define = due::word_due(text, a, 15, b"define");
     let Answer::Done(b, _) = define else {
-        return define;
+        return untitled(define);
     };
     let second = due::opening(text, b, 15);
     let Answer::Done(c, _) = second else {
-        return second;
+        return untitled(second);
     };
     let word = due::word_due(text, c, 14, w);
     let Answer::Done(d, _) = word else {
-        return word;
+        return untitled(word);
     };
     let name = due::any_name(text, d, 14);
     let Answer::Done(e, place) = name else {
-        return name;
+        return untitled(name);
     };
     let last = due::closing(text, e, 14);
     let Answer::Done(next, _) = last else {
-        return last;
+        return untitled(last);
     };
-    Answer::Done(next, place)
+    Titled::At(next, place, e)
 }
 
 // Whether a colon stands at a place.
