@@ -110,7 +110,7 @@ digits-cons b bs h = go (isDigit (kindOf b)) refl h
     go true e k = record { front = digit-most b e; back = omega arith }
     go false e k = absurd (let y : ⊥ = omega arith in y)
 
-decimal-most : (l : List ℕ) (v : ℕ) → leading l ≡ length l → decimal v l + 1 ≤ (v + 1) * 10 ^ length l
+pub decimal-most : (l : List ℕ) (v : ℕ) → leading l ≡ length l → decimal v l + 1 ≤ (v + 1) * 10 ^ length l
 unfolding decimal
 decimal-most [] v h = omega arith
 decimal-most (b ∷ bs) v h =
@@ -120,7 +120,7 @@ decimal-most (b ∷ bs) v h =
     let more : (x + 1) * 10 ^ length bs ≤ (v + 1) * 10 * 10 ^ length bs = mul-le-mul-right (10 ^ length bs) small in
     rw (pow-succ' 10 (length bs), ← mul-assoc (v + 1) 10 (10 ^ length bs)) (le-trans (decimal-most bs x (d .back)) more)
 
-leading-front : (l : List ℕ) → leading (take (leading l) l) ≡ length (take (leading l) l)
+pub leading-front : (l : List ℕ) → leading (take (leading l) l) ≡ length (take (leading l) l)
 unfolding leading
 leading-front [] = refl
 leading-front (b ∷ bs) = go (isDigit (kindOf b)) refl (leading-front bs)
@@ -131,7 +131,7 @@ leading-front (b ∷ bs) = go (isDigit (kindOf b)) refl (leading-front bs)
     go false e k = refl
 
 -- decimals, n of them, count less than a whole
-scaled : (n v : ℕ) → 1 ≤ n → n ≤ 3 → v + 1 ≤ 10 ^ n → v * scaleOf n ≤ 999
+pub scaled : (n v : ℕ) → 1 ≤ n → n ≤ 3 → v + 1 ≤ 10 ^ n → v * scaleOf n ≤ 999
 unfolding scaleOf
 scaled n v lo hi h = elim (decLe n 1) [
   | yes k ↦ let e : n ≡ 1 = omega arith in rw e (let b : v + 1 ≤ 10 = rw e at h in omega arith)
@@ -141,7 +141,7 @@ scaled n v lo hi h = elim (decLe n 1) [
   ]
 ]
 
-both : (a b c : Bool) → (a && b && c) ≡ true → (a ≡ true) × (b ≡ true) × (c ≡ true)
+pub both : (a b c : Bool) → (a && b && c) ≡ true → (a ≡ true) × (b ≡ true) × (c ≡ true)
 both true true c h = (refl, refl, h)
 both true false c h = absurd (let z : _≡_ {A = ℕ} 0 1 = cc in let y : ⊥ = omega arith in y)
 both false b c h = absurd (let z : _≡_ {A = ℕ} 0 1 = cc in let y : ⊥ = omega arith in y)
