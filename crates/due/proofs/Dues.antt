@@ -105,10 +105,9 @@ pub ahead-by : (n at a v : ℕ) → at < a → a ≤ n → Ahead n at (Done a v)
 unfolding Ahead
 ahead-by n at a v lo hi = (lo, hi)
 
-pub ahead-from : (r : Answer) (n at b : ℕ) → at ≤ b → Ahead n b r → Ahead n at r
-unfolding Ahead
-ahead-from (Done a v) n at b h q = omega arith
-ahead-from (Refused k p) n at b h q = tt
+-- what is refused is not read
+pub never-done : {A : Type 0} (k p a v : ℕ) → Refused k p ≡ Done a v → A
+never-done k p a v h = absurd (let z : _≡_ {A = ℕ} 0 1 = cc in let y : ⊥ = omega arith in y)
 
 pub answer-done : (x : Read ℕ) (a v : ℕ) → answerOf x ≡ Done a v → x ≡ got v a
 answer-done (got w n) a v e = let z : n ≡ a = cc in let y : w ≡ v = cc in cc
@@ -136,10 +135,6 @@ module _ (s : List ℕ) (at : ℕ) (h : at ≤ length s) where
   pub name-in : (p e : ℕ) → tokenAt s at ≡ T.Word W.Name p e → e - p ≤ 32
   unfolding Within
   name-in p e q = let w = rw q at (token-within s at h) in w .3
-
-  pub variable-in : (p e : ℕ) → tokenAt s at ≡ T.Word W.Variable p e → e - p ≤ 33
-  unfolding Within
-  variable-in p e q = let w = rw q at (token-within s at h) in w .3
 
 -- ---- the ways
 
@@ -204,15 +199,15 @@ any-of : (s : List ℕ) (d : ℕ) (t : Token) (v a : ℕ)
     → nameOf (onWord t (λ k p e. cond (isNameWord k) (give (record { place = p; word = part s p e })) (refuse 3 p)) (wrong d t) (afterOf t)) ≡ Done a v
     → Named s v a (onWord t (λ k p e. cond (isNameWord k) (give (record { place = p; word = part s p e })) (refuse 3 p)) (wrong d t) (afterOf t))
 any-of s d (T.Word W.Name p e) v a h = let q : p ≡ v = cc in let r : e ≡ a = cc in record { is = rw (q, r) }
-any-of s d (T.Word W.Variable p e) v a h = absurd (let z : _≡_ {A = ℕ} 0 1 = cc in let y : ⊥ = omega arith in y)
-any-of s d (T.Word W.Keyword p e) v a h = absurd (let z : _≡_ {A = ℕ} 0 1 = cc in let y : ⊥ = omega arith in y)
-any-of s d (T.Word W.Operator p e) v a h = absurd (let z : _≡_ {A = ℕ} 0 1 = cc in let y : ⊥ = omega arith in y)
-any-of s d (T.Number z p e) v a h = absurd (let x : _≡_ {A = ℕ} 0 1 = cc in let y : ⊥ = omega arith in y)
-any-of s d (T.Open p n) v a h = absurd (let z : _≡_ {A = ℕ} 0 1 = cc in let y : ⊥ = omega arith in y)
-any-of s d (T.Close p n) v a h = absurd (let z : _≡_ {A = ℕ} 0 1 = cc in let y : ⊥ = omega arith in y)
-any-of s d (T.Mark m p n) v a h = absurd (let z : _≡_ {A = ℕ} 0 1 = cc in let y : ⊥ = omega arith in y)
-any-of s d (T.Refusal k p) v a h = absurd (let z : _≡_ {A = ℕ} 0 1 = cc in let y : ⊥ = omega arith in y)
-any-of s d (T.End p) v a h = absurd (let z : _≡_ {A = ℕ} 0 1 = cc in let y : ⊥ = omega arith in y)
+any-of s d (T.Word W.Variable p e) v a h = never-done _ _ a v h
+any-of s d (T.Word W.Keyword p e) v a h = never-done _ _ a v h
+any-of s d (T.Word W.Operator p e) v a h = never-done _ _ a v h
+any-of s d (T.Number z p e) v a h = never-done _ _ a v h
+any-of s d (T.Open p n) v a h = never-done _ _ a v h
+any-of s d (T.Close p n) v a h = never-done _ _ a v h
+any-of s d (T.Mark m p n) v a h = never-done _ _ a v h
+any-of s d (T.Refusal k p) v a h = never-done _ _ a v h
+any-of s d (T.End p) v a h = never-done _ _ a v h
 
 pub any-named : (s : List ℕ) (d at v a : ℕ) → nameOf (anyName s d at) ≡ Done a v → Named s v a (anyName s d at)
 unfolding anyName
@@ -238,24 +233,20 @@ module _ (s : List ℕ) (d at : ℕ) (r : Answer) (q : r ≡ nameOf (anyName s d
     unfolding newName
     new-read h w = (rw (any-named s d at v a (sym q ∙ e) .is, h), rw e at w)
 
-    pub new-named : isReserved (part s v a) ≡ false → Named s v a (newName s d at)
-    unfolding newName
-    new-named h = record { is = rw (any-named s d at v a (sym q ∙ e) .is, h) }
-
 -- a name that was read has a byte at least
 any-between : (s : List ℕ) (d at : ℕ) (t : Token) (v a : ℕ) → Within s at t
     → nameOf (onWord t (λ k p e. cond (isNameWord k) (give (record { place = p; word = part s p e })) (refuse 3 p)) (wrong d t) (afterOf t)) ≡ Done a v → v < a
 unfolding Within
 any-between s d at (T.Word W.Name p e) v a w h = let q : p ≡ v = cc in let r : e ≡ a = cc in omega (arith, w .1)
-any-between s d at (T.Word W.Variable p e) v a w h = absurd (let z : _≡_ {A = ℕ} 0 1 = cc in let y : ⊥ = omega arith in y)
-any-between s d at (T.Word W.Keyword p e) v a w h = absurd (let z : _≡_ {A = ℕ} 0 1 = cc in let y : ⊥ = omega arith in y)
-any-between s d at (T.Word W.Operator p e) v a w h = absurd (let z : _≡_ {A = ℕ} 0 1 = cc in let y : ⊥ = omega arith in y)
-any-between s d at (T.Number z p e) v a w h = absurd (let x : _≡_ {A = ℕ} 0 1 = cc in let y : ⊥ = omega arith in y)
-any-between s d at (T.Open p n) v a w h = absurd (let z : _≡_ {A = ℕ} 0 1 = cc in let y : ⊥ = omega arith in y)
-any-between s d at (T.Close p n) v a w h = absurd (let z : _≡_ {A = ℕ} 0 1 = cc in let y : ⊥ = omega arith in y)
-any-between s d at (T.Mark m p n) v a w h = absurd (let z : _≡_ {A = ℕ} 0 1 = cc in let y : ⊥ = omega arith in y)
-any-between s d at (T.Refusal k p) v a w h = absurd (let z : _≡_ {A = ℕ} 0 1 = cc in let y : ⊥ = omega arith in y)
-any-between s d at (T.End p) v a w h = absurd (let z : _≡_ {A = ℕ} 0 1 = cc in let y : ⊥ = omega arith in y)
+any-between s d at (T.Word W.Variable p e) v a w h = never-done _ _ a v h
+any-between s d at (T.Word W.Keyword p e) v a w h = never-done _ _ a v h
+any-between s d at (T.Word W.Operator p e) v a w h = never-done _ _ a v h
+any-between s d at (T.Number z p e) v a w h = never-done _ _ a v h
+any-between s d at (T.Open p n) v a w h = never-done _ _ a v h
+any-between s d at (T.Close p n) v a w h = never-done _ _ a v h
+any-between s d at (T.Mark m p n) v a w h = never-done _ _ a v h
+any-between s d at (T.Refusal k p) v a w h = never-done _ _ a v h
+any-between s d at (T.End p) v a w h = never-done _ _ a v h
 
 pub any-inside : (s : List ℕ) (d at v a : ℕ) → at ≤ length s → nameOf (anyName s d at) ≡ Done a v → v < a
 unfolding anyName

@@ -22,7 +22,7 @@ use Rattle.expressions.specs.declared.leaves.Progress.the-variants.{Done
 abbrev pub refCells : ℕ → Ref → List ℕ
 refCells tag r = (tag + length (r .args)) ∷ r .head ∷ argCells (r .args)
 
--- 0, 1, 2: `-` of one, `-` of two, `+`; 5 to 9: a function; else a number
+-- the first cell: 0, 1, 2 for `-` of one, `-` of two, `+`; 5 to 7 for a function of none, one, two arguments; 16 or more for a number
 unfoldable pub cellsOf : Expr → List ℕ
 cellsOf (number z) = numberCells z
 cellsOf (value r) = refCells 5 r

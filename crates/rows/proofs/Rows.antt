@@ -131,17 +131,11 @@ module _ (m : ℕ) (rows : List ℕ) (n : ℕ) (t : Table) (h : Holds m rows n t
   the-row : Row m t i
   the-row = row t m i (omega (arith, h .count, h .fits)) (omega (arith, h .count, h .fits))
 
-  pub row-room : (38 * i + 38 ≤ length rows)
-  row-room = omega (arith, h .fits, ap length (h .are) ∙ length-rows m t)
-
   pub row-length : getD rows (38 * i) 0 ≡ length (nameOf (getD t i none))
   row-length =
       let r = the-row in
       let e = getD t i none in
       ap (λ (l : List ℕ). getD l (38 * i) 0) (h .are ∙ r .is) ∙ getD-at (r .front) (length (nameOf e)) ((padded 5 (infoOf e) ++ padded 32 (nameOf e)) ++ r .rest) 0 (38 * i) (r .long)
-
-  pub row-short : getD rows (38 * i) 0 ≤ 32
-  row-short = omega (arith, row-length, short-at t i (h .short))
 
   pub row-name : take (getD rows (38 * i) 0) (drop (38 * i + 6) rows) ≡ nameOf (getD t i none)
   row-name =
@@ -153,9 +147,6 @@ module _ (m : ℕ) (rows : List ℕ) (n : ℕ) (t : Table) (h : Holds m rows n t
       ∙ ap (λ (l : List ℕ). take (length (nameOf e)) l) (drop-append-add (r .front) (rowOf e ++ r .rest) 6)
       ∙ ap (λ (l : List ℕ). take (length (nameOf e)) l) (drop-info (infoOf e) (nameOf e) (r .rest))
       ∙ take-padded 32 (nameOf e) (r .rest) (short-at t i (h .short))
-
-  pub row-part : take (38 * i + 6 + getD rows (38 * i) 0 - (38 * i + 6)) (drop (38 * i + 6) rows) ≡ nameOf (getD t i none)
-  row-part = ap (λ (k : ℕ). take k (drop (38 * i + 6) rows)) (let z : 38 * i + 6 + getD rows (38 * i) 0 - (38 * i + 6) ≡ getD rows (38 * i) 0 = omega arith in z) ∙ row-name
 
   pub row-type : getD rows (38 * i + 1) 0 ≡ typeOf (getD t i none)
   row-type =

@@ -26,7 +26,7 @@ use Rattle.grammar.specs.Domain.{beginsWith, ending, headingOf, flagWord, flagO
 use Rattle.due.specs.Answers.{answerOf}
 use Rattle.due.specs.declared.Answer.{Answer}
 use Rattle.due.specs.declared.Answer.the-variants.{Done, Refused}
-use Rattle.due.proofs.Dues.{not-refusal, not-word, not-open, not-close, not-end, open-in, word-in, answer-done, answer-refused}
+use Rattle.due.proofs.Dues.{not-refusal, not-word, not-open, not-close, not-end, open-in, word-in, answer-done, answer-refused, never-done}
 use Rattle.sections.specs.Openings.{openedOf, Further, untitledOf, titledOf, TitledIn}
 use Rattle.sections.specs.declared.Opened.the-variants.{At, Other}
 use Rattle.sections.specs.declared.Titled.{Titled}
@@ -165,29 +165,26 @@ module _ (s : List ℕ) (t : Token) where
   flag-missing k p e q h f = rw (q, h, f)
 
 -- a flag that was read ends within the text
-never : {A : Type 0} (k p a v : ℕ) → Refused k p ≡ Done a v → A
-never k p a v h = absurd (let z : _≡_ {A = ℕ} 0 1 = cc in let y : ⊥ = omega arith in y)
-
 flag-end : (s : List ℕ) (at : ℕ) (t : Token) (a v : ℕ) → Within s at t → answerOf (flagOf s t (afterOf t)) ≡ Done a v → (at < a) × (a ≤ length s)
 unfolding Within
 flag-end s at (T.Word W.Keyword p e) a v w h = go (isFlag (part s p e)) h
   where
     go : (t : Bool) → answerOf (cond t (give p) (refuse 11 p) e) ≡ Done a v → (at < a) × (a ≤ length s)
     go true q = let n : e ≡ a = cc in (omega (arith, w .0, w .1), omega (arith, w .2))
-    go false q = never 11 p a v q
-flag-end s at (T.Word W.Name p e) a v w h = never 3 p a v h
-flag-end s at (T.Word W.Variable p e) a v w h = never 3 p a v h
-flag-end s at (T.Word W.Operator p e) a v w h = never 3 p a v h
-flag-end s at (T.Number z p e) a v w h = never _ _ a v h
-flag-end s at (T.Open p n) a v w h = never _ _ a v h
-flag-end s at (T.Close p n) a v w h = never _ _ a v h
-flag-end s at (T.Mark m p n) a v w h = never _ _ a v h
+    go false q = never-done 11 p a v q
+flag-end s at (T.Word W.Name p e) a v w h = never-done 3 p a v h
+flag-end s at (T.Word W.Variable p e) a v w h = never-done 3 p a v h
+flag-end s at (T.Word W.Operator p e) a v w h = never-done 3 p a v h
+flag-end s at (T.Number z p e) a v w h = never-done _ _ a v h
+flag-end s at (T.Open p n) a v w h = never-done _ _ a v h
+flag-end s at (T.Close p n) a v w h = never-done _ _ a v h
+flag-end s at (T.Mark m p n) a v w h = never-done _ _ a v h
 flag-end s at (T.Refusal k p) a v w h = go (eqb k 5 && eqb (getD s p 0) 58) h
   where
     go : (t : Bool) → answerOf (cond t (refuse 11 p) (refuse k p) p) ≡ Done a v → (at < a) × (a ≤ length s)
-    go true q = never 11 p a v q
-    go false q = never k p a v q
-flag-end s at (T.End p) a v w h = never _ _ a v h
+    go true q = never-done 11 p a v q
+    go false q = never-done k p a v q
+flag-end s at (T.End p) a v w h = never-done _ _ a v h
 
 pub flag-ahead : (s : List ℕ) (at a v : ℕ) → at ≤ length s → answerOf (flagOf s (tokenAt s at) (afterOf (tokenAt s at))) ≡ Done a v → (at < a) × (a ≤ length s)
 flag-ahead s at a v h q = flag-end s at (tokenAt s at) a v (token-within s at h) q

@@ -26,7 +26,7 @@ use Rattle.grammar.specs.Due.{afterOf, placeOf, wrong, onWord, closing}
 use Rattle.grammar.specs.Terms.{Scope, Arg, Given, objectAt, variableAt, givenBy, argument, fits, arguments}
 use Rattle.due.specs.declared.Answer.{Answer}
 use Rattle.due.specs.declared.Answer.the-variants.{Done, Refused}
-use Rattle.due.proofs.Dues.{not-close}
+use Rattle.due.proofs.Dues.{not-close, never-done}
 use Rattle.terms.specs.Scoped.{Signed, AllSigned}
 use Rattle.terms.specs.Cells.{cellOf, cellAnswer, typeOfCell, argCells, Wrote, Room}
 use Rattle.terms.proofs.Kept.{found-below}
@@ -57,9 +57,6 @@ pub record Arrived (s : List ℕ) (d at : ℕ) (c : Scope) (a v : ℕ) : Type 0 
   pub place : given .place ≡ placeOf (tokenAt s at)
   pub type : given .type ≡ typeOfCell c v
 
-never : {A : Type 0} (k p a v : ℕ) → Refused k p ≡ Done a v → A
-never k p a v h = absurd (let z : _≡_ {A = ℕ} 0 1 = cc in let y : ⊥ = omega arith in y)
-
 -- the same, of a token
 record Found-by (c : Scope) (t : Token) (x : Read Given) (a v : ℕ) : Type 0 where
   given : Given
@@ -78,7 +75,7 @@ module _ (s : List ℕ) (c : Scope) (few : length (c .objects) ≤ 64) where
       let x : i ≡ v = cc in
       let b : i < 64 = omega (arith, found-below (c .objects) (part s p e) i q) in
       record { given = objectAt c p i; is = rw n; cell = x; place = refl; type = rw (← x, lt-ltb i 64 b) }
-  by-name p e a v F.Nothing q h = never 8 p a v h
+  by-name p e a v F.Nothing q h = never-done 8 p a v h
 
   by-variable : (p e a v : ℕ) (f : Found)
       → cellAnswer (andThen (onFound f (λ i. give i) (refuse 8 p) e) (λ i. give (variableAt c p i))) ≡ Done a v
@@ -89,31 +86,31 @@ module _ (s : List ℕ) (c : Scope) (few : length (c .objects) ≤ 64) where
       let x : 64 + i ≡ v = cc in
       let b : 64 + i - 64 ≡ i = omega arith in
       record { given = variableAt c p i; is = rw n; cell = x; place = refl; type = rw (← x, le-ltb (64 + i) 64 (omega arith), b) }
-  by-variable p e a v F.Nothing h = never 8 p a v h
+  by-variable p e a v F.Nothing h = never-done 8 p a v h
 
   by-action : (t : Bool) (p e a v : ℕ)
       → cellAnswer (cond t (λ b. andThen (declared (c .variables) p (part s (p + 1) e) b) (λ i. give (variableAt c p i))) (refuse 3 p) e) ≡ Done a v
       → Found-by c (T.Word W.Variable p e) (cond t (λ b. andThen (declared (c .variables) p (part s (p + 1) e) b) (λ i. give (variableAt c p i))) (refuse 3 p) e) a v
   unfolding declared
   by-action true p e a v h = by-variable p e a v (lookup (c .variables) (part s (p + 1) e)) h
-  by-action false p e a v h = never 3 p a v h
+  by-action false p e a v h = never-done 3 p a v h
 
   by-word : (k : Word) (p e a v : ℕ) → cellAnswer (givenBy s c k p e e) ≡ Done a v → Found-by c (T.Word k p e) (givenBy s c k p e e) a v
   unfolding declared
   by-word W.Name p e a v h = by-name p e a v (lookup (c .objects) (part s p e)) refl h
   by-word W.Variable p e a v h = by-action (c .inAction) p e a v h
-  by-word W.Keyword p e a v h = never 3 p a v h
-  by-word W.Operator p e a v h = never 3 p a v h
+  by-word W.Keyword p e a v h = never-done 3 p a v h
+  by-word W.Operator p e a v h = never-done 3 p a v h
 
   by-token : (d : ℕ) (t : Token) (a v : ℕ) → cellAnswer (onWord t (givenBy s c) (wrong d t) (afterOf t)) ≡ Done a v
       → Found-by c t (onWord t (givenBy s c) (wrong d t) (afterOf t)) a v
   by-token d (T.Word k p e) a v h = by-word k p e a v h
-  by-token d (T.Number z p e) a v h = never _ _ a v h
-  by-token d (T.Open p n) a v h = never _ _ a v h
-  by-token d (T.Close p n) a v h = never _ _ a v h
-  by-token d (T.Mark m p n) a v h = never _ _ a v h
-  by-token d (T.Refusal k p) a v h = never _ _ a v h
-  by-token d (T.End p) a v h = never _ _ a v h
+  by-token d (T.Number z p e) a v h = never-done _ _ a v h
+  by-token d (T.Open p n) a v h = never-done _ _ a v h
+  by-token d (T.Close p n) a v h = never-done _ _ a v h
+  by-token d (T.Mark m p n) a v h = never-done _ _ a v h
+  by-token d (T.Refusal k p) a v h = never-done _ _ a v h
+  by-token d (T.End p) a v h = never-done _ _ a v h
 
   pub arrived : (d at a v : ℕ) → cellAnswer (argument s d c at) ≡ Done a v → Arrived s d at c a v
   unfolding argument
@@ -237,7 +234,3 @@ room-done used from a v h k = (h, k)
 pub room-refused : (used from k p : ℕ) (r : Answer) → r ≡ Refused k p → Room used from r
 unfolding Room
 room-refused used from k p r e = rw e tt
-
-pub room-at : (used from a v : ℕ) (r : Answer) → r ≡ Done a v → Room used from r → (used ≤ v) × (v + from ≤ used + a)
-unfolding Room
-room-at used from a v r e h = rw e at h
