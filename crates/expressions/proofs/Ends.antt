@@ -18,7 +18,7 @@ use Rattle.text.proofs.tokens.Token as token-type
 use Rattle.grammar.specs.Read.{Read, got, refused, andThen}
 use Rattle.grammar.specs.Tables.{lookup, declared}
 use Rattle.grammar.specs.Due.{afterOf, numberOf, placeOf}
-use Rattle.grammar.specs.Terms.{Scope, Ref, Expr, value, Counted, counts, counted, reference, operandsEnd, functionAt}
+use Rattle.grammar.specs.Terms.{Scope, Ref, value, Counted, counts, counted, reference, operandsEnd, functionAt}
 use Rattle.due.specs.Answers.{answerOf, Ahead}
 use Rattle.due.specs.declared.Answer.{Answer}
 use Rattle.due.specs.declared.Answer.the-variants as A
@@ -32,16 +32,16 @@ use Rattle.expressions.specs.declared.leaves.Progress.the-variants.{Done
 
 -- ---- what was written
 
-pub written-refused : (code : List ℕ) (u : ℕ) (r : Progress) (m : List ℕ) (x : Read (Counted Expr)) (k p : ℕ) → x ≡ refused k p → r ≡ Refused k p → Written code u r m x
+pub written-refused : {A : Type 0} (cells : A → List ℕ) (code : List ℕ) (u : ℕ) (r : Progress) (m : List ℕ) (x : Read (Counted A)) (k p : ℕ) → x ≡ refused k p → r ≡ Refused k p → Written cells code u r m x
 unfolding Written
-written-refused code u r m x k p e q = rw e q
+written-refused cells code u r m x k p e q = rw e q
 
 pub spent-refused : (more n u at : ℕ) (r : Progress) (k p : ℕ) → r ≡ Refused k p → Spent more n u at r
 unfolding Spent
 spent-refused more n u at r k p e = rw e tt
 
 written-value : (code : List ℕ) (u : ℕ) (r : Answer) (m : List ℕ) (l : ℕ) (x : Read Ref) → Wrote (refCells 5) code u r m x
-    → Written code u (passed l r) m (andThen x (λ a n. got (counts (value a) l) n))
+    → Written cellsOf code u (passed l r) m (andThen x (λ a n. got (counts (value a) l) n))
 unfolding Wrote Written cellsOf
 written-value code u r m l (got a n) h = (ap (passed l) (h .0), h .1)
 written-value code u r m l (refused k p) h = ap (passed l) h
@@ -80,7 +80,7 @@ module _ (s : List ℕ) (d : ℕ) (c : Scope) (p e : ℕ) where
   function-read (suc n) i q z = let k : suc n - 1 ≡ n = omega arith in rw (q, k)
 
   pub function-written : (n i : ℕ) (code : List ℕ) (u : ℕ) (r : Answer) (m : List ℕ) → lookup (c .functions) (part s p e) ≡ F.At i → (n ≡ 0 → ⊥)
-      → Wrote (refCells 5) code u r m (reference s d c (c .functions) i e) → Written code u (passed (n - 1) r) m (functionAt s d c n p e e)
+      → Wrote (refCells 5) code u r m (reference s d c (c .functions) i e) → Written cellsOf code u (passed (n - 1) r) m (functionAt s d c n p e e)
   function-written n i code u r m q z h = rw (function-read n i q z) (written-value code u r m (n - 1) (reference s d c (c .functions) i e) h)
 
 -- ---- the ends of operands

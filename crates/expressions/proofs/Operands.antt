@@ -21,17 +21,17 @@ use Rattle.expressions.specs.declared.leaves.Progress.the-variants.{Done
 
 -- ---- cells stored before others
 
-set-under : (l : List ℕ) (i j a b : ℕ) → i < j → set (set l j b) i a ≡ set (set l i a) j b
+pub set-under : (l : List ℕ) (i j a b : ℕ) → i < j → set (set l j b) i a ≡ set (set l i a) j b
 set-under [] i j a b h = refl
 set-under (x ∷ l) i zero a b h = absurd (let z : ⊥ = omega arith in z)
 set-under (x ∷ l) zero (suc j) a b h = refl
 set-under (x ∷ l) (suc i) (suc j) a b h = ap (λ (r : List ℕ). x ∷ r) (set-under l i j a b (omega arith))
 
-set-before : (l : List ℕ) (i j a : ℕ) (xs : List ℕ) → i < j → set (sets l j xs) i a ≡ sets (set l i a) j xs
+pub set-before : (l : List ℕ) (i j a : ℕ) (xs : List ℕ) → i < j → set (sets l j xs) i a ≡ sets (set l i a) j xs
 set-before l i j a [] h = refl
 set-before l i j a (x ∷ xs) h = set-before (set l j x) i (suc j) a xs (omega arith) ∙ ap (λ (r : List ℕ). sets r (suc j) xs) (set-under l i j a x h)
 
-sets-append : (l : List ℕ) (u : ℕ) (xs ys : List ℕ) → sets (sets l u xs) (u + length xs) ys ≡ sets l u (xs ++ ys)
+pub sets-append : (l : List ℕ) (u : ℕ) (xs ys : List ℕ) → sets (sets l u xs) (u + length xs) ys ≡ sets l u (xs ++ ys)
 sets-append l u [] ys = ap (λ (k : ℕ). sets l k ys) (add-zero u)
 sets-append l u (x ∷ xs) ys =
     let e : u + suc (length xs) ≡ suc u + length xs = omega arith in
@@ -39,35 +39,36 @@ sets-append l u (x ∷ xs) ys =
 
 -- ---- what was read, by the answer
 
-pub record Arrived (code : List ℕ) (u : ℕ) (m : List ℕ) (a v l : ℕ) (x : Read (Counted Expr)) : Type 0 where
-  pub tree : Counted Expr
+pub record Arrived {A : Type 0} (cells : A → List ℕ) (code : List ℕ) (u : ℕ) (m : List ℕ) (a v l : ℕ) (x : Read (Counted A)) : Type 0 where
+  pub tree : Counted A
   pub is : x ≡ got tree a
-  pub free : v ≡ u + length (cellsOf (tree .tree))
+  pub free : v ≡ u + length (cells (tree .tree))
   pub left : l ≡ tree .left
-  pub cells : m ≡ sets code u (cellsOf (tree .tree))
+  pub stored : m ≡ sets code u (cells (tree .tree))
 
-pub written-got : (code : List ℕ) (u : ℕ) (r : Progress) (m : List ℕ) (x : Read (Counted Expr)) (a v l : ℕ) → Written code u r m x → r ≡ Done a v l → Arrived code u m a v l x
-unfolding Written
-written-got code u r m (got t n) a v l h e =
-    let q : Done n (u + length (cellsOf (t .tree))) (t .left) ≡ Done a v l = sym (h .0) ∙ e in
-    let i : n ≡ a = cc in
-    let j : u + length (cellsOf (t .tree)) ≡ v = cc in
-    let k : t .left ≡ l = cc in
-    record { tree = t; is = rw i; free = sym j; left = sym k; cells = h .1 }
-written-got code u r m (refused k p) a v l h e =
-    let q : Refused k p ≡ Done a v l = sym h ∙ e in
-    absurd (let z : _≡_ {A = ℕ} 0 1 = cc in let y : ⊥ = omega arith in y)
+module _ {A : Type 0} (cells : A → List ℕ) (code : List ℕ) (u : ℕ) (r : Progress) (m : List ℕ) where
+  pub written-got : (x : Read (Counted A)) (a v l : ℕ) → Written cells code u r m x → r ≡ Done a v l → Arrived cells code u m a v l x
+  unfolding Written
+  written-got (got t n) a v l h e =
+      let q : Done n (u + length (cells (t .tree))) (t .left) ≡ Done a v l = sym (h .0) ∙ e in
+      let i : n ≡ a = cc in
+      let j : u + length (cells (t .tree)) ≡ v = cc in
+      let k : t .left ≡ l = cc in
+      record { tree = t; is = rw i; free = sym j; left = sym k; stored = h .1 }
+  written-got (refused k p) a v l h e =
+      let q : Refused k p ≡ Done a v l = sym h ∙ e in
+      absurd (let z : _≡_ {A = ℕ} 0 1 = cc in let y : ⊥ = omega arith in y)
 
-pub written-not : (code : List ℕ) (u : ℕ) (r : Progress) (m : List ℕ) (x : Read (Counted Expr)) (k p : ℕ) → Written code u r m x → r ≡ Refused k p → x ≡ refused k p
-unfolding Written
-written-not code u r m (got t n) k p h e =
-    let q : Done n (u + length (cellsOf (t .tree))) (t .left) ≡ Refused k p = sym (h .0) ∙ e in
-    absurd (let z : _≡_ {A = ℕ} 0 1 = cc in let y : ⊥ = omega arith in y)
-written-not code u r m (refused j q) k p h e =
-    let o : Refused j q ≡ Refused k p = sym h ∙ e in
-    let i : j ≡ k = cc in
-    let n : q ≡ p = cc in
-    rw (i, n)
+  pub written-not : (x : Read (Counted A)) (k p : ℕ) → Written cells code u r m x → r ≡ Refused k p → x ≡ refused k p
+  unfolding Written
+  written-not (got t n) k p h e =
+      let q : Done n (u + length (cells (t .tree))) (t .left) ≡ Refused k p = sym (h .0) ∙ e in
+      absurd (let z : _≡_ {A = ℕ} 0 1 = cc in let y : ⊥ = omega arith in y)
+  written-not (refused j q) k p h e =
+      let o : Refused j q ≡ Refused k p = sym h ∙ e in
+      let i : j ≡ k = cc in
+      let n : q ≡ p = cc in
+      rw (i, n)
 
 -- ---- the ways through the operands
 
@@ -129,7 +130,7 @@ module _ (s : List ℕ) (d : ℕ) (f : ℕ → Reader (Counted Expr)) (m e : ℕ
 
 module _ (code : List ℕ) (u : ℕ) (x : Counted Expr) where
   pub wrote-lone : (n v l : ℕ) (m₁ m : List ℕ) → v ≡ u + 1 + length (cellsOf (x .tree)) → l ≡ x .left → m₁ ≡ sets code (u + 1) (cellsOf (x .tree)) → m ≡ set m₁ u 0
-      → Written code u (Done n v l) m (got (counts (minus (x .tree)) (x .left)) n)
+      → Written cellsOf code u (Done n v l) m (got (counts (minus (x .tree)) (x .left)) n)
   unfolding Written cellsOf
   wrote-lone n v l m₁ m e q h k =
       let one : u + 1 ≡ suc u = omega arith in
@@ -151,7 +152,7 @@ module _ (code : List ℕ) (u : ℕ) (x : Counted Expr) where
     long-two = omega (arith, length-append (cellsOf (x .tree)) (cellsOf (y .tree)))
 
     pub wrote-two : (negative : Bool) (r : Progress) (m : List ℕ) (z : Read ℕ) → Joined m₂ u w l negative r m z
-        → Written code u r m (andThen z (λ _ n. got (counts (both negative (x .tree) (y .tree)) (y .left)) n))
+        → Written cellsOf code u r m (andThen z (λ _ n. got (counts (both negative (x .tree) (y .tree)) (y .left)) n))
     unfolding Written Joined cellsOf
     wrote-two true r m (got p n) h = (rw (← el, ← long-two) (h .0), h .1 ∙ cells-two 1)
     wrote-two false r m (got p n) h = (rw (← el, ← long-two) (h .0), h .1 ∙ cells-two 2)

@@ -1,9 +1,9 @@
 -- A reference has as many arguments as its head wants, and its cells are those of its parts. Assumes nothing.
-use mathlib.Core.Path.{_≡_, refl, ap, _∙_}
+use mathlib.Core.Path.{_≡_, refl, ap}
 use mathlib.Core.List.{List, [], _∷_}
 use Prim.Native.Nat.{ℕ, suc, _+_}
 use native.Mathlib.Omega.{arith}
-use lib.ListN.{length, set, length-set}
+use lib.ListN.{length, set}
 use Rattle.text.specs.Tokens.{tokenAt}
 use Rattle.text.specs.declared.tokens.Token.{Token}
 use Rattle.text.specs.declared.tokens.Token.the-variants as T
@@ -63,7 +63,3 @@ module _ (code : List ℕ) (u tag i arity : ℕ) (r : Answer) (m : List ℕ) whe
       → Wrote (refCells tag) code u r m (reference s d c t i at)
   unfolding reference
   reference-wrote s d c t at e h = referred (arguments s d c (wantedOf (entryAt t i)) at) (rw e (many s d c (wantedOf (entryAt t i)) at)) h
-
--- two cells that are stored leave the length as it was
-pub twice : (l l₁ l₂ : List ℕ) (i a j b : ℕ) → l₁ ≡ set l i a → l₂ ≡ set l₁ j b → length l₂ ≡ length l
-twice l l₁ l₂ i a j b e q = ap length q ∙ length-set l₁ j b ∙ ap length e ∙ length-set l i a

@@ -30,11 +30,11 @@ cellsOf (minus a) = 0 ∷ cellsOf a
 cellsOf (less a b) = 1 ∷ (cellsOf a ++ cellsOf b)
 cellsOf (plus a b) = 2 ∷ (cellsOf a ++ cellsOf b)
 
--- an expression was read, and its cells were stored from `used` on: the place after, the first cell that is free, how many may follow
-unfoldable pub Written : List ℕ → ℕ → Progress → List ℕ → Read (Counted Expr) → Type 0
-Written code used r code′ (got x n) =
-    (r ≡ Done n (used + length (cellsOf (x .tree))) (x .left)) × (code′ ≡ sets code used (cellsOf (x .tree)))
-Written code used r code′ (refused k p) = r ≡ Refused k p
+-- a tree was read, and its cells were stored from `used` on: the place after, the first cell that is free, how many may follow
+unfoldable pub Written : {A : Type 0} → (A → List ℕ) → List ℕ → ℕ → Progress → List ℕ → Read (Counted A) → Type 0
+Written cells code used r code′ (got x n) =
+    (r ≡ Done n (used + length (cells (x .tree))) (x .left)) × (code′ ≡ sets code used (cells (x .tree)))
+Written cells code used r code′ (refused k p) = r ≡ Refused k p
 
 -- the place after is past `from` and within n bytes; of cells were written at most `more` more than bytes were read
 unfoldable pub Spent : ℕ → ℕ → ℕ → ℕ → Progress → Type 0

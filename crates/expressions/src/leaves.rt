@@ -1,7 +1,6 @@
 // What an expression is made of besides expressions: functions, and the ends of operands.
 use crate::references;
 use due::Answer;
-use terms::arguments;
 use terms::scope;
 use terms::scope::Counts;
 use text::runs;
@@ -16,7 +15,7 @@ ghost use Rattle.text.specs.Tokens.{tokenAt};
 ghost use Rattle.due.specs.Answers.{answerOf, Ahead};
 ghost use Rattle.grammar.specs.Terms.{Scope, functionAt, operandsEnd};
 ghost use Rattle.terms.specs.Scoped.{Scoped, Scopes};
-ghost use Rattle.expressions.specs.Codes.{Written, Spent, loneEnd, passed, Joined};
+ghost use Rattle.expressions.specs.Codes.{cellsOf, Written, Spent, loneEnd, passed, Joined};
 
 pub enum Progress {
     // the place after what was read, the first cell that is free, and how many operators and operands may follow
@@ -47,8 +46,8 @@ pub fn function_at(
     used: usize,
     left: usize,
 ) -> Progress
-    requires { ⌜ (e ≤ length (now text)) × Scopes (now tables) counts × (used + 2 + (length (now text) - e) ≤ length (now code)) × (length (now code) ≤ 65536) ⌝ }
-    ensures { λ r. ⌜ ((c : Scope) → Scoped (now (tables .entry)) counts c → Written (now (code .entry)) used r (now (code .exit)) (functionAt (now (text .entry)) d c left p e e)) × Spent 0 (length (now (text .entry))) (used + 2) e r × (length (now (code .exit)) ≡ length (now (code .entry))) ⌝ }
+    requires { ⌜ (e ≤ length (now text)) × Scopes (now tables) counts × (used + 2 + (length (now text) - e) ≤ 18446744073709551615) ⌝ }
+    ensures { λ r. ⌜ ((c : Scope) → Scoped (now (tables .entry)) counts c → Written cellsOf (now (code .entry)) used r (now (code .exit)) (functionAt (now (text .entry)) d c left p e e)) × Spent 0 (length (now (text .entry))) (used + 2) e r ⌝ }
 {
     let n = counts.functions;
     let f = scope::find_in(tables, 4294, 4902, n, runs::part_of(text, p, e));
@@ -107,14 +106,14 @@ pub fn joined_at(
     free: usize,
     left: usize,
 ) -> Progress
-    requires { ⌜ (from ≤ length (now text)) × (used < length (now code)) ⌝ }
-    ensures { λ r. ⌜ Joined (now (code .entry)) used free left minus r (now (code .exit)) (operandsEnd (now (text .entry)) d left from) × Spent 0 (length (now (text .entry))) free from r × (length (now (code .exit)) ≡ length (now (code .entry))) ⌝ }
+    requires { ⌜ from ≤ length (now text) ⌝ }
+    ensures { λ r. ⌜ Joined (now (code .entry)) used free left minus r (now (code .exit)) (operandsEnd (now (text .entry)) d left from) × Spent 0 (length (now (text .entry))) free from r ⌝ }
 {
     let a = operands_end(text, from, d, left);
     let Answer::Done(n, _) = a else {
         return progress_of(a, left);
     };
-    arguments::put(code, used, operator_cell(minus));
+    literals::put(code, used, operator_cell(minus));
     Progress::Done(n, free, left)
 }
 

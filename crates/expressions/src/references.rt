@@ -29,11 +29,11 @@ pub fn reference_at(
     code: &mut [u8],
     used: usize,
 ) -> Answer
-    requires { ⌜ (from ≤ length (now text)) × Scopes (now tables) counts × Signatures (now tables) off n × (i < n) × (tag ≤ 251) × (used + 2 + (length (now text) - from) ≤ length (now code)) × (length (now code) ≤ 65536) ⌝ }
-    ensures { λ r. ⌜ ((c : Scope) (m to : ℕ) (t : Table) → Scoped (now (tables .entry)) counts c → Holds m (part (now (tables .entry)) off to) n t → AllSigned t → Wrote (refCells tag) (now (code .entry)) used r (now (code .exit)) (reference (now (text .entry)) d c t i from)) × Ahead (length (now (text .entry))) from r × Room (used + 2) from r × (length (now (code .exit)) ≡ length (now (code .entry))) ⌝ }
+    requires { ⌜ (from ≤ length (now text)) × Scopes (now tables) counts × Signatures (now tables) off n × (i < n) × (tag ≤ 251) × (used + 2 + (length (now text) - from) ≤ 18446744073709551615) ⌝ }
+    ensures { λ r. ⌜ ((c : Scope) (m to : ℕ) (t : Table) → Scoped (now (tables .entry)) counts c → Holds m (part (now (tables .entry)) off to) n t → AllSigned t → Wrote (refCells tag) (now (code .entry)) used r (now (code .exit)) (reference (now (text .entry)) d c t i from)) × Ahead (length (now (text .entry))) from r × Room (used + 2) from r ⌝ }
 {
     let arity = scope::kept_in(tables, off, n, i, 0);
-    arguments::put(code, used, tag + arity);
-    arguments::put(code, used + 1, i);
+    literals::put(code, used, tag + arity);
+    literals::put(code, used + 1, i);
     arguments::arguments_at(text, from, d, tables, counts, off, n, i, code, used + 2)
 }

@@ -4,7 +4,6 @@ use crate::heads::Begun;
 use crate::leaves;
 use crate::leaves::Progress;
 use due::Answer;
-use terms::arguments;
 use terms::scope::Counts;
 use words::spelling::Found;
 ghost use mathlib.Core.Path.{_≡_};
@@ -27,8 +26,8 @@ pub fn expr_at(
     used: usize,
     left: usize,
 ) -> Progress
-    requires { ⌜ (from ≤ length (now text)) × Scopes (now tables) counts × (used + (length (now text) - from) + 1 ≤ length (now code)) × (length (now code) ≤ 65536) ⌝ }
-    ensures { λ r. ⌜ ((c : Scope) → Scoped (now (tables .entry)) counts c → Written (now (code .entry)) used r (now (code .exit)) (expr d (now (text .entry)) c left from)) × Spent 1 (length (now (text .entry))) used from r × (length (now (code .exit)) ≡ length (now (code .entry))) ⌝ }
+    requires { ⌜ (from ≤ length (now text)) × Scopes (now tables) counts × (used + (length (now text) - from) + 1 ≤ 18446744073709551615) ⌝ }
+    ensures { λ r. ⌜ ((c : Scope) → Scoped (now (tables .entry)) counts c → Written cellsOf (now (code .entry)) used r (now (code .exit)) (expr d (now (text .entry)) c left from)) × Spent 1 (length (now (text .entry))) used from r ⌝ }
 {
     let b = heads::begun_at(text, from, d, left);
     match b {
@@ -43,7 +42,7 @@ pub fn expr_at(
                 return x;
             };
             if let Found::At(n) = leaves::lone_end(text, after, minus) {
-                arguments::put(code, used, 0);
+                literals::put(code, used, 0);
                 return Progress::Done(n, v, l);
             }
             let y = expr_at(text, after, d - 1, tables, counts, code, v, l);
@@ -65,8 +64,8 @@ pub fn expression_at(
     code: &mut [u8],
     used: usize,
 ) -> Answer
-    requires { ⌜ (from ≤ length (now text)) × Scopes (now tables) counts × (used + (length (now text) - from) + 1 ≤ length (now code)) × (length (now code) ≤ 65536) ⌝ }
-    ensures { λ r. ⌜ ((c : Scope) → Scoped (now (tables .entry)) counts c → Wrote cellsOf (now (code .entry)) used r (now (code .exit)) (expression (now (text .entry)) d c from)) × Ahead (length (now (text .entry))) from r × Over used from r × (length (now (code .exit)) ≡ length (now (code .entry))) ⌝ }
+    requires { ⌜ (from ≤ length (now text)) × Scopes (now tables) counts × (used + (length (now text) - from) + 1 ≤ 18446744073709551615) ⌝ }
+    ensures { λ r. ⌜ ((c : Scope) → Scoped (now (tables .entry)) counts c → Wrote cellsOf (now (code .entry)) used r (now (code .exit)) (expression (now (text .entry)) d c from)) × Ahead (length (now (text .entry))) from r × Over used from r ⌝ }
 {
     let x = expr_at(text, from, d, tables, counts, code, used, 16);
     match x {

@@ -40,7 +40,7 @@ pub record Action : Type 0 where
   pub declared : Entry
   pub lasting : Lasting
   pub conditions : List (Timed Cond)
-  pub effects : List (Timed Effect)
+  pub effects : List (Timed (List Effect))
 
 -- ---- the parts of a durative action, f reading what stands in one
 
@@ -131,11 +131,11 @@ durationRule s c = do
   give x
 
 -- whether a field follows; if so its word is read
-unfoldable pub field : List ℕ → String → Reader Bool
-field s w = do
+unfoldable pub fieldOf : List ℕ → List ℕ → Reader Bool
+fieldOf s w = do
   t ← peek s
   onWord t
-      (λ k p e. cond (sameWord (part s p e) (bytes w))
+      (λ k p e. cond (sameWord (part s p e) w)
       (do
         _ ← token s
         give true)
@@ -144,7 +144,7 @@ field s w = do
 
 abbrev pub whenField : {A : Type 0} → List ℕ → String → Reader (List A) → Reader (List A)
 whenField s w r = do
-  b ← field s w
+  b ← fieldOf s (bytes w)
   cond b r (give [])
 
 -- "32 single conditions and 16 effects per action"
@@ -161,20 +161,10 @@ oneCondition s c = do
   x ← condition 14 s c 32
   give (atStart (x .tree) ∷ [])
 
-abbrev pub oneInstant : List ℕ → Scope → Reader (List (Timed Effect))
+abbrev pub oneInstant : List ℕ → Scope → Reader (List (Timed (List Effect)))
 oneInstant s c = do
   x ← effect 14 s c 16
-  give (map atStart (x .tree))
-
--- the effects of one part, each with the part's time
-abbrev pub spread : List (Timed (List Effect)) → List (Timed Effect)
-spread [] = []
-spread (x ∷ xs) = map (λ e. record { when = x .when; what = e }) (x .what) ++ spread xs
-
-abbrev pub timedEffects : List ℕ → Scope → Reader (List (Timed Effect))
-timedEffects s c = do
-  xs ← treeOf (parts s false (λ d n. effect d s c n) 14 16)
-  give (spread xs)
+  give (atStart (x .tree) ∷ [])
 
 -- the scope of an action with the variables vs
 abbrev pub within : Scope → Table → Scope
@@ -193,7 +183,7 @@ durativeBody s c e = do
   _ ← fixed s 14 ":duration"
   x ← durationRule s c
   cs ← whenField s ":condition" (treeOf (parts s true (λ d n. condition d s c n) 14 32))
-  es ← whenField s ":effect" (timedEffects s c)
+  es ← whenField s ":effect" (treeOf (parts s false (λ d n. effect d s c n) 14 16))
   _ ← closing s 14
   give (record { declared = e; lasting = rule x; conditions = cs; effects = es })
 

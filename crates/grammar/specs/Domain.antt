@@ -166,10 +166,14 @@ vocabulary s = do
   fs ← declaredSection s (bytes ":functions") ts 16 2
   give (record { name = n .word; types = ts; constants = os; predicates = ps; functions = fs })
 
+-- what may be named where its actions begin
+abbrev pub scopeIn : Vocabulary → Scope
+scopeIn v = record { types = v .types; objects = v .constants; predicates = v .predicates; functions = v .functions; variables = []; inAction = false }
+
 unfoldable pub domainText : List ℕ → Reader Domain
 domainText s = do
   v ← vocabulary s
-  as′ ← actionsTo (length s + 1) s (record { types = v .types; objects = v .constants; predicates = v .predicates; functions = v .functions; variables = []; inAction = false }) []
+  as′ ← actionsTo (length s + 1) s (scopeIn v) []
   _ ← ending s
   give (record { name = v .name; types = v .types; constants = v .constants; predicates = v .predicates; functions = v .functions; actions = as′ })
 

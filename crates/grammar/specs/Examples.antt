@@ -21,9 +21,9 @@ use Rattle.grammar.specs.Lists.{typeNamed, typeDue, group, item, declare
 use Rattle.grammar.specs.Terms.{object, variable, Ref, number, value, argument, fits, arguments, reference, counted, operandsEnd, expr, expression}
 use Rattle.grammar.specs.Conditions.{all, atom, compare, atLeast, atomAt, comparison, sameObjects, equality, negation, listTo, conjunction, condition}
 use Rattle.grammar.specs.Effects.{becomes, changes, assign, raise, becomesAt, target, changeAt, deletion, effectsTo, effect}
-use Rattle.grammar.specs.Actions.{start, whole, end, moment, rule, timeOf, partBehind, partAt, partsTo, parts, durationRule, field, simpleBody, durativeBody, action}
+use Rattle.grammar.specs.Actions.{start, whole, end, moment, rule, timeOf, partBehind, partAt, partsTo, parts, durationRule, fieldOf, simpleBody, durativeBody, action}
 use Rattle.grammar.specs.Domain.{Domain, beginsWith, ending, headingOf, flagsTo, actionsTo, flagsSection, typesSection, constantsSection, declaredSection, vocabulary, domainText, readDomain}
-use Rattle.grammar.specs.Problem.{Valued, Problem, sumOf, firstOf, digits, indexOf, isGiven, initTo, sectionDue, initAndGoal, problemText, readProblem}
+use Rattle.grammar.specs.Problem.{Valued, Problem, sumOf, firstOf, digits, indexOf, isGiven, initTo, sectionDueOf, initAndGoal, premises, problemText, readProblem}
 
 benchText : List ℕ
 benchText = bytes "(define (domain bench) (:requirements :strips :typing :fluents :durative-actions) (:types pump) (:predicates (ready ?p - pump) (on ?p - pump)) (:functions (lock ?p - pump) (doses ?p - pump)) (:durative-action dose :parameters (?p - pump) :duration (= ?duration (lock ?p)) :condition (and (at start (ready ?p)) (over all (on ?p))) :effect (and (at start (not (ready ?p))) (at end (ready ?p)) (at end (increase (doses ?p) 1)))) (:action off :parameters (?p - pump) :precondition (on ?p) :effect (not (on ?p))) (:action note :parameters (?p - pump) :effect (increase (doses ?p) 1)) (:action zero :parameters (?p - pump) :effect (assign (doses ?p) 0)))"
@@ -49,17 +49,17 @@ bench = record {
         declared = pump (bytes "dose");
         lasting = rule (value (ofPump 0));
         conditions = record { when = start; what = atom true (ofPump 0) } ∷ record { when = whole; what = atom true (ofPump 1) } ∷ [];
-        effects = record { when = start; what = becomes false (ofPump 0) } ∷ record { when = end; what = becomes true (ofPump 0) }
-            ∷ record { when = end; what = changes raise (ofPump 1) (number (pos 1000)) } ∷ [];
+        effects = record { when = start; what = becomes false (ofPump 0) ∷ [] } ∷ record { when = end; what = becomes true (ofPump 0) ∷ [] }
+            ∷ record { when = end; what = changes raise (ofPump 1) (number (pos 1000)) ∷ [] } ∷ [];
       }
-      ∷ record { declared = pump (bytes "off"); lasting = moment; conditions = record { when = start; what = atom true (ofPump 1) } ∷ []; effects = record { when = start; what = becomes false (ofPump 1) } ∷ [] }
-      ∷ record { declared = pump (bytes "note"); lasting = moment; conditions = []; effects = record { when = start; what = changes raise (ofPump 1) (number (pos 1000)) } ∷ [] }
-      ∷ record { declared = pump (bytes "zero"); lasting = moment; conditions = []; effects = record { when = start; what = changes assign (ofPump 1) (number (pos 0)) } ∷ [] }
+      ∷ record { declared = pump (bytes "off"); lasting = moment; conditions = record { when = start; what = atom true (ofPump 1) } ∷ []; effects = record { when = start; what = becomes false (ofPump 1) ∷ [] } ∷ [] }
+      ∷ record { declared = pump (bytes "note"); lasting = moment; conditions = []; effects = record { when = start; what = changes raise (ofPump 1) (number (pos 1000)) ∷ [] } ∷ [] }
+      ∷ record { declared = pump (bytes "zero"); lasting = moment; conditions = []; effects = record { when = start; what = changes assign (ofPump 1) (number (pos 0)) ∷ [] } ∷ [] }
       ∷ [];
 }
 
 bench-read : readDomain benchText ≡ got bench 648
-unfolding bytes kindOf lowerOf inRun sameWord nameByte nameBytes isName placeFrom wordsOf wordIn headOf isFlag isListed isReserved isOperator gapStep gap gapEnd run runEnd leading decimal scaleOf fractionOf numberFrom numberOf beginsNumber classOf sizedOf numberToken domainWord isPast bracketOf tokenAt spotAt lookup fresh declared isBelow retype opening closing wordDue anyName newName typeNamed typeDue group item declare waiting typed namesTo variablesTo typesTo declaration declarations argument fits arguments reference counted operandsEnd expr expression atomAt comparison sameObjects equality negation listTo conjunction condition becomesAt target changeAt deletion effectsTo effect timeOf partBehind partAt partsTo parts durationRule field simpleBody durativeBody action beginsWith ending headingOf flagsTo actionsTo flagsSection typesSection constantsSection declaredSection vocabulary domainText readDomain benchText bench pump ofPump
+unfolding bytes kindOf lowerOf inRun sameWord nameByte nameBytes isName placeFrom wordsOf wordIn headOf isFlag isListed isReserved isOperator gapStep gap gapEnd run runEnd leading decimal scaleOf fractionOf numberFrom numberOf beginsNumber classOf sizedOf numberToken domainWord isPast bracketOf tokenAt spotAt lookup fresh declared isBelow retype opening closing wordDue anyName newName typeNamed typeDue group item declare waiting typed namesTo variablesTo typesTo declaration declarations argument fits arguments reference counted operandsEnd expr expression atomAt comparison sameObjects equality negation listTo conjunction condition becomesAt target changeAt deletion effectsTo effect timeOf partBehind partAt partsTo parts durationRule fieldOf simpleBody durativeBody action beginsWith ending headingOf flagsTo actionsTo flagsSection typesSection constantsSection declaredSection vocabulary domainText readDomain benchText bench pump ofPump
 bench-read = refl
 
 valued : ℕ → ℕ → Valued
@@ -73,7 +73,7 @@ two-doses = record {
 }
 
 problem-read : readProblem problemBytes bench ≡ got two-doses 195
-unfolding bytes kindOf lowerOf inRun sameWord nameByte nameBytes isName placeFrom wordsOf wordIn headOf isFlag isListed isReserved isOperator gapStep gap gapEnd run runEnd leading decimal scaleOf fractionOf numberFrom numberOf beginsNumber classOf sizedOf numberToken domainWord isPast bracketOf tokenAt spotAt lookup fresh declared isBelow retype opening closing wordDue anyName newName typeNamed typeDue group item declare waiting typed namesTo variablesTo typesTo declaration declarations argument fits arguments reference counted operandsEnd expr expression atomAt comparison sameObjects equality negation listTo conjunction condition becomesAt target changeAt deletion effectsTo effect timeOf partBehind partAt partsTo parts durationRule field simpleBody durativeBody action beginsWith ending headingOf flagsTo actionsTo flagsSection typesSection constantsSection declaredSection vocabulary domainText readDomain sumOf firstOf digits indexOf isGiven initTo sectionDue initAndGoal problemText readProblem problemBytes bench pump ofPump two-doses valued
+unfolding bytes kindOf lowerOf inRun sameWord nameByte nameBytes isName placeFrom wordsOf wordIn headOf isFlag isListed isReserved isOperator gapStep gap gapEnd run runEnd leading decimal scaleOf fractionOf numberFrom numberOf beginsNumber classOf sizedOf numberToken domainWord isPast bracketOf tokenAt spotAt lookup fresh declared isBelow retype opening closing wordDue anyName newName typeNamed typeDue group item declare waiting typed namesTo variablesTo typesTo declaration declarations argument fits arguments reference counted operandsEnd expr expression atomAt comparison sameObjects equality negation listTo conjunction condition becomesAt target changeAt deletion effectsTo effect timeOf partBehind partAt partsTo parts durationRule fieldOf simpleBody durativeBody action beginsWith ending headingOf flagsTo actionsTo flagsSection typesSection constantsSection declaredSection vocabulary domainText readDomain sumOf firstOf digits indexOf isGiven initTo sectionDueOf initAndGoal premises problemText readProblem problemBytes bench pump ofPump two-doses valued
 problem-read = refl
 
 -- ---- a text for each refusal: its number and its place
@@ -121,7 +121,7 @@ badDomains =
     ∷ []
 
 domains-refused : readAll readDomain badDomains ≡ wanted badDomains
-unfolding bytes kindOf lowerOf inRun sameWord nameByte nameBytes isName placeFrom wordsOf wordIn headOf isFlag isListed isReserved isOperator gapStep gap gapEnd run runEnd leading decimal scaleOf fractionOf numberFrom numberOf beginsNumber classOf sizedOf numberToken domainWord isPast bracketOf tokenAt spotAt lookup fresh declared isBelow retype opening closing wordDue anyName newName typeNamed typeDue group item declare waiting typed namesTo variablesTo typesTo declaration declarations argument fits arguments reference counted operandsEnd expr expression atomAt comparison sameObjects equality negation listTo conjunction condition becomesAt target changeAt deletion effectsTo effect timeOf partBehind partAt partsTo parts durationRule field simpleBody durativeBody action beginsWith ending headingOf flagsTo actionsTo flagsSection typesSection constantsSection declaredSection vocabulary domainText readDomain badDomains
+unfolding bytes kindOf lowerOf inRun sameWord nameByte nameBytes isName placeFrom wordsOf wordIn headOf isFlag isListed isReserved isOperator gapStep gap gapEnd run runEnd leading decimal scaleOf fractionOf numberFrom numberOf beginsNumber classOf sizedOf numberToken domainWord isPast bracketOf tokenAt spotAt lookup fresh declared isBelow retype opening closing wordDue anyName newName typeNamed typeDue group item declare waiting typed namesTo variablesTo typesTo declaration declarations argument fits arguments reference counted operandsEnd expr expression atomAt comparison sameObjects equality negation listTo conjunction condition becomesAt target changeAt deletion effectsTo effect timeOf partBehind partAt partsTo parts durationRule fieldOf simpleBody durativeBody action beginsWith ending headingOf flagsTo actionsTo flagsSection typesSection constantsSection declaredSection vocabulary domainText readDomain badDomains
 domains-refused = refl
 
 badProblems : List Row
@@ -136,10 +136,10 @@ badProblems =
     ∷ []
 
 problems-refused : readAll (λ s. readProblem s bench) badProblems ≡ wanted badProblems
-unfolding bytes kindOf lowerOf inRun sameWord nameByte nameBytes isName placeFrom wordsOf wordIn headOf isFlag isListed isReserved isOperator gapStep gap gapEnd run runEnd leading decimal scaleOf fractionOf numberFrom numberOf beginsNumber classOf sizedOf numberToken domainWord isPast bracketOf tokenAt spotAt lookup fresh declared isBelow retype opening closing wordDue anyName newName typeNamed typeDue group item declare waiting typed namesTo variablesTo typesTo declaration declarations argument fits arguments reference counted operandsEnd expr expression atomAt comparison sameObjects equality negation listTo conjunction condition becomesAt target changeAt deletion effectsTo effect timeOf partBehind partAt partsTo parts durationRule field simpleBody durativeBody action beginsWith ending headingOf flagsTo actionsTo flagsSection typesSection constantsSection declaredSection vocabulary domainText readDomain sumOf firstOf digits indexOf isGiven initTo sectionDue initAndGoal problemText readProblem badProblems bench pump
+unfolding bytes kindOf lowerOf inRun sameWord nameByte nameBytes isName placeFrom wordsOf wordIn headOf isFlag isListed isReserved isOperator gapStep gap gapEnd run runEnd leading decimal scaleOf fractionOf numberFrom numberOf beginsNumber classOf sizedOf numberToken domainWord isPast bracketOf tokenAt spotAt lookup fresh declared isBelow retype opening closing wordDue anyName newName typeNamed typeDue group item declare waiting typed namesTo variablesTo typesTo declaration declarations argument fits arguments reference counted operandsEnd expr expression atomAt comparison sameObjects equality negation listTo conjunction condition becomesAt target changeAt deletion effectsTo effect timeOf partBehind partAt partsTo parts durationRule fieldOf simpleBody durativeBody action beginsWith ending headingOf flagsTo actionsTo flagsSection typesSection constantsSection declaredSection vocabulary domainText readDomain sumOf firstOf digits indexOf isGiven initTo sectionDueOf initAndGoal premises problemText readProblem badProblems bench pump
 problems-refused = refl
 
 -- a text of 32,769 bytes is refused at 32,768, if nothing is before that
 long-refused : readDomain (bytes "(define (domain d))" ++ replicate 32750 (code " ")) ≡ refused 1 32768
-unfolding bytes kindOf lowerOf inRun sameWord nameByte nameBytes isName placeFrom wordsOf wordIn headOf isFlag isListed isReserved isOperator gapStep gap gapEnd run runEnd leading decimal scaleOf fractionOf numberFrom numberOf beginsNumber classOf sizedOf numberToken domainWord isPast bracketOf tokenAt spotAt lookup fresh declared isBelow retype opening closing wordDue anyName newName typeNamed typeDue group item declare waiting typed namesTo variablesTo typesTo declaration declarations argument fits arguments reference counted operandsEnd expr expression atomAt comparison sameObjects equality negation listTo conjunction condition becomesAt target changeAt deletion effectsTo effect timeOf partBehind partAt partsTo parts durationRule field simpleBody durativeBody action beginsWith ending headingOf flagsTo actionsTo flagsSection typesSection constantsSection declaredSection vocabulary domainText readDomain
+unfolding bytes kindOf lowerOf inRun sameWord nameByte nameBytes isName placeFrom wordsOf wordIn headOf isFlag isListed isReserved isOperator gapStep gap gapEnd run runEnd leading decimal scaleOf fractionOf numberFrom numberOf beginsNumber classOf sizedOf numberToken domainWord isPast bracketOf tokenAt spotAt lookup fresh declared isBelow retype opening closing wordDue anyName newName typeNamed typeDue group item declare waiting typed namesTo variablesTo typesTo declaration declarations argument fits arguments reference counted operandsEnd expr expression atomAt comparison sameObjects equality negation listTo conjunction condition becomesAt target changeAt deletion effectsTo effect timeOf partBehind partAt partsTo parts durationRule fieldOf simpleBody durativeBody action beginsWith ending headingOf flagsTo actionsTo flagsSection typesSection constantsSection declaredSection vocabulary domainText readDomain
 long-refused = refl

@@ -131,19 +131,22 @@ abbrev pub judgesSums : List ℕ → ℕ → ℕ → Bool
 judgesSums s p e = sameWord (part s p e) (bytes ":init") || sameWord (part s p e) (bytes ":goal")
 
 -- the section w is due. Another word is 3, but 12 if it is `:init` or `:goal` and a sum is passed already
-abbrev pub dueWord : List ℕ → Scope → String → ℕ → ℕ → Reader ℕ
+abbrev pub dueWord : List ℕ → Scope → List ℕ → ℕ → ℕ → Reader ℕ
 dueWord s c w p e =
-    cond (sameWord (part s p e) (bytes w)) (give p)
+    cond (sameWord (part s p e) w) (give p)
     (cond (judgesSums s p e) (do
       _ ← sumsAt c p
       refuse 3 p)
     (refuse 3 p))
 
-unfoldable pub sectionDue : List ℕ → Scope → String → Reader ℕ
-sectionDue s c w = do
+unfoldable pub sectionDueOf : List ℕ → Scope → List ℕ → Reader ℕ
+sectionDueOf s c w = do
   _ ← opening s 15
   t ← token s
   onWord t (λ k p e. dueWord s c w p e) (wrong 14 t)
+
+abbrev pub sectionDue : List ℕ → Scope → String → Reader ℕ
+sectionDue s c w = sectionDueOf s c (bytes w)
 
 pub record Problem : Type 0 where
   pub objects : Table
@@ -189,11 +192,16 @@ initAndGoal s c = do
   g ← goalTo s c
   give (record { objects = c .objects; init = x; goal = g })
 
-unfoldable pub problemText : List ℕ → Domain → Reader Problem
-problemText s d = do
+-- what a problem has before init: the objects, behind the domain's constants
+unfoldable pub premises : List ℕ → Domain → Reader Table
+premises s d = do
   _ ← heading s "problem"
   _ ← ofDomain s d
-  os ← section s ":objects" (d .constants) (namesTo s (d .types) 64 (d .constants))
+  section s ":objects" (d .constants) (namesTo s (d .types) 64 (d .constants))
+
+unfoldable pub problemText : List ℕ → Domain → Reader Problem
+problemText s d = do
+  os ← premises s d
   p ← initAndGoal s (scopeOf d os)
   _ ← ending s
   give p

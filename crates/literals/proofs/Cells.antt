@@ -1,6 +1,6 @@
 -- Signs, and bytes stored one by one. Assumes nothing.
 use mathlib.Core.Path.{_≡_, refl, sym, ap, _∙_}
-use mathlib.Core.List.{List}
+use mathlib.Core.List.{List, [], _∷_}
 use mathlib.Core.Bool.{Bool, true, false}
 use Prim.Native.Nat.{ℕ, zero, suc, _+_, _-_, _/_, _%_, _≤_, _<_}
 use native.Mathlib.Omega.{arith}
@@ -39,6 +39,12 @@ abs-most (pos n) k h = omega arith
 abs-most (negsuc n) k h = omega arith
 
 -- ---- bytes
+
+-- past the end nothing is stored
+pub set-past : (l : List ℕ) (i x : ℕ) → length l ≤ i → set l i x ≡ l
+set-past [] i x h = refl
+set-past (y ∷ l) zero x h = absurd (let z : ⊥ = omega arith in z)
+set-past (y ∷ l) (suc i) x h = ap (λ t. y ∷ t) (set-past l i x (omega arith))
 
 pub bytes-length : (k v : ℕ) → length (bytesOf k v) ≡ k
 unfolding bytesOf

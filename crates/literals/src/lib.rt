@@ -3,10 +3,20 @@ ghost use mathlib.Core.Path.{_≡_};
 ghost use Prim.Native.Nat.{ℕ, _+_, _≤_, _<_, _^_};
 ghost use mathlib.Core.List.{_∷_};
 ghost use lib.IntN.{natAbs, pos};
-ghost use lib.ListN.{length};
+ghost use lib.ListN.{length, set};
 ghost use lib.Seq.{sets};
 ghost use lib.Signed.{mag, ltZ};
 ghost use Rattle.literals.specs.Literal.{signBase, sizeOf, bytesOf, numberCells};
+
+// One cell; past the code's end nothing is stored.
+pub fn put(code: &mut [u8], at: usize, x: usize)
+    requires { ⌜ x < 256 ⌝ }
+    ensures { λ _. ⌜ now (code .exit) ≡ set (now (code .entry)) at x ⌝ }
+{
+    if at < code.len() {
+        code[at] = x as u8;
+    }
+}
 
 fn is_negative(z: i64) -> bool
     ensures { λ r. ⌜ r ≡ ltZ z (pos 0) ⌝ }
@@ -57,13 +67,13 @@ fn size_of(v: usize) -> usize
 
 // So many bytes of a number, the lowest first.
 fn put_bytes(code: &mut [u8], at: usize, k: usize, v: usize)
-    requires { ⌜ (at + k ≤ length (now code)) × (length (now code) ≤ 65536) ⌝ }
+    requires { ⌜ at + k ≤ 18446744073709551615 ⌝ }
     ensures { λ _. ⌜ now (code .exit) ≡ sets (now (code .entry)) at (bytesOf k v) ⌝ }
 {
     let mut i = 0;
     let mut rest = v;
     while i < k {
-        code[at + i] = (rest % 256) as u8;
+        put(code, at + i, rest % 256);
         rest = rest / 256;
         i += 1;
     }
@@ -71,18 +81,18 @@ fn put_bytes(code: &mut [u8], at: usize, k: usize, v: usize)
 
 // A literal: the first cell is `base` and the count of bytes.
 fn put_literal(code: &mut [u8], at: usize, base: usize, v: usize) -> usize
-    requires { ⌜ (base ≤ 40) × (at + 1 + sizeOf v ≤ length (now code)) × (length (now code) ≤ 65536) ⌝ }
+    requires { ⌜ (base ≤ 40) × (at + 1 + sizeOf v ≤ 18446744073709551615) ⌝ }
     ensures { λ r. ⌜ (now (code .exit) ≡ sets (now (code .entry)) at ((base + sizeOf v) ∷ bytesOf (sizeOf v) v)) × (r ≡ at + 1 + sizeOf v) ⌝ }
 {
     let k = size_of(v);
-    code[at] = (base + k) as u8;
+    put(code, at, base + k);
     put_bytes(code, at + 1, k, v);
     at + 1 + k
 }
 
 // The cells of a number, stored from `at` on: the first cell that is free.
 pub fn put_number(code: &mut [u8], at: usize, z: i64) -> usize
-    requires { ⌜ (mag z < 1099511627776) × (at + length (numberCells z) ≤ length (now code)) × (length (now code) ≤ 65536) ⌝ }
+    requires { ⌜ (mag z < 1099511627776) × (at + length (numberCells z) ≤ 18446744073709551615) ⌝ }
     ensures { λ r. ⌜ (now (code .exit) ≡ sets (now (code .entry)) at (numberCells z)) × (r ≡ at + length (numberCells z)) ⌝ }
 {
     let m = magnitude(z);

@@ -9,7 +9,7 @@ use text::tokens::Word;
 use words::spelling::Found;
 ghost use mathlib.Core.Path.{_≡_};
 ghost use Prim.Native.Nat.{ℕ, _+_, _-_, _≤_, _<_};
-ghost use lib.ListN.{length, set};
+ghost use lib.ListN.{length};
 ghost use Rattle.text.specs.Runs.{part};
 ghost use Rattle.text.specs.declared.tokens.Word.the-variants as W;
 ghost use Rattle.due.specs.Answers.{Ahead};
@@ -88,14 +88,6 @@ fn fits_at(tables: &[u8], counts: Counts, x: usize, want: usize) -> bool
     scope::is_below(tables, n, type_of_cell(tables, counts, x), want)
 }
 
-// One cell.
-pub fn put(code: &mut [u8], at: usize, x: usize)
-    requires { ⌜ (at < length (now code)) × (x < 256) ⌝ }
-    ensures { λ _. ⌜ now (code .exit) ≡ set (now (code .entry)) at x ⌝ }
-{
-    code[at] = x as u8;
-}
-
 // The arguments of name i of the table from `off` on, to the closing bracket, stored from `used` on.
 pub fn arguments_at(
     text: &[u8],
@@ -109,8 +101,8 @@ pub fn arguments_at(
     code: &mut [u8],
     used: usize,
 ) -> Answer
-    requires { ⌜ (from ≤ length (now text)) × Scopes (now tables) counts × Signatures (now tables) off n × (i < n) × (used + (length (now text) - from) ≤ length (now code)) × (length (now code) ≤ 65536) ⌝ }
-    ensures { λ r. ⌜ ((c : Scope) (m to : ℕ) (t : Table) → Scoped (now (tables .entry)) counts c → Holds m (part (now (tables .entry)) off to) n t → AllSigned t → Wrote argCells (now (code .entry)) used r (now (code .exit)) (arguments (now (text .entry)) d c (wantedOf (entryAt t i)) from)) × Ahead (length (now (text .entry))) from r × Room used from r × (length (now (code .exit)) ≡ length (now (code .entry))) ⌝ }
+    requires { ⌜ (from ≤ length (now text)) × Scopes (now tables) counts × Signatures (now tables) off n × (i < n) × (used + (length (now text) - from) ≤ 18446744073709551615) ⌝ }
+    ensures { λ r. ⌜ ((c : Scope) (m to : ℕ) (t : Table) → Scoped (now (tables .entry)) counts c → Holds m (part (now (tables .entry)) off to) n t → AllSigned t → Wrote argCells (now (code .entry)) used r (now (code .exit)) (arguments (now (text .entry)) d c (wantedOf (entryAt t i)) from)) × Ahead (length (now (text .entry))) from r × Room used from r ⌝ }
 {
     let arity = scope::kept_in(tables, off, n, i, 0);
     let mut j = 0;
@@ -134,7 +126,7 @@ pub fn arguments_at(
         if !fits_at(tables, counts, x, scope::kept_in(tables, off, n, i, j + 1)) {
             return Answer::Refused(10, due::place_of(t));
         }
-        put(code, u, x);
+        literals::put(code, u, x);
         u += 1;
         at = after;
         j += 1;

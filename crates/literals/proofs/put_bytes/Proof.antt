@@ -1,5 +1,5 @@
 -- `literals::put_bytes` meets its contract. Assumes nothing.
-use mathlib.Core.Path.{_≡_, refl, sym, _∙_}
+use mathlib.Core.Path.{_≡_, refl, sym, ap, _∙_}
 use Prim.Native.Nat.{_+_, _-_, _≤_}
 use native.Mathlib.Omega.{arith}
 use native.Mathlib.Nat.{add-zero, sub-zero}
@@ -18,16 +18,13 @@ abbrev μ-loop : tie.MeasureT-loop
 μ-loop code₀ at k v i₀ rest₀ code i rest = k - i
 
 loop-holds : tie.Need-loop-holds Inv-loop μ-loop
-loop-holds c = (omega arith, refl, rw (add-zero (c .args .at), sub-zero (c .args .k)))
+loop-holds c = (omega arith, refl, rw (add-zero (c .before .args .at), sub-zero (c .before .args .k)))
 
-cast-code : tie.Need-cast-code Inv-loop μ-loop
-cast-code c = search needs
+add-put : tie.Need-add-put Inv-loop μ-loop
+add-put c = omega arith
 
-add-code : tie.Need-add-code Inv-loop μ-loop
-add-code c = omega arith
-
-slice-write-code : tie.Need-slice-write-code Inv-loop μ-loop
-slice-write-code c = omega arith
+put-requires : tie.Need-put-requires Inv-loop μ-loop
+put-requires c κs = omega arith
 
 add-i : tie.Need-add-i Inv-loop μ-loop
 add-i c = omega arith
@@ -36,13 +33,13 @@ loop-less : tie.Need-loop-less Inv-loop μ-loop
 loop-less c = omega arith
 
 loop-again : tie.Need-loop-again Inv-loop μ-loop
-loop-again c = (omega arith, simp length-set (c .before .loop .inv .1), bytes-step (c .before .loop .code) (c .before .before .args .at) (c .before .loop .i) (c .before .before .args .k) (c .before .loop .rest) (c .loop-test .taken) ∙ c .before .loop .inv .2)
+loop-again c = (omega arith, ap length (c .before .before .put .ensures) ∙ simp length-set (c .before .before .before .before .before .loop .inv .1), rw (c .before .before .put .ensures) (bytes-step (c .before .before .before .before .before .loop .code) (c .before .before .before .before .before .before .before .args .at) (c .before .before .before .before .before .loop .i) (c .before .before .before .before .before .before .before .args .k) (c .before .before .before .before .before .loop .rest) (c .before .before .before .before .loop-test .taken) ∙ c .before .before .before .before .before .loop .inv .2))
 
 same-length : tie.Need-same-length Inv-loop μ-loop
 same-length c = search needs
 
 returns : tie.Need-returns Inv-loop μ-loop
-returns c = sym (bytes-end (c .before .loop .code) (c .before .before .args .at) (c .before .loop .i) (c .before .before .args .k) (c .before .loop .rest) (c .loop-test .left)) ∙ c .before .loop .inv .2
+returns c = sym (bytes-end (c .before .loop .code) (c .before .before .before .args .at) (c .before .loop .i) (c .before .before .before .args .k) (c .before .loop .rest) (c .loop-test .left)) ∙ c .before .loop .inv .2
 
 pub put-bytes-spec : {M : Type 1} → statement M
 put-bytes-spec =
@@ -51,9 +48,8 @@ put-bytes-spec =
     Inv-loop
     μ-loop
     loop-holds
-    cast-code
-    add-code
-    slice-write-code
+    add-put
+    put-requires
     add-i
     loop-less
     loop-again

@@ -1,9 +1,5 @@
 -- `literals::put_literal` meets its contract. Assumes nothing.
-use mathlib.Core.Path.{ap, _∙_}
-use Prim.Native.Nat.{_-_}
-use native.Mathlib.Omega.{arith}
-use lib.ListN.{length, length-set}
-use lib.Seq.{length-sets}
+use mathlib.Core.Path.{_∙_}
 use native.Mathlib.Numerals.{add-one}
 use borrow.Author.Needs.{needs}
 use Rattle.literals.proofs.put_literal.Statement.{statement}
@@ -12,41 +8,37 @@ use Rattle.literals.proofs.put_literal.Tie as tie
 size-of-requires : tie.Need-size-of-requires
 size-of-requires c κs = search needs
 
-add-code : tie.Need-add-code
-add-code c = omega arith
+add-put : tie.Need-add-put
+add-put c = search needs
 
-cast-code : tie.Need-cast-code
-cast-code c = search needs
-
-slice-write-code : tie.Need-slice-write-code
-slice-write-code c = omega (arith, c .size-of .ensures .0)
+put-requires : tie.Need-put-requires
+put-requires c κs = search needs
 
 add-put-bytes : tie.Need-add-put-bytes
-add-put-bytes c = omega arith
+add-put-bytes c = search needs
 
 put-bytes-requires : tie.Need-put-bytes-requires
-put-bytes-requires c κs = simp length-set (omega (arith, c .before .size-of .ensures .0), omega arith)
+put-bytes-requires c κs = search needs
 
 add-result : tie.Need-add-result
-add-result c = omega arith
+add-result c = search needs
 
 add-result-2 : tie.Need-add-result-2
-add-result-2 c = omega arith
+add-result-2 c = search needs
 
 same-length : tie.Need-same-length
-same-length c = ap length (c .before .before .put-bytes .ensures) ∙ simp (length-sets, length-set)
+same-length c = search needs
 
 returns : tie.Need-returns
-returns c = (c .before .before .put-bytes .ensures ∙ rw (c .before .before .before .before .size-of .ensures .0, add-one (c .before .before .before .before .before .before .args .at)), rw (c .before .before .before .before .size-of .ensures .0))
+returns c = (c .before .before .put-bytes .ensures ∙ rw (c .before .before .before .before .before .before .put .ensures, c .before .before .before .before .before .before .before .before .size-of .ensures .0, add-one (c .before .before .before .before .before .before .before .before .before .before .args .at)), rw (c .before .before .before .before .before .before .before .before .size-of .ensures .0))
 
 pub put-literal-spec : {M : Type 1} → statement M
 put-literal-spec =
     tie.close
     (tie.spec
     size-of-requires
-    add-code
-    cast-code
-    slice-write-code
+    add-put
+    put-requires
     add-put-bytes
     put-bytes-requires
     add-result

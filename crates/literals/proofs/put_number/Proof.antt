@@ -23,7 +23,7 @@ add-put-literal : tie.Need-add-put-literal
 add-put-literal c = search needs
 
 put-literal-requires : tie.Need-put-literal-requires
-put-literal-requires c κs = let q = ap length (cells-whole (c .before .before .before .before .before .args .z) (rw (rw (toZ-ofZ w64 (c .before .before .before .before .before .args .z) (c .before .before .before .before .before .fits .z)) at (c .before .before .before .magnitude .ensures .0)) at (c .before .if1 .taken))) ∙ literal-length (signBase (c .before .before .before .before .before .args .z) + 16) (natAbs (c .before .before .before .before .before .args .z) / 1000) in (omega (arith, c .before .before .sign-base .ensures .1), rw (rw (toZ-ofZ w64 (c .before .before .before .before .before .args .z) (c .before .before .before .before .before .fits .z)) at (c .before .before .before .magnitude .ensures .0)) (omega (arith, c .before .before .before .before .before .pre .1, q)), c .before .before .before .before .before .pre .2)
+put-literal-requires c κs = let q = ap length (cells-whole (c .before .before .before .before .before .args .z) (rw (rw (toZ-ofZ w64 (c .before .before .before .before .before .args .z) (c .before .before .before .before .before .fits .z)) at (c .before .before .before .magnitude .ensures .0)) at (c .before .if1 .taken))) ∙ literal-length (signBase (c .before .before .before .before .before .args .z) + 16) (natAbs (c .before .before .before .before .before .args .z) / 1000) in (omega (arith, c .before .before .sign-base .ensures .1), rw (rw (toZ-ofZ w64 (c .before .before .before .before .before .args .z) (c .before .before .before .before .before .fits .z)) at (c .before .before .before .magnitude .ensures .0)) (omega (arith, c .before .before .before .before .before .pre .1, q)))
 
 same-length : tie.Need-same-length
 same-length c = ap length (c .before .before .put-literal .ensures .0) ∙ simp length-sets
@@ -32,7 +32,7 @@ returns : tie.Need-returns
 returns c = let q = ap length (cells-whole (c .before .before .before .before .before .before .before .before .args .z) (rw (rw (toZ-ofZ w64 (c .before .before .before .before .before .before .before .before .args .z) (c .before .before .before .before .before .before .before .before .fits .z)) at (c .before .before .before .before .before .before .magnitude .ensures .0)) at (c .before .before .before .before .if1 .taken))) ∙ literal-length (signBase (c .before .before .before .before .before .before .before .before .args .z) + 16) (natAbs (c .before .before .before .before .before .before .before .before .args .z) / 1000) in (c .before .before .put-literal .ensures .0 ∙ rw ((rw (toZ-ofZ w64 (c .before .before .before .before .before .before .before .before .args .z) (c .before .before .before .before .before .before .before .before .fits .z)) at (c .before .before .before .before .before .sign-base .ensures .0)), (rw (toZ-ofZ w64 (c .before .before .before .before .before .before .before .before .args .z) (c .before .before .before .before .before .before .before .before .fits .z)) at (c .before .before .before .before .before .before .magnitude .ensures .0)), (cells-whole (c .before .before .before .before .before .before .before .before .args .z) (rw (rw (toZ-ofZ w64 (c .before .before .before .before .before .before .before .before .args .z) (c .before .before .before .before .before .before .before .before .fits .z)) at (c .before .before .before .before .before .before .magnitude .ensures .0)) at (c .before .before .before .before .if1 .taken)))), rw (rw (toZ-ofZ w64 (c .before .before .before .before .before .before .before .before .args .z) (c .before .before .before .before .before .before .before .before .fits .z)) at (c .before .before .before .before .before .before .magnitude .ensures .0)) at (c .before .before .put-literal .ensures .1) ∙ (let e : (c .before .before .before .before .before .before .before .before .args .at) + 1 + sizeOf (natAbs (c .before .before .before .before .before .before .before .before .args .z) / 1000) ≡ (c .before .before .before .before .before .before .before .before .args .at) + length (numberCells (c .before .before .before .before .before .before .before .before .args .z)) = omega (arith, q) in e))
 
 put-literal-requires-2 : tie.Need-put-literal-requires-2
-put-literal-requires-2 c κs = let q = ap length (cells-fine (c .before .before .before .before .before .args .z) (rw (rw (toZ-ofZ w64 (c .before .before .before .before .before .args .z) (c .before .before .before .before .before .fits .z)) at (c .before .before .before .magnitude .ensures .0)) at (c .before .if1 .left))) ∙ literal-length (signBase (c .before .before .before .before .before .args .z)) (natAbs (c .before .before .before .before .before .args .z)) in (omega (arith, c .before .before .sign-base .ensures .1), rw (rw (toZ-ofZ w64 (c .before .before .before .before .before .args .z) (c .before .before .before .before .before .fits .z)) at (c .before .before .before .magnitude .ensures .0)) (omega (arith, c .before .before .before .before .before .pre .1, q)), c .before .before .before .before .before .pre .2)
+put-literal-requires-2 c κs = let q = ap length (cells-fine (c .before .before .before .before .before .args .z) (rw (rw (toZ-ofZ w64 (c .before .before .before .before .before .args .z) (c .before .before .before .before .before .fits .z)) at (c .before .before .before .magnitude .ensures .0)) at (c .before .if1 .left))) ∙ literal-length (signBase (c .before .before .before .before .before .args .z)) (natAbs (c .before .before .before .before .before .args .z)) in (omega (arith, c .before .before .sign-base .ensures .1), rw (rw (toZ-ofZ w64 (c .before .before .before .before .before .args .z) (c .before .before .before .before .before .fits .z)) at (c .before .before .before .magnitude .ensures .0)) (omega (arith, c .before .before .before .before .before .pre .1, q)))
 
 same-length-2 : tie.Need-same-length-2
 same-length-2 c = ap length (c .before .before .put-literal2 .ensures .0) ∙ simp length-sets

@@ -1,7 +1,6 @@
 -- `expressions::leaves::joined_at` meets its contract. Assumes nothing.
-use mathlib.Core.Path.{refl, ap, _∙_}
+use mathlib.Core.Path.{ap, _∙_}
 use denote.Ref.{now}
-use lib.ListN.{length-set}
 use Rattle.expressions.proofs.Ends.{joined-refused, joined-done, spent-refused, spent-free, operator-small}
 use Rattle.due.proofs.Dues.{ahead-done}
 use Rattle.expressions.specs.Codes.{passed}
@@ -22,19 +21,19 @@ progress-of-requires : tie.Need-progress-of-requires
 progress-of-requires c κs = search needs
 
 returns : tie.Need-returns
-returns c = (joined-refused (now (c .before .before .before .before .before .before .args .code)) (c .before .before .before .before .before .before .args .used) (c .before .before .before .before .before .before .args .free) (c .before .before .before .before .before .before .args .left) (c .before .before .before .before .before .before .args .minus) (c .before .before .before .operands-end .result) _ (c .before .before .before .operands-end .ensures .0) _ _ (c .progress-of .result) _ (c .before .enum-told .given .1) (c .progress-of .ensures), spent-refused _ _ _ _ _ _ _ (c .progress-of .ensures ∙ ap (passed (c .before .before .before .before .before .before .args .left)) (c .before .enum-told .given .1)), refl)
+returns c = (joined-refused (now (c .before .before .before .before .before .before .args .code)) (c .before .before .before .before .before .before .args .used) (c .before .before .before .before .before .before .args .free) (c .before .before .before .before .before .before .args .left) (c .before .before .before .before .before .before .args .minus) (c .before .before .before .operands-end .result) _ (c .before .before .before .operands-end .ensures .0) _ _ (c .progress-of .result) _ (c .before .enum-told .given .1) (c .progress-of .ensures), spent-refused _ _ _ _ _ _ _ (c .progress-of .ensures ∙ ap (passed (c .before .before .before .before .before .before .args .left)) (c .before .enum-told .given .1)))
 
 operator-cell-requires : tie.Need-operator-cell-requires
 operator-cell-requires c κs = search needs
 
 put-requires : tie.Need-put-requires
-put-requires c κs = (c .before .before .before .before .before .before .before .before .pre .1, rw (c .operator-cell .ensures) (operator-small (c .before .before .before .before .before .before .before .before .args .minus)))
+put-requires c κs = rw (c .operator-cell .ensures) (operator-small (c .before .before .before .before .before .before .before .before .args .minus))
 
 same-length : tie.Need-same-length
-same-length c = rw (c .before .before .put .ensures) (simp length-set refl)
+same-length c = search needs
 
 returns-2 : tie.Need-returns-2
-returns-2 c = let w = ahead-done _ _ _ _ _ (c .before .before .before .before .before .before .a .given .1) (c .before .before .before .before .before .before .before .before .operands-end .ensures .1) in (joined-done (now (c .before .before .before .before .before .before .before .before .before .before .before .args .code)) (c .before .before .before .before .before .before .before .before .before .before .before .args .used) (c .before .before .before .before .before .before .before .before .before .before .before .args .free) (c .before .before .before .before .before .before .before .before .before .before .before .args .left) (c .before .before .before .before .before .before .before .before .before .before .before .args .minus) (c .before .before .before .before .before .before .before .before .operands-end .result) _ (c .before .before .before .before .before .before .before .before .operands-end .ensures .0) _ _ (c .before .before .before .operator-cell .result) _ (c .before .before .before .before .before .before .a .given .1) (c .before .before .before .operator-cell .ensures) (c .before .before .put .ensures), spent-free _ _ _ _ _ (w .0) (w .1), rw (c .before .before .put .ensures) (simp length-set refl))
+returns-2 c = let w = ahead-done _ _ _ _ _ (c .before .before .before .before .before .before .a .given .1) (c .before .before .before .before .before .before .before .before .operands-end .ensures .1) in (joined-done (now (c .before .before .before .before .before .before .before .before .before .before .before .args .code)) (c .before .before .before .before .before .before .before .before .before .before .before .args .used) (c .before .before .before .before .before .before .before .before .before .before .before .args .free) (c .before .before .before .before .before .before .before .before .before .before .before .args .left) (c .before .before .before .before .before .before .before .before .before .before .before .args .minus) (c .before .before .before .before .before .before .before .before .operands-end .result) _ (c .before .before .before .before .before .before .before .before .operands-end .ensures .0) _ _ (c .before .before .before .operator-cell .result) _ (c .before .before .before .before .before .before .a .given .1) (c .before .before .before .operator-cell .ensures) (c .before .before .put .ensures), spent-free _ _ _ _ _ (w .0) (w .1))
 
 pub joined-at-spec : {M : Type 1} → statement M
 joined-at-spec =

@@ -41,13 +41,13 @@ same-length : tie.Need-same-length Inv-loop μ-loop
 same-length c = search needs
 
 returns : tie.Need-returns Inv-loop μ-loop
-returns c = (λ x m to t k h g. onward-early (now (c .before .before .before .before .before .before .before .before .before .before .args .text)) (c .before .before .before .before .before .before .before .before .before .before .args .d) (c .before .before .before .before .before .before .before .before .before .before .args .from) x (wantedOf (entryAt t (c .before .before .before .before .before .before .before .before .before .before .args .i))) (now (c .before .before .before .before .before .before .before .before .before .before .args .code)) (c .before .before .before .before .before .before .before .before .before .before .args .used) (c .before .before .before .before .before .loop .code) (c .before .before .before .before .before .loop .j) (c .before .before .before .before .before .loop .at) (c .before .before .before .before .before .loop .u) (c .before .before .before .before .before .loop .inv .5 x m to t k h g) _ _ _ (sym (c .before .before .before .before .token-at .ensures) ∙ c .before .before .t .given .1) (omega (arith, (c .before .before .before .before .before .before .kept-in .ensures .0 m to t h ∙ wanted-count t (c .before .before .before .before .before .before .before .before .before .before .args .i) g (omega (arith, c .before .before .before .before .before .before .before .before .before .before .pre .3, h .count))))), ahead-refused _ _ 9 _ _ refl, room-refused _ _ 9 _ _ refl, c .before .before .before .before .before .loop .inv .2)
+returns c = (λ x m to t k h g. onward-early (now (c .before .before .before .before .before .before .before .before .before .before .args .text)) (c .before .before .before .before .before .before .before .before .before .before .args .d) (c .before .before .before .before .before .before .before .before .before .before .args .from) x (wantedOf (entryAt t (c .before .before .before .before .before .before .before .before .before .before .args .i))) (now (c .before .before .before .before .before .before .before .before .before .before .args .code)) (c .before .before .before .before .before .before .before .before .before .before .args .used) (c .before .before .before .before .before .loop .code) (c .before .before .before .before .before .loop .j) (c .before .before .before .before .before .loop .at) (c .before .before .before .before .before .loop .u) (c .before .before .before .before .before .loop .inv .5 x m to t k h g) _ _ _ (sym (c .before .before .before .before .token-at .ensures) ∙ c .before .before .t .given .1) (omega (arith, (c .before .before .before .before .before .before .kept-in .ensures .0 m to t h ∙ wanted-count t (c .before .before .before .before .before .before .before .before .before .before .args .i) g (omega (arith, c .before .before .before .before .before .before .before .before .before .before .pre .3, h .count))))), ahead-refused _ _ 9 _ _ refl, room-refused _ _ 9 _ _ refl)
 
 same-length-2 : tie.Need-same-length-2 Inv-loop μ-loop
 same-length-2 c = search needs
 
 returns-2 : tie.Need-returns-2 Inv-loop μ-loop
-returns-2 c = let w = close-in (now (c .before .before .before .before .before .before .before .before .before .before .args .text)) (c .before .before .before .before .before .loop .at) (c .before .before .before .before .before .loop .inv .1) _ _ (sym (c .before .before .before .before .token-at .ensures) ∙ c .before .before .t .given .1) in (λ x m to t k h g. onward-done (now (c .before .before .before .before .before .before .before .before .before .before .args .text)) (c .before .before .before .before .before .before .before .before .before .before .args .d) (c .before .before .before .before .before .before .before .before .before .before .args .from) x (wantedOf (entryAt t (c .before .before .before .before .before .before .before .before .before .before .args .i))) (now (c .before .before .before .before .before .before .before .before .before .before .args .code)) (c .before .before .before .before .before .before .before .before .before .before .args .used) (c .before .before .before .before .before .loop .code) (c .before .before .before .before .before .loop .j) (c .before .before .before .before .before .loop .at) (c .before .before .before .before .before .loop .u) (c .before .before .before .before .before .loop .inv .5 x m to t k h g) _ _ (sym (c .before .before .before .before .token-at .ensures) ∙ c .before .before .t .given .1) (omega (arith, (c .before .before .before .before .before .before .kept-in .ensures .0 m to t h ∙ wanted-count t (c .before .before .before .before .before .before .before .before .before .before .args .i) g (omega (arith, c .before .before .before .before .before .before .before .before .before .before .pre .3, h .count))))), ahead-by _ _ _ _ (omega arith) (w .1), room-done _ _ _ _ (c .before .before .before .before .before .loop .inv .3) (omega arith), c .before .before .before .before .before .loop .inv .2)
+returns-2 c = let w = close-in (now (c .before .before .before .before .before .before .before .before .before .before .args .text)) (c .before .before .before .before .before .loop .at) (c .before .before .before .before .before .loop .inv .1) _ _ (sym (c .before .before .before .before .token-at .ensures) ∙ c .before .before .t .given .1) in (λ x m to t k h g. onward-done (now (c .before .before .before .before .before .before .before .before .before .before .args .text)) (c .before .before .before .before .before .before .before .before .before .before .args .d) (c .before .before .before .before .before .before .before .before .before .before .args .from) x (wantedOf (entryAt t (c .before .before .before .before .before .before .before .before .before .before .args .i))) (now (c .before .before .before .before .before .before .before .before .before .before .args .code)) (c .before .before .before .before .before .before .before .before .before .before .args .used) (c .before .before .before .before .before .loop .code) (c .before .before .before .before .before .loop .j) (c .before .before .before .before .before .loop .at) (c .before .before .before .before .before .loop .u) (c .before .before .before .before .before .loop .inv .5 x m to t k h g) _ _ (sym (c .before .before .before .before .token-at .ensures) ∙ c .before .before .t .given .1) (omega (arith, (c .before .before .before .before .before .before .kept-in .ensures .0 m to t h ∙ wanted-count t (c .before .before .before .before .before .before .before .before .before .before .args .i) g (omega (arith, c .before .before .before .before .before .before .before .before .before .before .pre .3, h .count))))), ahead-by _ _ _ _ (omega arith) (w .1), room-done _ _ _ _ (c .before .before .before .before .before .loop .inv .3) (omega arith))
 
 argument-at-requires : tie.Need-argument-at-requires Inv-loop μ-loop
 argument-at-requires c κs = (c .before .before .loop .inv .1, c .before .before .before .before .before .before .before .pre .1)
@@ -62,7 +62,7 @@ same-length-3 : tie.Need-same-length-3 Inv-loop μ-loop
 same-length-3 c = search needs
 
 returns-3 : tie.Need-returns-3 Inv-loop μ-loop
-returns-3 c = (λ x m to t k h g. onward-refused (now (c .before .before .before .before .before .before .before .before .before .before .args .text)) (c .before .before .before .before .before .before .before .before .before .before .args .d) (c .before .before .before .before .before .before .before .before .before .before .args .from) x (wantedOf (entryAt t (c .before .before .before .before .before .before .before .before .before .before .args .i))) (now (c .before .before .before .before .before .before .before .before .before .before .args .code)) (c .before .before .before .before .before .before .before .before .before .before .args .used) (c .before .before .before .before .before .loop .code) (c .before .before .before .before .before .loop .j) (c .before .before .before .before .before .loop .at) (c .before .before .before .before .before .loop .u) (c .before .before .before .before .before .loop .inv .5 x m to t k h g) (rw (c .before .before .before .before .token-at .ensures) at (c .before .before .before .match .keys2)) (c .before .before .argument-at .result) _ _ _ (c .before .before .argument-at .ensures .0 x k) (c .enum-told .given .1), ahead-refused _ _ _ _ _ (c .enum-told .given .1), room-refused _ _ _ _ _ (c .enum-told .given .1), c .before .before .before .before .before .loop .inv .2)
+returns-3 c = (λ x m to t k h g. onward-refused (now (c .before .before .before .before .before .before .before .before .before .before .args .text)) (c .before .before .before .before .before .before .before .before .before .before .args .d) (c .before .before .before .before .before .before .before .before .before .before .args .from) x (wantedOf (entryAt t (c .before .before .before .before .before .before .before .before .before .before .args .i))) (now (c .before .before .before .before .before .before .before .before .before .before .args .code)) (c .before .before .before .before .before .before .before .before .before .before .args .used) (c .before .before .before .before .before .loop .code) (c .before .before .before .before .before .loop .j) (c .before .before .before .before .before .loop .at) (c .before .before .before .before .before .loop .u) (c .before .before .before .before .before .loop .inv .5 x m to t k h g) (rw (c .before .before .before .before .token-at .ensures) at (c .before .before .before .match .keys2)) (c .before .before .argument-at .result) _ _ _ (c .before .before .argument-at .ensures .0 x k) (c .enum-told .given .1), ahead-refused _ _ _ _ _ (c .enum-told .given .1), room-refused _ _ _ _ _ (c .enum-told .given .1))
 
 place-of-requires : tie.Need-place-of-requires Inv-loop μ-loop
 place-of-requires c κs = tt
@@ -71,7 +71,7 @@ same-length-4 : tie.Need-same-length-4 Inv-loop μ-loop
 same-length-4 c = search needs
 
 returns-4 : tie.Need-returns-4 Inv-loop μ-loop
-returns-4 c = (λ x m to t k h g. onward-extra (now (c .before .before .before .before .before .before .before .before .before .before .before .before .before .args .text)) (c .before .before .before .before .before .before .before .before .before .before .before .before .before .args .d) (c .before .before .before .before .before .before .before .before .before .before .before .before .before .args .from) x (wantedOf (entryAt t (c .before .before .before .before .before .before .before .before .before .before .before .before .before .args .i))) (now (c .before .before .before .before .before .before .before .before .before .before .before .before .before .args .code)) (c .before .before .before .before .before .before .before .before .before .before .before .before .before .args .used) (c .before .before .before .before .before .before .before .before .loop .code) (c .before .before .before .before .before .before .before .before .loop .j) (c .before .before .before .before .before .before .before .before .loop .at) (c .before .before .before .before .before .before .before .before .loop .u) (c .before .before .before .before .before .before .before .before .loop .inv .5 x m to t k h g) (rw (c .before .before .before .before .before .before .before .token-at .ensures) at (c .before .before .before .before .before .before .match .keys2)) (omega (arith, k .objects .fits, k .objects .count)) (c .before .before .before .a .given .0 .0) (c .before .before .before .a .given .0 .1 .0) (sym (c .before .before .before .before .before .argument-at .ensures .0 x k) ∙ c .before .before .before .a .given .1) (c .place-of .result) _ (c .place-of .ensures ∙ ap placeOf (c .before .before .before .before .before .before .before .token-at .ensures)) (omega (arith, (c .before .before .before .before .before .before .before .before .before .kept-in .ensures .0 m to t h ∙ wanted-count t (c .before .before .before .before .before .before .before .before .before .before .before .before .before .args .i) g (omega (arith, c .before .before .before .before .before .before .before .before .before .before .before .before .before .pre .3, h .count))))), ahead-refused _ _ 9 _ _ refl, room-refused _ _ 9 _ _ refl, c .before .before .before .before .before .before .before .before .loop .inv .2)
+returns-4 c = (λ x m to t k h g. onward-extra (now (c .before .before .before .before .before .before .before .before .before .before .before .before .before .args .text)) (c .before .before .before .before .before .before .before .before .before .before .before .before .before .args .d) (c .before .before .before .before .before .before .before .before .before .before .before .before .before .args .from) x (wantedOf (entryAt t (c .before .before .before .before .before .before .before .before .before .before .before .before .before .args .i))) (now (c .before .before .before .before .before .before .before .before .before .before .before .before .before .args .code)) (c .before .before .before .before .before .before .before .before .before .before .before .before .before .args .used) (c .before .before .before .before .before .before .before .before .loop .code) (c .before .before .before .before .before .before .before .before .loop .j) (c .before .before .before .before .before .before .before .before .loop .at) (c .before .before .before .before .before .before .before .before .loop .u) (c .before .before .before .before .before .before .before .before .loop .inv .5 x m to t k h g) (rw (c .before .before .before .before .before .before .before .token-at .ensures) at (c .before .before .before .before .before .before .match .keys2)) (omega (arith, k .objects .fits, k .objects .count)) (c .before .before .before .a .given .0 .0) (c .before .before .before .a .given .0 .1 .0) (sym (c .before .before .before .before .before .argument-at .ensures .0 x k) ∙ c .before .before .before .a .given .1) (c .place-of .result) _ (c .place-of .ensures ∙ ap placeOf (c .before .before .before .before .before .before .before .token-at .ensures)) (omega (arith, (c .before .before .before .before .before .before .before .before .before .kept-in .ensures .0 m to t h ∙ wanted-count t (c .before .before .before .before .before .before .before .before .before .before .before .before .before .args .i) g (omega (arith, c .before .before .before .before .before .before .before .before .before .before .before .before .before .pre .3, h .count))))), ahead-refused _ _ 9 _ _ refl, room-refused _ _ 9 _ _ refl)
 
 add-kept-in : tie.Need-add-kept-in Inv-loop μ-loop
 add-kept-in c = omega arith
@@ -89,13 +89,13 @@ same-length-5 : tie.Need-same-length-5 Inv-loop μ-loop
 same-length-5 c = search needs
 
 returns-5 : tie.Need-returns-5 Inv-loop μ-loop
-returns-5 c = (λ x m to t k h g. onward-unfit (now (c .before .before .before .before .before .before .before .before .before .before .before .before .before .before .before .before .args .text)) (c .before .before .before .before .before .before .before .before .before .before .before .before .before .before .before .before .args .d) (c .before .before .before .before .before .before .before .before .before .before .before .before .before .before .before .before .args .from) x (wantedOf (entryAt t (c .before .before .before .before .before .before .before .before .before .before .before .before .before .before .before .before .args .i))) (now (c .before .before .before .before .before .before .before .before .before .before .before .before .before .before .before .before .args .code)) (c .before .before .before .before .before .before .before .before .before .before .before .before .before .before .before .before .args .used) (c .before .before .before .before .before .before .before .before .before .before .before .loop .code) (c .before .before .before .before .before .before .before .before .before .before .before .loop .j) (c .before .before .before .before .before .before .before .before .before .before .before .loop .at) (c .before .before .before .before .before .before .before .before .before .before .before .loop .u) (c .before .before .before .before .before .before .before .before .before .before .before .loop .inv .5 x m to t k h g) (rw (c .before .before .before .before .before .before .before .before .before .before .token-at .ensures) at (c .before .before .before .before .before .before .before .before .before .match .keys2)) (omega (arith, k .objects .fits, k .objects .count)) (c .before .before .before .before .before .before .a .given .0 .0) (c .before .before .before .before .before .before .a .given .0 .1 .0) (sym (c .before .before .before .before .before .before .before .before .argument-at .ensures .0 x k) ∙ c .before .before .before .before .before .before .a .given .1) (c .before .before .before .kept-in2 .result) (omega (arith, (c .before .before .before .before .before .before .before .before .before .before .before .before .kept-in .ensures .0 m to t h ∙ wanted-count t (c .before .before .before .before .before .before .before .before .before .before .before .before .before .before .before .before .args .i) g (omega (arith, c .before .before .before .before .before .before .before .before .before .before .before .before .before .before .before .before .pre .3, h .count))))) (c .before .before .before .kept-in2 .ensures .0 m to t h ∙ wanted-at t (c .before .before .before .before .before .before .before .before .before .before .before .before .before .before .before .before .args .i) g (omega (arith, c .before .before .before .before .before .before .before .before .before .before .before .before .before .before .before .before .pre .3, h .count)) (c .before .before .before .before .before .before .before .before .before .before .before .loop .j)) (c .place-of2 .result) _ (c .place-of2 .ensures ∙ ap placeOf (c .before .before .before .before .before .before .before .before .before .before .token-at .ensures)) (sym (c .before .before .fits-at .ensures x k) ∙ not-true (c .before .before .fits-at .result) (c .before .if3 .taken)), ahead-refused _ _ 10 _ _ refl, room-refused _ _ 10 _ _ refl, c .before .before .before .before .before .before .before .before .before .before .before .loop .inv .2)
+returns-5 c = (λ x m to t k h g. onward-unfit (now (c .before .before .before .before .before .before .before .before .before .before .before .before .before .before .before .before .args .text)) (c .before .before .before .before .before .before .before .before .before .before .before .before .before .before .before .before .args .d) (c .before .before .before .before .before .before .before .before .before .before .before .before .before .before .before .before .args .from) x (wantedOf (entryAt t (c .before .before .before .before .before .before .before .before .before .before .before .before .before .before .before .before .args .i))) (now (c .before .before .before .before .before .before .before .before .before .before .before .before .before .before .before .before .args .code)) (c .before .before .before .before .before .before .before .before .before .before .before .before .before .before .before .before .args .used) (c .before .before .before .before .before .before .before .before .before .before .before .loop .code) (c .before .before .before .before .before .before .before .before .before .before .before .loop .j) (c .before .before .before .before .before .before .before .before .before .before .before .loop .at) (c .before .before .before .before .before .before .before .before .before .before .before .loop .u) (c .before .before .before .before .before .before .before .before .before .before .before .loop .inv .5 x m to t k h g) (rw (c .before .before .before .before .before .before .before .before .before .before .token-at .ensures) at (c .before .before .before .before .before .before .before .before .before .match .keys2)) (omega (arith, k .objects .fits, k .objects .count)) (c .before .before .before .before .before .before .a .given .0 .0) (c .before .before .before .before .before .before .a .given .0 .1 .0) (sym (c .before .before .before .before .before .before .before .before .argument-at .ensures .0 x k) ∙ c .before .before .before .before .before .before .a .given .1) (c .before .before .before .kept-in2 .result) (omega (arith, (c .before .before .before .before .before .before .before .before .before .before .before .before .kept-in .ensures .0 m to t h ∙ wanted-count t (c .before .before .before .before .before .before .before .before .before .before .before .before .before .before .before .before .args .i) g (omega (arith, c .before .before .before .before .before .before .before .before .before .before .before .before .before .before .before .before .pre .3, h .count))))) (c .before .before .before .kept-in2 .ensures .0 m to t h ∙ wanted-at t (c .before .before .before .before .before .before .before .before .before .before .before .before .before .before .before .before .args .i) g (omega (arith, c .before .before .before .before .before .before .before .before .before .before .before .before .before .before .before .before .pre .3, h .count)) (c .before .before .before .before .before .before .before .before .before .before .before .loop .j)) (c .place-of2 .result) _ (c .place-of2 .ensures ∙ ap placeOf (c .before .before .before .before .before .before .before .before .before .before .token-at .ensures)) (sym (c .before .before .fits-at .ensures x k) ∙ not-true (c .before .before .fits-at .result) (c .before .if3 .taken)), ahead-refused _ _ 10 _ _ refl, room-refused _ _ 10 _ _ refl)
 
 put-requires : tie.Need-put-requires Inv-loop μ-loop
-put-requires c κs = let w = ahead-done _ _ _ _ _ (c .before .before .before .before .before .before .a .given .1) (c .before .before .before .before .before .before .before .before .argument-at .ensures .2) in (omega (arith, c .before .before .before .before .before .before .before .before .before .before .before .before .before .before .before .before .pre .4, c .before .before .before .before .before .before .before .before .before .before .before .loop .inv .2), omega (arith, cell-at _ _ _ (c .before .before .before .before .before .before .a .given .1) (c .before .before .before .before .before .before .before .before .argument-at .ensures .1)))
+put-requires c κs = omega (arith, cell-at _ _ _ (c .before .before .before .before .before .before .a .given .1) (c .before .before .before .before .before .before .before .before .argument-at .ensures .1))
 
 add-u : tie.Need-add-u Inv-loop μ-loop
-add-u c = let w = ahead-done _ _ _ _ _ (c .before .before .before .before .before .before .before .before .before .a .given .1) (c .before .before .before .before .before .before .before .before .before .before .before .argument-at .ensures .2) in omega (arith, c .before .before .before .before .before .before .before .before .before .before .before .before .before .before .before .before .before .before .before .pre .4, c .before .before .before .before .before .before .before .before .before .before .before .before .before .before .before .before .before .before .before .pre .5, c .before .before .before .before .before .before .before .before .before .before .before .before .before .before .loop .inv .2)
+add-u c = let w = ahead-done _ _ _ _ _ (c .before .before .before .before .before .before .before .before .before .a .given .1) (c .before .before .before .before .before .before .before .before .before .before .before .argument-at .ensures .2) in omega (arith, c .before .before .before .before .before .before .before .before .before .before .before .before .before .before .before .before .before .before .before .pre .4, c .before .before .before .before .before .before .before .before .before .before .before .before .before .before .loop .inv .2)
 
 add-j : tie.Need-add-j Inv-loop μ-loop
 add-j c = omega arith

@@ -1,0 +1,2 @@
+-- How trees lie in the code, and how they are read back.
+pub mod Cells
