@@ -1,20 +1,21 @@
--- Where a token of domain or problem lies, and how long its name is. Assumes nothing.
+-- Where a token of domain or problem lies, and how long its name is; where a given word lies. Assumes nothing.
 use mathlib.Core.Path.{_≡_, refl}
 use mathlib.Core.List.{List}
-use mathlib.Core.Bool.{Bool, true, false, cond}
+use mathlib.Core.Bool.{Bool, true, false, cond, _||_}
 use Prim.Native.Nat.{ℕ, _+_, _-_, _≤_, _<_}
 use native.Mathlib.Omega.{arith}
 use lib.ListN.{length, getD, length-take, length-drop}
 use lib.Dec.{eqb, leb, ltb}
 use borrow.Author.Tests.{ltb-false, leb-false}
 use Rattle.words.specs.Bytes.{kindOf, onStart}
+use Rattle.words.specs.Spelling.{sameWord}
 use Rattle.words.specs.Fixed.{isListed}
 use Rattle.words.specs.declared.bytes.Kind.{Kind}
 use Rattle.words.specs.declared.bytes.Kind.the-variants as K
 use Rattle.text.specs.Runs.{part, gapEnd, runEnd}
 use Rattle.text.specs.Numbers.{numberOf}
 use Rattle.text.specs.Classes.{classOf}
-use Rattle.text.specs.Tokens.{sizedOf, asToken, numberToken, byClass, domainWord, isPast, bracketOf, domainRun, endOf, tokenFrom, tokenAt}
+use Rattle.text.specs.Tokens.{sizedOf, asToken, numberToken, byClass, domainWord, isPast, bracketOf, domainRun, endOf, tokenFrom, tokenAt, spotAt}
 use Rattle.text.specs.declared.numbers.Number.{Number}
 use Rattle.text.specs.declared.numbers.Number.the-variants.{Thousandths, Malformed}
 use Rattle.text.specs.declared.classes.Class.{Class}
@@ -23,6 +24,7 @@ use Rattle.text.specs.declared.tokens.Word.{Word}
 use Rattle.text.specs.declared.tokens.Word.the-variants as W
 use Rattle.text.specs.declared.tokens.Token.{Token}
 use Rattle.text.specs.declared.tokens.Token.the-variants as T
+use Rattle.text.specs.declared.tokens.Spot.the-variants as P
 use Rattle.text.proofs.Steps.{gap-within, run-within}
 
 -- a word's most bytes, its mark counted
@@ -121,3 +123,20 @@ from-in s at p lo = go (isPast (length s) p) (leb (length s) p) refl
 pub token-within : (s : List ℕ) (at : ℕ) → at ≤ length s → Within s at (tokenAt s at)
 unfolding tokenAt
 token-within s at h = from-in s at (gapEnd s at) (gap-within s at h .0)
+
+pub spot-within : (s : List ℕ) (at : ℕ) (w : List ℕ) (p e : ℕ) → at ≤ length s → spotAt s at w ≡ P.At p e → (at < e) × (e ≤ length s)
+unfolding spotAt
+spot-within s at w p e h = go (isPast (length s) (gapEnd s at)) (leb (length s) (gapEnd s at)) refl (sameWord (part s (gapEnd s at) (endOf s 59 (gapEnd s at))) w)
+  where
+    never : P.Other ≡ P.At p e → (at < e) × (e ≤ length s)
+    never q = absurd (let z : _≡_ {A = ℕ} 0 1 = cc in let y : ⊥ = omega arith in y)
+
+    go : (t u : Bool) → leb (length s) (gapEnd s at) ≡ u → (v : Bool) → cond (t || u) P.Other (cond v (P.At (gapEnd s at) (endOf s 59 (gapEnd s at))) P.Other) ≡ P.At p e → (at < e) × (e ≤ length s)
+    go true u i v q = never q
+    go false true i v q = never q
+    go false false i false q = never q
+    go false false i true q =
+        let l = gap-within s at h .0 in
+        let b = run-within s 59 (gapEnd s at + 1) (omega (arith, leb-false (length s) (gapEnd s at) i)) in
+        let n : runEnd s 59 (gapEnd s at + 1) ≡ e = cc in
+        (omega (arith, l, b .0), omega (arith, b .1))

@@ -1,0 +1,8 @@
+-- The laws of the crate `conditions`.
+pub mod Beginning
+pub mod Facts
+pub mod Comparing
+pub mod Equals
+pub mod Places
+pub mod Whole
+pub mod Listing

@@ -1,0 +1,2 @@
+-- How effects begin.
+pub mod Leads

@@ -1,0 +1,4 @@
+// Effects of actions, read by the tables of what is declared, and written as cells.
+pub mod heads;
+pub mod singles;
+pub mod trees;

@@ -1,0 +1,4 @@
+// What init holds, read into the first facts and the first numbers.
+pub mod entries;
+pub mod grounds;
+pub mod values;
