@@ -3,6 +3,7 @@
 
 pub mod batch;
 pub mod generate;
+pub mod loads;
 
 mod actions;
 mod domain;
@@ -30,16 +31,11 @@ pub struct Answer {
 /// "−1,000,000,000,001 if undefined"
 const UNDEFINED: i64 = -1_000_000_000_001;
 
-/// Answers for three whole texts. "The domain's refusals come before the problem's", and a
-/// plan's needs both.
+/// Answers for three whole texts; a plan is judged if both others load.
 pub fn answer(domain: &[u8], problem: &[u8], plan: &[u8]) -> Answer {
-    let domain = match domain::read_domain(domain) {
-        Ok(domain) => domain,
-        Err(refusal) => return refused("domain", refusal.number, refusal.place, 0),
-    };
-    let problem = match problem::read_problem(&domain, problem) {
-        Ok(problem) => problem,
-        Err(refusal) => return refused("problem", refusal.number, refusal.place, 0),
+    let (domain, problem) = match loads::load(domain, problem) {
+        Ok(loaded) => loaded,
+        Err((text, refusal)) => return refused(text, refusal.number, refusal.place, 0),
     };
     let steps = match plan::read_plan(&domain, &problem, plan) {
         Ok(steps) => steps,

@@ -1,4 +1,5 @@
-//! The command line: one check from three files, many from standard input, or generated cases.
+//! The command line: one check from three files, many from standard input, loads
+//! alone, or generated cases.
 
 use std::env;
 use std::ffi::{OsStr, OsString};
@@ -8,7 +9,8 @@ use std::path::Path;
 use std::process::ExitCode;
 
 const USAGE: &str = "usage: second [--state] DOMAIN PROBLEM PLAN | second --batch | \
-                     second --generate SEED N";
+                     second --generate SEED N | second --loads | \
+                     second --loads-cases SEED DOMAIN PROBLEM RECORDS | second --loads-large N";
 
 fn main() -> ExitCode {
     let arguments: Vec<OsString> = env::args_os().skip(1).collect();
@@ -33,6 +35,22 @@ fn run(arguments: &[OsString]) -> Result<(), String> {
             second::generate::generate(number(seed)?, number(count)?, output)
                 .and_then(|()| output.flush())
                 .map_err(|error| error.to_string())
+        }
+        (Some("--loads"), [_]) => {
+            let input = &mut BufReader::new(io::stdin().lock());
+            second::loads::answer_records(input, output).map_err(|error| error.to_string())
+        }
+        (Some("--loads-cases"), [_, seed, domain, problem, records]) => {
+            let given = (read(domain)?, read(problem)?);
+            let last = second::loads::read_records(&mut &read(records)?[..]);
+            let last = last.map_err(|error| error.to_string())?;
+            let pairs = second::generate::loads::pairs(number(seed)?, &given, last);
+            second::loads::write_records(&pairs, output).map_err(|error| error.to_string())
+        }
+        (Some("--loads-large"), [_, count]) => {
+            let large = second::generate::large::pair();
+            let pairs = vec![large; number(count)? as usize];
+            second::loads::write_records(&pairs, output).map_err(|error| error.to_string())
         }
         (Some("--state"), [_, files @ ..]) => check(files, second::written, output),
         (Some(option), _) if option.starts_with("--") => Err(USAGE.to_string()),

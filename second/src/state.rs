@@ -8,8 +8,9 @@ use crate::names::{Table, Type};
 /// first argument highest; a number's likewise."
 pub struct Layout {
     objects: usize,
-    first_facts: Vec<usize>,
-    first_numbers: Vec<usize>,
+    /// the first index of each predicate, and below of each function
+    pub first_facts: Vec<usize>,
+    pub first_numbers: Vec<usize>,
     /// how many facts there are: "the sum of n^arguments" over predicates
     pub facts: usize,
     /// how many ground numbers there are, over functions

@@ -18,7 +18,7 @@ use Rattle.literals.specs.Literal.{signBase, sizeOf, bytesOf, literal, numberCe
 use Rattle.literals.proofs.Back.{number-back}
 use Rattle.literals.proofs.Cells.{bytes-length, cells-whole, cells-fine}
 use Rattle.codes.specs.Decode.{decoded, littleAt, numberAt, leafAt, exprNode, exprAt}
-use Rattle.codes.proofs.Standing.{Stands, below, head-is, behind}
+use Rattle.codes.proofs.Standing.{Stands, below, head-is}
 use Rattle.grammar.specs.Terms.{number}
 
 -- the byte at a place, and those behind it

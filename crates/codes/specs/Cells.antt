@@ -1,9 +1,8 @@
 -- Conditions, effects and actions as cells: prefix code, in which the first cell of a tree says what follows. 0 ends a list.
 use Prim.Native.Nat.{ℕ, _+_}
 use mathlib.Core.List.{List, [], _∷_, _++_}
-use mathlib.Core.Bool.{Bool, cond}
+use mathlib.Core.Bool.{cond}
 use lib.ListN.{length}
-use Rattle.grammar.specs.Terms.{Ref, Expr}
 use Rattle.grammar.specs.Conditions.{Comparison, equal, less, atMost, more, atLeast, Cond, Conds, all, atom, same, compare, none, cons}
 use Rattle.grammar.specs.Effects.{Change, assign, raise, lower, Effect, becomes, changes}
 use Rattle.grammar.specs.Actions.{When, start, whole, end, Timed, Lasting, moment, rule, Action}

@@ -1,5 +1,5 @@
 -- The ways of reading a comparison of two expressions, and its cells. Assumes nothing.
-use mathlib.Core.Path.{_≡_, refl, sym, ap, _∙_}
+use mathlib.Core.Path.{_≡_, refl, ap, _∙_}
 use mathlib.Core.List.{List, _∷_, _++_}
 use mathlib.Core.Bool.{Bool, true, false, cond}
 use Prim.Native.Nat.{ℕ, zero, suc, _+_, _≤_}
@@ -12,6 +12,7 @@ use Rattle.grammar.specs.Terms.{Scope, Expr, counts, expression}
 use Rattle.grammar.specs.Conditions.{Comparison, compare, comparison}
 use Rattle.due.specs.declared.Answer.{Answer}
 use Rattle.due.specs.declared.Answer.the-variants as A
+use Rattle.terms.proofs.Taken.{wrote-got, wrote-not}
 use Rattle.terms.specs.Cells.{Wrote}
 use Rattle.expressions.specs.Codes.{cellsOf, Written, passed, Over}
 use Rattle.expressions.specs.declared.leaves.Progress.{Progress}
@@ -36,35 +37,6 @@ comparison-tag true = omega arith
 comparison-tag false = omega arith
 
 -- ---- what was read, by the answer
-
-record Arrived {B : Type 0} (cells : B → List ℕ) (code : List ℕ) (u : ℕ) (m : List ℕ) (a v : ℕ) (x : Read B) : Type 0 where
-  tree : B
-  is : x ≡ got tree a
-  free : v ≡ u + length (cells tree)
-  stored : m ≡ sets code u (cells tree)
-
-module _ {B : Type 0} (cells : B → List ℕ) (code : List ℕ) (u : ℕ) (r : Answer) (m : List ℕ) where
-  wrote-got : (x : Read B) (a v : ℕ) → Wrote cells code u r m x → r ≡ A.Done a v → Arrived cells code u m a v x
-  unfolding Wrote
-  wrote-got (got t n) a v h e =
-      let q : A.Done n (u + length (cells t)) ≡ A.Done a v = sym (h .0) ∙ e in
-      let i : n ≡ a = cc in
-      let j : u + length (cells t) ≡ v = cc in
-      record { tree = t; is = rw i; free = sym j; stored = h .1 }
-  wrote-got (refused k p) a v h e =
-      let q : A.Refused k p ≡ A.Done a v = sym h ∙ e in
-      absurd (let z : _≡_ {A = ℕ} 0 1 = cc in let y : ⊥ = omega arith in y)
-
-  wrote-not : (x : Read B) (k p : ℕ) → Wrote cells code u r m x → r ≡ A.Refused k p → x ≡ refused k p
-  unfolding Wrote
-  wrote-not (got t n) k p h e =
-      let q : A.Done n (u + length (cells t)) ≡ A.Refused k p = sym (h .0) ∙ e in
-      absurd (let z : _≡_ {A = ℕ} 0 1 = cc in let y : ⊥ = omega arith in y)
-  wrote-not (refused j q) k p h e =
-      let o : A.Refused j q ≡ A.Refused k p = sym h ∙ e in
-      let i : j ≡ k = cc in
-      let n : q ≡ p = cc in
-      rw (i, n)
 
 -- a refusal of a part is that of the whole
 pub passed-on : (r : Answer) (l k p : ℕ) (b : Progress) → r ≡ A.Refused k p → b ≡ passed l r → b ≡ Refused k p

@@ -20,7 +20,7 @@ use Rattle.text.specs.declared.tokens.Word.the-variants as W
 use Rattle.text.proofs.tokens.Token as token-type
 use Rattle.text.proofs.tokens.Word as word-type
 use Rattle.text.proofs.Within.{Within, token-within}
-use Rattle.grammar.specs.Read.{Read, got, refused, andThen, give, refuse}
+use Rattle.grammar.specs.Read.{Read, got, refused, give, refuse}
 use Rattle.grammar.specs.Due.{afterOf, numberOf, placeOf, wrong, onWord, onNumber, onOpen, onClose, onRefusal, onEnd, opening, closing, wordDue, isNameWord, Name, anyName, newName}
 use Rattle.due.specs.Answers.{answerOf, nameOf, Ahead}
 use Rattle.due.specs.declared.Answer.{Answer}

@@ -6,7 +6,6 @@ use Prim.Native.Nat.{ℕ, suc, _+_, _≤_, _<_}
 use native.Mathlib.Numerals.{add-one}
 use native.Mathlib.Omega.{arith}
 use lib.ListN.{length, set}
-use lib.Seq.{sets}
 use Rattle.words.specs.Bytes.{bytes}
 use Rattle.text.specs.Tokens.{tokenAt, spotAt}
 use Rattle.grammar.specs.Read.{Read, Reader, got, refused, andThen, give}
@@ -17,6 +16,7 @@ use Rattle.due.specs.Answers.{answerOf, Ahead}
 use Rattle.due.specs.declared.Answer.{Answer}
 use Rattle.due.specs.declared.Answer.the-variants.{Done, Refused}
 use Rattle.due.proofs.Dues.{answer-done, answer-refused, ahead-by}
+use Rattle.terms.proofs.Taken.{wrote-got, wrote-not, wrote-by, then-then}
 use Rattle.terms.specs.Cells.{Wrote, Room}
 use Rattle.terms.proofs.Wanted.{wrote-refused, room-done}
 use Rattle.expressions.specs.Codes.{cellsOf, Over}
@@ -25,47 +25,10 @@ use Rattle.durations.specs.Lasts.{ruleBegun, lastingOf, Reached}
 
 -- ---- what was read, by the answer
 
-record Took {A : Type 0} (cells : A → List ℕ) (code : List ℕ) (u : ℕ) (m : List ℕ) (a v : ℕ) (x : Read A) : Type 0 where
-  tree : A
-  is : x ≡ got tree a
-  free : v ≡ u + length (cells tree)
-  stored : m ≡ sets code u (cells tree)
-
-module _ {A : Type 0} (cells : A → List ℕ) (code : List ℕ) (u : ℕ) (r : Answer) (m : List ℕ) where
-  wrote-got : (x : Read A) (a v : ℕ) → Wrote cells code u r m x → r ≡ Done a v → Took cells code u m a v x
-  unfolding Wrote
-  wrote-got (got t n) a v h e =
-      let q : Done n (u + length (cells t)) ≡ Done a v = sym (h .0) ∙ e in
-      let i : n ≡ a = cc in
-      let j : u + length (cells t) ≡ v = cc in
-      record { tree = t; is = rw i; free = sym j; stored = h .1 }
-  wrote-got (refused k p) a v h e =
-      let q : Refused k p ≡ Done a v = sym h ∙ e in
-      absurd (let z : _≡_ {A = ℕ} 0 1 = cc in let y : ⊥ = omega arith in y)
-
-  wrote-not : (x : Read A) (k p : ℕ) → Wrote cells code u r m x → r ≡ Refused k p → x ≡ refused k p
-  unfolding Wrote
-  wrote-not (got t n) k p h e =
-      let q : Done n (u + length (cells t)) ≡ Refused k p = sym (h .0) ∙ e in
-      absurd (let z : _≡_ {A = ℕ} 0 1 = cc in let y : ⊥ = omega arith in y)
-  wrote-not (refused j q) k p h e =
-      let o : Refused j q ≡ Refused k p = sym h ∙ e in
-      let i : j ≡ k = cc in
-      let n : q ≡ p = cc in
-      rw (i, n)
-
-wrote-by : {A : Type 0} (cells : A → List ℕ) (code : List ℕ) (u : ℕ) (m : List ℕ) (x : Read A) (t : A) (n v : ℕ) → x ≡ got t n → v ≡ u + length (cells t) → m ≡ sets code u (cells t) → Wrote cells code u (Done n v) m x
-unfolding Wrote
-wrote-by cells code u m x t n v e i j = rw (e, i) (refl, j)
-
 -- ---- a rule, behind what stands before its expression
 
 abbrev behind : List ℕ → Scope → Reader Expr
 behind s c at = andThen (expression s 13 c at) (λ x n. andThen (closing s 13 n) (λ _. give x))
-
-then-then : {A B C : Type 0} (x : Read A) (f : A → Reader B) (g : B → Reader C) → andThen (andThen x f) g ≡ andThen x (λ a n. andThen (f a n) g)
-then-then (got a n) f g = refl
-then-then (refused k p) f g = refl
 
 abbrev headOf : List ℕ → ℕ → Reader ℕ
 headOf s v n = ruleHead s (tokenAt s n) (afterOf (tokenAt s n))

@@ -7,7 +7,7 @@ use lib.ListN.{length, length-append}
 use lib.Seq.{sets}
 use Rattle.words.specs.declared.spelling.Found.the-variants as F
 use Rattle.text.specs.Runs.{part}
-use Rattle.grammar.specs.Read.{Read, got, refused, andThen}
+use Rattle.grammar.specs.Read.{got, refused, andThen}
 use Rattle.grammar.specs.Tables.{lookup, declared}
 use Rattle.grammar.specs.Due.{opening, closing, anyName}
 use Rattle.grammar.specs.Terms.{Scope, Ref, Expr, counts, counted, reference, expression}
@@ -16,6 +16,7 @@ use Rattle.due.specs.Answers.{answerOf, nameOf, Ahead}
 use Rattle.due.specs.declared.Answer.{Answer}
 use Rattle.due.specs.declared.Answer.the-variants as A
 use Rattle.due.proofs.Dues.{answer-done, answer-refused, any-named, name-refused}
+use Rattle.terms.proofs.Taken.{Took, wrote-got, wrote-not}
 use Rattle.terms.specs.Cells.{Wrote, Room}
 use Rattle.terms.proofs.Wanted.{wrote-refused}
 use Rattle.expressions.specs.Codes.{refCells, cellsOf, Written, Over, passed}
@@ -27,35 +28,6 @@ use Rattle.codes.specs.Cells.{changeCell, effectCells, effectsCells}
 use Rattle.effects.proofs.Facts.{one-cells}
 
 -- ---- what was read, by the answer
-
-record Stored {Tree : Type 0} (cells : Tree → List ℕ) (code : List ℕ) (u : ℕ) (m : List ℕ) (a v : ℕ) (x : Read Tree) : Type 0 where
-  tree : Tree
-  is : x ≡ got tree a
-  free : v ≡ u + length (cells tree)
-  stored : m ≡ sets code u (cells tree)
-
-module _ {Tree : Type 0} (cells : Tree → List ℕ) (code : List ℕ) (u : ℕ) (r : Answer) (m : List ℕ) where
-  wrote-got : (x : Read Tree) (a v : ℕ) → Wrote cells code u r m x → r ≡ A.Done a v → Stored cells code u m a v x
-  unfolding Wrote
-  wrote-got (got t n) a v h e =
-      let q : A.Done n (u + length (cells t)) ≡ A.Done a v = sym (h .0) ∙ e in
-      let i : n ≡ a = cc in
-      let j : u + length (cells t) ≡ v = cc in
-      record { tree = t; is = rw i; free = sym j; stored = h .1 }
-  wrote-got (refused k p) a v h e =
-      let q : A.Refused k p ≡ A.Done a v = sym h ∙ e in
-      absurd (let z : _≡_ {A = ℕ} 0 1 = cc in let y : ⊥ = omega arith in y)
-
-  wrote-not : (x : Read Tree) (k p : ℕ) → Wrote cells code u r m x → r ≡ A.Refused k p → x ≡ refused k p
-  unfolding Wrote
-  wrote-not (got t n) k p h e =
-      let q : A.Done n (u + length (cells t)) ≡ A.Refused k p = sym (h .0) ∙ e in
-      absurd (let z : _≡_ {A = ℕ} 0 1 = cc in let y : ⊥ = omega arith in y)
-  wrote-not (refused j q) k p h e =
-      let o : A.Refused j q ≡ A.Refused k p = sym h ∙ e in
-      let i : j ≡ k = cc in
-      let n : q ≡ p = cc in
-      rw (i, n)
 
 -- ---- the target
 
@@ -118,7 +90,7 @@ module _ (s : List ℕ) (d : ℕ) (c : Scope) (how : Change) (p e : ℕ) where
         written-refused effectsCells code u r m _ k q (rw (change-read n z, wrote-not (refCells tag) code u a m₁ _ k q wa h)) (j ∙ ap (passed n) h)
 
     module _ (after v : ℕ) (qa : a ≡ A.Done after v) (x : Answer) (m₂ : List ℕ) (wx : Wrote cellsOf m₁ v x m₂ (expression s d c after)) where
-      target-is : Stored (refCells tag) code u m₁ after v (target s d c e)
+      target-is : Took (refCells tag) code u m₁ after v (target s d c e)
       target-is = wrote-got (refCells tag) code u a m₁ _ after v wa qa
 
       pub change-valueless : (k q : ℕ) (r : Progress) (m : List ℕ) → x ≡ A.Refused k q → r ≡ passed n x → Written effectsCells code u r m (changeAt s d c how n p e)
@@ -126,7 +98,7 @@ module _ (s : List ℕ) (d : ℕ) (c : Scope) (how : Change) (p e : ℕ) where
           written-refused effectsCells code u r m _ k q (rw (change-read n z, target-is .is, wrote-not cellsOf m₁ v x m₂ _ k q wx h)) (j ∙ ap (passed n) h)
 
       module _ (end free : ℕ) (qx : x ≡ A.Done end free) (b : Answer) (eb : b ≡ answerOf (closing s d end)) where
-        value-is : Stored cellsOf m₁ v m₂ end free (expression s d c after)
+        value-is : Took cellsOf m₁ v m₂ end free (expression s d c after)
         value-is = wrote-got cellsOf m₁ v x m₂ _ end free wx qx
 
         pub change-unclosed : (k q : ℕ) (r : Progress) (m : List ℕ) → b ≡ A.Refused k q → r ≡ passed n b → Written effectsCells code u r m (changeAt s d c how n p e)

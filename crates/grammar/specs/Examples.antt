@@ -31,13 +31,13 @@ benchText = bytes "(define (domain bench) (:requirements :strips :typing :fluent
 problemBytes : List ℕ
 problemBytes = bytes "(define (problem two-doses) (:domain bench) (:objects a b - pump) (:init (ready a) (ready b) (on a) (on b) (= (lock a) 5) (= (lock b) 5) (= (doses a) 0) (= (doses b) 0)) (:goal (>= (doses a) 2)))"
 
-pump : List ℕ → Entry
+unfoldable pub pump : List ℕ → Entry
 pump w = entry w (1 ∷ 1 ∷ [])
 
-ofPump : ℕ → Ref
+unfoldable pub ofPump : ℕ → Ref
 ofPump i = record { head = i; args = variable 0 ∷ [] }
 
-bench : Domain
+unfoldable pub bench : Domain
 bench = record {
   name = bytes "bench";
   types = entry (bytes "object") (0 ∷ []) ∷ entry (bytes "pump") (0 ∷ []) ∷ [];
@@ -62,10 +62,10 @@ bench-read : readDomain benchText ≡ got bench 648
 unfolding bytes kindOf lowerOf inRun sameWord nameByte nameBytes isName placeFrom wordsOf wordIn headOf isFlag isListed isReserved isOperator gapStep gap gapEnd run runEnd leading decimal scaleOf fractionOf numberFrom numberOf beginsNumber classOf sizedOf numberToken domainWord isPast bracketOf tokenAt spotAt lookup fresh declared isBelow retype opening closing wordDue anyName newName typeNamed typeDue group item declare waiting typed namesTo variablesTo typesTo declaration declarations argument fits arguments reference counted operandsEnd expr expression atomAt comparison sameObjects equality negation listTo conjunction condition becomesAt target changeAt deletion effectsTo effect timeOf partBehind partAt partsTo parts durationRule fieldOf simpleBody durativeBody action beginsWith ending headingOf flagsTo actionsTo flagsSection typesSection constantsSection declaredSection vocabulary domainText readDomain benchText bench pump ofPump
 bench-read = refl
 
-valued : ℕ → ℕ → Valued
+unfoldable pub valued : ℕ → ℕ → Valued
 valued i z = record { index = i; value = pos z }
 
-two-doses : Problem
+unfoldable pub two-doses : Problem
 two-doses = record {
   objects = entry (bytes "a") (1 ∷ []) ∷ entry (bytes "b") (1 ∷ []) ∷ [];
   init = record { facts = 0 ∷ 1 ∷ 2 ∷ 3 ∷ []; numbers = valued 0 5000 ∷ valued 1 5000 ∷ valued 2 0 ∷ valued 3 0 ∷ [] };

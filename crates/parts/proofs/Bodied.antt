@@ -1,5 +1,5 @@
 -- What stands in a part is what was read of a condition or of effects. Assumes nothing.
-use mathlib.Core.Path.{_≡_, refl, sym, ap, _∙_}
+use mathlib.Core.Path.{_≡_, refl, ap, _∙_}
 use mathlib.Core.List.{List, [], _∷_, _++_}
 use mathlib.Core.Bool.{Bool, true, false}
 use Prim.Native.Nat.{ℕ, _+_, _≤_, _<_}
@@ -16,7 +16,7 @@ use Rattle.expressions.specs.declared.leaves.Progress.the-variants.{Done, Refus
 use Rattle.expressions.proofs.Ends.{written-refused}
 use Rattle.expressions.proofs.Operands.{sets-append, written-got, written-not}
 use Rattle.codes.specs.Cells.{condCells, effectsCells, listCells}
-use Rattle.parts.specs.Bodies.{asIs, mapped, bodyOf}
+use Rattle.parts.specs.Bodies.{asIs, bodyOf}
 
 -- ---- how many cells were written
 

@@ -1,14 +1,13 @@
 -- The ways through a field that may be missing. Assumes nothing.
-use mathlib.Core.Path.{_≡_, refl, sym, ap, _∙_}
+use mathlib.Core.Path.{_≡_, refl, ap, _∙_}
 use mathlib.Core.List.{List, [], _∷_, _++_, append-nil}
 use mathlib.Core.Bool.{Bool, true, false, cond}
-use Prim.Native.Nat.{ℕ, suc, _+_, _≤_, _<_}
+use Prim.Native.Nat.{ℕ, suc, _+_, _≤_}
 use native.Mathlib.Omega.{arith}
 use native.Mathlib.Numerals.{add-one}
 use lib.ListN.{length, set, length-append}
 use lib.Seq.{sets}
 use Rattle.words.specs.Spelling.{sameWord}
-use Rattle.words.specs.declared.spelling.Found.{Found}
 use Rattle.words.specs.declared.spelling.Found.the-variants.{At, Nothing}
 use Rattle.text.specs.Runs.{part}
 use Rattle.text.specs.Tokens.{tokenAt}
@@ -18,7 +17,6 @@ use Rattle.grammar.specs.Read.{_>>=_, Read, Reader, got, refused, give, andThen
 use Rattle.grammar.specs.Due.{token, onWord}
 use Rattle.grammar.specs.Terms.{Scope, Counted, counts}
 use Rattle.grammar.specs.Actions.{Timed, parts, atStart, fieldOf}
-use Rattle.due.specs.declared.Answer.{Answer}
 use Rattle.due.specs.declared.Answer.the-variants as A
 use Rattle.terms.specs.Cells.{Wrote}
 use Rattle.expressions.specs.Codes.{Written, Spent}

@@ -1,8 +1,8 @@
 -- The ways to a part, or to parts, by the word behind the bracket. Assumes nothing.
-use mathlib.Core.Path.{_≡_, refl, sym, ap, _∙_}
+use mathlib.Core.Path.{_≡_}
 use mathlib.Core.List.{List, [], _∷_}
 use mathlib.Core.Bool.{Bool, true, false, cond}
-use Prim.Native.Nat.{ℕ, _+_, _-_, _≤_, _<_}
+use Prim.Native.Nat.{ℕ, _+_, _-_, _≤_}
 use native.Mathlib.Omega.{arith}
 use lib.ListN.{length}
 use types.Run.{OneOf}
@@ -15,7 +15,7 @@ use Rattle.text.specs.declared.tokens.Word.{Word}
 use Rattle.text.specs.declared.tokens.Token.{Token}
 use Rattle.text.specs.declared.tokens.Token.the-variants as T
 use Rattle.text.proofs.tokens.Token as token-type
-use Rattle.grammar.specs.Read.{Read, Reader, got, refused}
+use Rattle.grammar.specs.Read.{Reader, got, refused}
 use Rattle.grammar.specs.Due.{numberOf, placeOf, opening}
 use Rattle.grammar.specs.Terms.{Counted}
 use Rattle.grammar.specs.Actions.{Timed, partBehind, partAt, partsTo, parts}

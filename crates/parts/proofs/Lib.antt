@@ -6,3 +6,4 @@ pub mod Parted
 pub mod Headed
 pub mod Listed
 pub mod Fielded
+pub mod Natural

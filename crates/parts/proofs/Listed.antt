@@ -14,7 +14,7 @@ use Rattle.text.specs.declared.tokens.Token.{Token}
 use Rattle.text.specs.declared.tokens.Token.the-variants as T
 use Rattle.text.proofs.tokens.Token as token-type
 use Rattle.grammar.specs.Read.{Read, Reader, got, refused, andThen}
-use Rattle.grammar.specs.Due.{onClose, closing}
+use Rattle.grammar.specs.Due.{closing}
 use Rattle.grammar.specs.Terms.{Counted, counts}
 use Rattle.grammar.specs.Actions.{Timed, partAt, partsTo}
 use Rattle.due.proofs.Dues.{not-close}
@@ -22,7 +22,7 @@ use Rattle.expressions.specs.Codes.{Written}
 use Rattle.expressions.specs.declared.leaves.Progress.{Progress}
 use Rattle.expressions.specs.declared.leaves.Progress.the-variants.{Done, Refused}
 use Rattle.expressions.proofs.Ends.{written-refused}
-use Rattle.expressions.proofs.Operands.{sets-append, Arrived, written-got, written-not}
+use Rattle.expressions.proofs.Operands.{sets-append, written-got, written-not}
 use Rattle.codes.specs.Cells.{whenCell}
 use Rattle.parts.specs.Bodies.{timedCells}
 

@@ -1,9 +1,8 @@
 -- The ways through a part's time, and whether a field follows. Assumes nothing.
-use mathlib.Core.Path.{_≡_, refl, sym, ap, _∙_}
+use mathlib.Core.Path.{_≡_, sym, ap, _∙_}
 use mathlib.Core.List.{List, [], _∷_}
 use mathlib.Core.Bool.{Bool, true, false}
 use Prim.Native.Nat.{ℕ, _≤_, _<_}
-use lib.ListN.{length}
 use types.Run.{OneOf}
 use denote.Enum.Declared.{tagOf}
 use Rattle.words.specs.Bytes.{bytes}
@@ -16,9 +15,9 @@ use Rattle.text.specs.declared.tokens.Word.{Word}
 use Rattle.text.specs.declared.tokens.Token.{Token}
 use Rattle.text.specs.declared.tokens.Token.the-variants as T
 use Rattle.text.proofs.tokens.Token as token-type
-use Rattle.grammar.specs.Read.{Reader, got, refused, give, refuse}
+use Rattle.grammar.specs.Read.{Reader, give, refuse}
 use Rattle.grammar.specs.Due.{numberOf, placeOf, afterOf, wordDue}
-use Rattle.grammar.specs.Actions.{When, start, whole, end, timeOf, fieldOf}
+use Rattle.grammar.specs.Actions.{When, start, end, timeOf, fieldOf}
 use Rattle.due.specs.Answers.{answerOf}
 use Rattle.due.specs.declared.Answer.{Answer}
 use Rattle.due.specs.declared.Answer.the-variants.{Done, Refused}

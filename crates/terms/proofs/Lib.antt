@@ -3,3 +3,4 @@ pub mod Kept
 pub mod Givens
 pub mod Wanted
 pub mod Signing
+pub mod Taken

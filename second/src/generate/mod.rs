@@ -1,6 +1,10 @@
 //! Cases for holding two checkers side by side: each a domain, a problem, a plan and a size of
 //! parts. Case `i` under a seed depends on nothing but the two.
 
+pub mod large;
+pub mod limits;
+pub mod loads;
+
 mod acts;
 mod bench;
 mod bulk;

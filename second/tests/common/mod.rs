@@ -6,6 +6,9 @@
 
 pub mod world;
 
+use std::fs::OpenOptions;
+use std::io::Write;
+
 pub const BENCH_DOMAIN: &str = "\
 (define (domain bench)
   (:types pump)
@@ -40,6 +43,7 @@ const VOCABULARY: &str = "\
 pub type Row<Text> = (u32, Text);
 
 pub fn line(domain: &str, problem: &str, plan: &str) -> String {
+    keep(domain, problem);
     second::answer(domain.as_bytes(), problem.as_bytes(), plan.as_bytes()).line
 }
 
@@ -169,4 +173,21 @@ pub fn times(count: usize, part: &str) -> String {
 /// A name of so many bytes.
 pub fn letters(count: usize) -> String {
     "a".repeat(count)
+}
+
+/// Adds the two texts as a record to the file that LOADS_RECORDS names, if it is set and they are
+/// short: so the stored cases of `loads` get the rows of these tests (crates/loads/README.md).
+fn keep(domain: &str, problem: &str) {
+    const SHORT: usize = 5_000;
+    let Some(path) = std::env::var_os("LOADS_RECORDS") else {
+        return;
+    };
+    if domain.len() + problem.len() <= SHORT {
+        let mut record = Vec::new();
+        let pair = (domain.into(), problem.into());
+        second::loads::write_records(&[pair], &mut record).expect("writing to memory");
+        let file = OpenOptions::new().create(true).append(true).open(path);
+        let written = file.and_then(|mut file| file.write_all(&record));
+        written.expect("the file can be written");
+    }
 }

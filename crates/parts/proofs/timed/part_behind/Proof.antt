@@ -1,111 +1,78 @@
 -- `parts::timed::part_behind` meets its contract. Assumes nothing.
-use mathlib.Core.Path.{_≡_, refl, sym, ap, _∙_}
+use mathlib.Core.Path.{sym, ap, _∙_}
 use denote.Ref.{now}
-use Prim.Native.Nat.{ℕ, _+_, _-_, _≤_, _<_}
+use Prim.Native.Nat.{_-_}
 use native.Mathlib.Omega.{arith}
-use lib.ListN.{length}
-use Rattle.due.proofs.Dues.{answer-done, answer-refused, ahead-done, word-in, close-in}
-use Rattle.due.specs.Answers.{answerOf}
+use Rattle.due.proofs.Dues.{answer-done, answer-refused, ahead-done}
 use Rattle.expressions.specs.Codes.{passed}
-use Rattle.expressions.proofs.Ends.{written-refused, spent-refused}
+use Rattle.expressions.proofs.Ends.{spent-refused}
 use Rattle.expressions.proofs.Operands.{spent-at}
-use Rattle.grammar.specs.Due.{opening, closing}
-use Rattle.grammar.specs.Terms.{Scope}
-use Rattle.grammar.specs.Actions.{timeOf, partBehind}
-use Rattle.terms.specs.Scoped.{Scoped}
-use Rattle.parts.specs.Bodies.{bodyOf, timedCells}
+use Rattle.grammar.specs.Due.{closing}
+use Rattle.grammar.specs.Actions.{timeOf}
+use Rattle.parts.specs.Bodies.{bodyOf}
 use Rattle.parts.proofs.Bodied.{spent-by}
-use Rattle.parts.proofs.Opening.{opened-deep, opened-refused, opened-else, opened-word}
 use Rattle.parts.proofs.Parted.{when-done, when-small, behind-untimed, behind-refused, behind-unclosed, behind-done}
-use Rattle.parts.proofs.Listed.{Onward, onward-start, onward-close, onward-refused, onward-more}
 use borrow.Author.Needs.{needs}
 use Rattle.parts.proofs.timed.part_behind.Statement.{statement}
 use Rattle.parts.proofs.timed.part_behind.Tie as tie
-use Rattle.parts.proofs.timed.part_behind.Reads as reads
-use Rattle.parts.proofs.timed.part_behind.Lts as lts
-use Rattle.due.proofs.closing.Reads as closing-reads
-use Rattle.expressions.proofs.leaves.progress_of.Reads as progress-of-reads
-use Rattle.literals.proofs.put.Reads as put-reads
-use Rattle.parts.proofs.bodies.body_at.Reads as body-at-reads
-use Rattle.parts.proofs.times.time_of.Reads as time-of-reads
 
--- src/timed.rt:36:9
 time-of-requires : tie.Need-time-of-requires
 time-of-requires c κs = search needs
 
--- src/timed.rt:37:22
 enum-known-w : tie.Need-enum-known-w
 enum-known-w c = search needs
 
--- src/timed.rt:38:9
 enum-told : tie.Need-enum-told
 enum-told c = search needs
 
--- src/timed.rt:38:9
 progress-of-requires : tie.Need-progress-of-requires
 progress-of-requires c κs = search needs
 
--- src/timed.rt:38:9
 returns : tie.Need-returns
 returns c = (λ x h. behind-untimed (now (c .before .before .before .before .before .before .before .args .text)) (c .before .before .before .before .before .before .before .args .over) (bodyOf (c .before .before .before .before .before .before .before .args .over) (now (c .before .before .before .before .before .before .before .args .text)) x) (c .before .before .before .before .before .before .before .args .d) (c .before .before .before .before .before .before .before .args .left) (c .before .before .before .before .before .before .before .args .p) (c .before .before .before .before .before .before .before .args .e) (now (c .before .before .before .before .before .before .before .args .code)) (c .before .before .before .before .before .before .before .args .used) (c .before .before .before .time-of .result) (c .progress-of .result) _ _ (c .before .before .before .time-of .ensures .0) (c .before .enum-told .given .1) (c .progress-of .ensures), spent-refused _ _ _ _ _ _ _ (c .progress-of .ensures ∙ ap (passed (c .before .before .before .before .before .before .before .args .left)) (c .before .enum-told .given .1)))
 
--- src/timed.rt:40:5
 put-requires : tie.Need-put-requires
 put-requires c κs = let t = (when-done (timeOf (now (c .before .before .before .before .before .before .before .before .args .text)) (c .before .before .before .before .before .before .before .before .args .d) (c .before .before .before .before .before .before .before .before .args .over) (c .before .before .before .before .before .before .before .before .args .p) (c .before .before .before .before .before .before .before .before .args .e) (c .before .before .before .before .before .before .before .before .args .e)) _ _ (sym (c .before .before .before .before .time-of .ensures .0) ∙ c .before .before .w .given .1)) in omega (arith, t .cell, when-small (t .when))
 
--- src/timed.rt:41:64
 add-body-at : tie.Need-add-body-at
 add-body-at c = search needs
 
--- src/timed.rt:41:9
 body-at-requires : tie.Need-body-at-requires
 body-at-requires c κs = let q = ahead-done _ _ _ _ _ (c .before .before .before .before .before .before .w .given .1) (c .before .before .before .before .before .before .before .before .time-of .ensures .1) in (q .1, c .before .before .before .before .before .before .before .before .before .before .before .before .pre .1, omega (arith, q .0, q .1, c .before .before .before .before .before .before .before .before .before .before .before .before .pre .2))
 
--- src/timed.rt:42:24
 enum-known-x : tie.Need-enum-known-x
 enum-known-x c = search needs
 
--- src/timed.rt:43:9
 enum-told-2 : tie.Need-enum-told-2
 enum-told-2 c = search needs
 
--- src/timed.rt:43:9
 same-length : tie.Need-same-length
 same-length c = search needs
 
--- src/timed.rt:43:9
 returns-2 : tie.Need-returns-2
 returns-2 c = (λ x h. behind-refused (now (c .before .before .before .before .before .before .before .before .before .before .before .before .before .before .before .before .before .args .text)) (c .before .before .before .before .before .before .before .before .before .before .before .before .before .before .before .before .before .args .over) (bodyOf (c .before .before .before .before .before .before .before .before .before .before .before .before .before .before .before .before .before .args .over) (now (c .before .before .before .before .before .before .before .before .before .before .before .before .before .before .before .before .before .args .text)) x) (c .before .before .before .before .before .before .before .before .before .before .before .before .before .before .before .before .before .args .d) (c .before .before .before .before .before .before .before .before .before .before .before .before .before .before .before .before .before .args .left) (c .before .before .before .before .before .before .before .before .before .before .before .before .before .before .before .before .before .args .p) (c .before .before .before .before .before .before .before .before .before .before .before .before .before .before .before .before .before .args .e) (now (c .before .before .before .before .before .before .before .before .before .before .before .before .before .before .before .before .before .args .code)) (c .before .before .before .before .before .before .before .before .before .before .before .before .before .before .before .before .before .args .used) _ _ (when-done (timeOf (now (c .before .before .before .before .before .before .before .before .before .before .before .before .before .before .before .before .before .args .text)) (c .before .before .before .before .before .before .before .before .before .before .before .before .before .before .before .before .before .args .d) (c .before .before .before .before .before .before .before .before .before .before .before .before .before .before .before .before .before .args .over) (c .before .before .before .before .before .before .before .before .before .before .before .before .before .before .before .before .before .args .p) (c .before .before .before .before .before .before .before .before .before .before .before .before .before .before .before .before .before .args .e) (c .before .before .before .before .before .before .before .before .before .before .before .before .before .before .before .before .before .args .e)) _ _ (sym (c .before .before .before .before .before .before .before .before .before .before .before .before .before .time-of .ensures .0) ∙ c .before .before .before .before .before .before .before .before .before .before .before .w .given .1)) _ (c .before .before .before .before .body-at .result) _ (c .before .before .before .before .body-at .ensures .0 x h) _ _ (c .enum-told2 .given .1), spent-refused _ _ _ _ _ _ _ (c .enum-told2 .given .1))
 
--- src/timed.rt:45:9
 closing-requires : tie.Need-closing-requires
 closing-requires c κs = let w = spent-at 1 _ _ _ _ _ _ _ (c .before .x .given .1) (c .before .before .before .before .before .body-at .ensures .1) in w .1
 
--- src/timed.rt:46:22
 enum-known-c : tie.Need-enum-known-c
 enum-known-c c = search needs
 
--- src/timed.rt:47:9
 enum-told-3 : tie.Need-enum-told-3
 enum-told-3 c = search needs
 
--- src/timed.rt:47:9
 progress-of-requires-2 : tie.Need-progress-of-requires-2
 progress-of-requires-2 c κs = search needs
 
--- src/timed.rt:47:9
 same-length-2 : tie.Need-same-length-2
 same-length-2 c = search needs
 
--- src/timed.rt:47:9
 returns-3 : tie.Need-returns-3
 returns-3 c = (λ x h. behind-unclosed (now (c .before .before .before .before .before .before .before .before .before .before .before .before .before .before .before .before .before .before .before .before .before .before .args .text)) (c .before .before .before .before .before .before .before .before .before .before .before .before .before .before .before .before .before .before .before .before .before .before .args .over) (bodyOf (c .before .before .before .before .before .before .before .before .before .before .before .before .before .before .before .before .before .before .before .before .before .before .args .over) (now (c .before .before .before .before .before .before .before .before .before .before .before .before .before .before .before .before .before .before .before .before .before .before .args .text)) x) (c .before .before .before .before .before .before .before .before .before .before .before .before .before .before .before .before .before .before .before .before .before .before .args .d) (c .before .before .before .before .before .before .before .before .before .before .before .before .before .before .before .before .before .before .before .before .before .before .args .left) (c .before .before .before .before .before .before .before .before .before .before .before .before .before .before .before .before .before .before .before .before .before .before .args .p) (c .before .before .before .before .before .before .before .before .before .before .before .before .before .before .before .before .before .before .before .before .before .before .args .e) (now (c .before .before .before .before .before .before .before .before .before .before .before .before .before .before .before .before .before .before .before .before .before .before .args .code)) (c .before .before .before .before .before .before .before .before .before .before .before .before .before .before .before .before .before .before .before .before .before .before .args .used) _ _ (when-done (timeOf (now (c .before .before .before .before .before .before .before .before .before .before .before .before .before .before .before .before .before .before .before .before .before .before .args .text)) (c .before .before .before .before .before .before .before .before .before .before .before .before .before .before .before .before .before .before .before .before .before .before .args .d) (c .before .before .before .before .before .before .before .before .before .before .before .before .before .before .before .before .before .before .before .before .before .before .args .over) (c .before .before .before .before .before .before .before .before .before .before .before .before .before .before .before .before .before .before .before .before .before .before .args .p) (c .before .before .before .before .before .before .before .before .before .before .before .before .before .before .before .before .before .before .before .before .before .before .args .e) (c .before .before .before .before .before .before .before .before .before .before .before .before .before .before .before .before .before .before .before .before .before .before .args .e)) _ _ (sym (c .before .before .before .before .before .before .before .before .before .before .before .before .before .before .before .before .before .before .time-of .ensures .0) ∙ c .before .before .before .before .before .before .before .before .before .before .before .before .before .before .before .before .w .given .1)) _ (c .before .before .before .before .before .before .before .before .before .body-at .result) _ (c .before .before .before .before .before .before .before .before .before .body-at .ensures .0 x h) _ _ _ (c .before .before .before .before .before .x .given .1) (c .progress-of2 .result) _ _ (answer-refused (closing (now (c .before .before .before .before .before .before .before .before .before .before .before .before .before .before .before .before .before .before .before .before .before .before .args .text)) (c .before .before .before .before .before .before .before .before .before .before .before .before .before .before .before .before .before .before .before .before .before .before .args .d) _) _ _ (sym (c .before .before .before .closing .ensures .0) ∙ c .before .enum-told3 .given .1)) (c .progress-of2 .ensures ∙ ap (passed _) (c .before .enum-told3 .given .1)), spent-refused _ _ _ _ _ _ _ (c .progress-of2 .ensures ∙ ap (passed _) (c .before .enum-told3 .given .1)))
 
--- src/timed.rt:21:1
 same-length-3 : tie.Need-same-length-3
 same-length-3 c = search needs
 
--- src/timed.rt:21:1
 returns-4 : tie.Need-returns-4
 returns-4 c = let q = ahead-done _ _ _ _ _ (c .before .before .before .before .before .before .before .before .before .before .before .before .before .before .before .before .w .given .1) (c .before .before .before .before .before .before .before .before .before .before .before .before .before .before .before .before .before .before .time-of .ensures .1) in let w = spent-at 1 _ _ _ _ _ _ _ (c .before .before .before .before .before .x .given .1) (c .before .before .before .before .before .before .before .before .before .body-at .ensures .1) in let z = ahead-done _ _ _ _ _ (c .before .c .given .1) (c .before .before .before .closing .ensures .1) in (λ x h. behind-done (now (c .before .before .before .before .before .before .before .before .before .before .before .before .before .before .before .before .before .before .before .before .before .before .args .text)) (c .before .before .before .before .before .before .before .before .before .before .before .before .before .before .before .before .before .before .before .before .before .before .args .over) (bodyOf (c .before .before .before .before .before .before .before .before .before .before .before .before .before .before .before .before .before .before .before .before .before .before .args .over) (now (c .before .before .before .before .before .before .before .before .before .before .before .before .before .before .before .before .before .before .before .before .before .before .args .text)) x) (c .before .before .before .before .before .before .before .before .before .before .before .before .before .before .before .before .before .before .before .before .before .before .args .d) (c .before .before .before .before .before .before .before .before .before .before .before .before .before .before .before .before .before .before .before .before .before .before .args .left) (c .before .before .before .before .before .before .before .before .before .before .before .before .before .before .before .before .before .before .before .before .before .before .args .p) (c .before .before .before .before .before .before .before .before .before .before .before .before .before .before .before .before .before .before .before .before .before .before .args .e) (now (c .before .before .before .before .before .before .before .before .before .before .before .before .before .before .before .before .before .before .before .before .before .before .args .code)) (c .before .before .before .before .before .before .before .before .before .before .before .before .before .before .before .before .before .before .before .before .before .before .args .used) _ _ (when-done (timeOf (now (c .before .before .before .before .before .before .before .before .before .before .before .before .before .before .before .before .before .before .before .before .before .before .args .text)) (c .before .before .before .before .before .before .before .before .before .before .before .before .before .before .before .before .before .before .before .before .before .before .args .d) (c .before .before .before .before .before .before .before .before .before .before .before .before .before .before .before .before .before .before .before .before .before .before .args .over) (c .before .before .before .before .before .before .before .before .before .before .before .before .before .before .before .before .before .before .before .before .before .before .args .p) (c .before .before .before .before .before .before .before .before .before .before .before .before .before .before .before .before .before .before .before .before .before .before .args .e) (c .before .before .before .before .before .before .before .before .before .before .before .before .before .before .before .before .before .before .before .before .before .before .args .e)) _ _ (sym (c .before .before .before .before .before .before .before .before .before .before .before .before .before .before .before .before .before .before .time-of .ensures .0) ∙ c .before .before .before .before .before .before .before .before .before .before .before .before .before .before .before .before .w .given .1)) _ (c .before .before .before .before .before .before .before .before .before .body-at .result) _ (c .before .before .before .before .before .before .before .before .before .body-at .ensures .0 x h) _ _ _ (c .before .before .before .before .before .x .given .1) _ _ (answer-done (closing (now (c .before .before .before .before .before .before .before .before .before .before .before .before .before .before .before .before .before .before .before .before .before .before .args .text)) (c .before .before .before .before .before .before .before .before .before .before .before .before .before .before .before .before .before .before .before .before .before .before .args .d) _) _ _ (sym (c .before .before .before .closing .ensures .0) ∙ c .before .c .given .1)) (c .before .before .before .before .before .before .before .before .before .before .before .before .before .put .ensures), spent-by 0 _ _ _ _ _ _ (omega (arith, q .0, w .0, z .0)) (z .1) (omega (arith, w .2)) (omega (arith, q .0, w .3, z .0)))
 

@@ -2,71 +2,51 @@
 use mathlib.Core.Path.{refl, sym, _∙_}
 use denote.Ref.{now}
 use native.Mathlib.Omega.{arith}
-use borrow.Author.Tests.{not-false}
-use Rattle.due.proofs.Dues.{ahead-done, ahead-refused, ahead-by, word-in}
+use Rattle.due.proofs.Dues.{ahead-refused, ahead-by, word-in}
 use Rattle.words.specs.Bytes.{bytes}
 use Rattle.parts.proofs.Timing.{behind-else, behind-start, behind-end, behind-other}
 use borrow.Author.Needs.{needs}
 use Rattle.parts.proofs.times.behind_at.Statement.{statement}
 use Rattle.parts.proofs.times.behind_at.Tie as tie
-use Rattle.parts.proofs.times.behind_at.Reads as reads
-use Rattle.parts.proofs.times.behind_at.Lts as lts
-use Rattle.due.proofs.refusal.Reads as refusal-reads
-use Rattle.text.proofs.runs.part_of.Reads as part-of-reads
-use Rattle.text.proofs.tokens.token_at.Reads as token-at-reads
-use Rattle.words.proofs.spelling.same_word.Reads as same-word-reads
 
--- src/times.rt:19:9
 token-at-requires : tie.Need-token-at-requires
 token-at-requires c κs = search needs
 
--- src/times.rt:20:24
 enum-known-t : tie.Need-enum-known-t
 enum-known-t c = search needs
 
--- src/times.rt:21:9
 refusal-requires : tie.Need-refusal-requires
 refusal-requires c κs = search needs
 
--- src/times.rt:21:9
 returns : tie.Need-returns
 returns c = (behind-else (now (c .before .before .before .before .args .text)) (c .before .before .before .before .args .d) (c .before .before .before .before .args .from) (c .before .before .token-at .result) _ (c .before .before .token-at .ensures) (c .before .match .keys2) (c .refusal .ensures), ahead-refused _ _ _ _ _ (c .refusal .ensures))
 
--- src/times.rt:23:28
 part-of-requires : tie.Need-part-of-requires
 part-of-requires c κs = search needs
 
--- src/times.rt:23:55
 slice-aggregate-same-word : tie.Need-slice-aggregate-same-word
 slice-aggregate-same-word c = search needs
 
--- src/times.rt:23:8
 same-word-requires : tie.Need-same-word-requires
 same-word-requires c κs = search needs
 
--- src/times.rt:24:9
 returns-2 : tie.Need-returns-2
 unfolding bytes
 returns-2 c = let w = word-in (now (c .before .before .before .before .before .before .before .before .before .args .text)) (c .before .before .before .before .before .before .before .before .before .args .from) (c .before .before .before .before .before .before .before .before .before .pre) _ _ _ (sym (c .before .before .before .before .before .before .before .token-at .ensures) ∙ c .before .before .before .before .before .t .given .1) in (behind-start (now (c .before .before .before .before .before .before .before .before .before .args .text)) (c .before .before .before .before .before .before .before .before .before .args .d) (c .before .before .before .before .before .before .before .before .before .args .from) _ _ _ (sym (c .before .before .before .before .before .before .before .token-at .ensures) ∙ c .before .before .before .before .before .t .given .1) (rw (c .before .before .before .part-of .ensures) at (sym (c .before .same-word .ensures) ∙ c .if1 .taken)), ahead-by _ _ _ _ (omega arith) (w .2))
 
--- src/times.rt:26:28
 part-of-requires-2 : tie.Need-part-of-requires-2
 part-of-requires-2 c κs = search needs
 
--- src/times.rt:26:55
 slice-aggregate-same-word-2 : tie.Need-slice-aggregate-same-word-2
 slice-aggregate-same-word-2 c = search needs
 
--- src/times.rt:26:8
 same-word-requires-2 : tie.Need-same-word-requires-2
 same-word-requires-2 c κs = search needs
 
--- src/times.rt:27:9
 returns-3 : tie.Need-returns-3
 unfolding bytes
 returns-3 c = let w = word-in (now (c .before .before .before .before .before .before .before .before .before .before .before .before .before .args .text)) (c .before .before .before .before .before .before .before .before .before .before .before .before .before .args .from) (c .before .before .before .before .before .before .before .before .before .before .before .before .before .pre) _ _ _ (sym (c .before .before .before .before .before .before .before .before .before .before .before .token-at .ensures) ∙ c .before .before .before .before .before .before .before .before .before .t .given .1) in (behind-end (now (c .before .before .before .before .before .before .before .before .before .before .before .before .before .args .text)) (c .before .before .before .before .before .before .before .before .before .before .before .before .before .args .d) (c .before .before .before .before .before .before .before .before .before .before .before .before .before .args .from) _ _ _ (sym (c .before .before .before .before .before .before .before .before .before .before .before .token-at .ensures) ∙ c .before .before .before .before .before .before .before .before .before .t .given .1) (rw (c .before .before .before .before .before .before .before .part-of .ensures) at (sym (c .before .before .before .before .before .same-word .ensures) ∙ c .before .before .before .before .if1 .left)) (rw (c .before .before .before .part-of2 .ensures) at (sym (c .before .same-word2 .ensures) ∙ c .if2 .taken)), ahead-by _ _ _ _ (omega arith) (w .2))
 
--- src/times.rt:15:1
 returns-4 : tie.Need-returns-4
 unfolding bytes
 returns-4 c = (behind-other (now (c .before .before .before .before .before .before .before .before .before .before .before .before .before .args .text)) (c .before .before .before .before .before .before .before .before .before .before .before .before .before .args .d) (c .before .before .before .before .before .before .before .before .before .before .before .before .before .args .from) _ _ _ (sym (c .before .before .before .before .before .before .before .before .before .before .before .token-at .ensures) ∙ c .before .before .before .before .before .before .before .before .before .t .given .1) (rw (c .before .before .before .before .before .before .before .part-of .ensures) at (sym (c .before .before .before .before .before .same-word .ensures) ∙ c .before .before .before .before .if1 .left)) (rw (c .before .before .before .part-of2 .ensures) at (sym (c .before .same-word2 .ensures) ∙ c .if2 .left)), ahead-refused _ _ 3 _ _ refl)

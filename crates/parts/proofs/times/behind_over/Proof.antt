@@ -1,40 +1,28 @@
 -- `parts::times::behind_over` meets its contract. Assumes nothing.
-use mathlib.Core.Path.{refl, sym, _∙_}
 use denote.Ref.{now}
-use native.Mathlib.Omega.{arith}
-use borrow.Author.Tests.{not-false}
-use Rattle.due.proofs.Dues.{ahead-done, ahead-refused, ahead-by, word-in}
+use Rattle.due.proofs.Dues.{ahead-done, ahead-refused, ahead-by}
 use Rattle.words.specs.Bytes.{bytes}
 use Rattle.parts.proofs.Timing.{over-refused, over-read}
 use borrow.Author.Needs.{needs}
 use Rattle.parts.proofs.times.behind_over.Statement.{statement}
 use Rattle.parts.proofs.times.behind_over.Tie as tie
-use Rattle.parts.proofs.times.behind_over.Reads as reads
-use Rattle.parts.proofs.times.behind_over.Lts as lts
-use Rattle.due.proofs.word_due.Reads as word-due-reads
 
--- src/times.rt:37:42
 slice-aggregate-word-due : tie.Need-slice-aggregate-word-due
 slice-aggregate-word-due c = search needs
 
--- src/times.rt:37:9
 word-due-requires : tie.Need-word-due-requires
 word-due-requires c κs = search needs
 
--- src/times.rt:38:22
 enum-known-a : tie.Need-enum-known-a
 enum-known-a c = search needs
 
--- src/times.rt:39:9
 enum-told : tie.Need-enum-told
 enum-told c = search needs
 
--- src/times.rt:39:9
 returns : tie.Need-returns
 unfolding bytes
 returns c = (over-refused (now (c .before .before .before .before .before .args .text)) (c .before .before .before .before .before .args .d) (c .before .before .before .before .before .args .from) (c .before .before .word-due .result) _ _ (c .before .before .word-due .ensures .0) (c .enum-told .given .1), ahead-refused _ _ _ _ _ (c .enum-told .given .1))
 
--- src/times.rt:33:1
 returns-2 : tie.Need-returns-2
 unfolding bytes
 returns-2 c = let w = ahead-done _ _ _ _ _ (c .before .a .given .1) (c .before .before .before .word-due .ensures .1) in (over-read (now (c .before .before .before .before .before .before .args .text)) (c .before .before .before .before .before .before .args .d) (c .before .before .before .before .before .before .args .from) (c .before .before .before .word-due .result) _ _ (c .before .before .before .word-due .ensures .0) (c .before .a .given .1), ahead-by _ _ _ _ (w .0) (w .1))

@@ -1,69 +1,49 @@
 -- `parts::times::time_of` meets its contract. Assumes nothing.
 use mathlib.Core.Path.{refl, sym, _∙_}
 use denote.Ref.{now}
-use native.Mathlib.Omega.{arith}
-use borrow.Author.Tests.{not-false}
-use Rattle.due.proofs.Dues.{ahead-done, ahead-refused, ahead-by, word-in}
+use Rattle.due.proofs.Dues.{ahead-refused}
 use Rattle.words.specs.Bytes.{bytes}
 use Rattle.parts.proofs.Timing.{time-at, time-over, time-neither, time-effect}
 use borrow.Author.Needs.{needs}
 use Rattle.parts.proofs.times.time_of.Statement.{statement}
 use Rattle.parts.proofs.times.time_of.Tie as tie
-use Rattle.parts.proofs.times.time_of.Reads as reads
-use Rattle.parts.proofs.times.time_of.Lts as lts
-use Rattle.parts.proofs.times.behind_at.Reads as behind-at-reads
-use Rattle.parts.proofs.times.behind_over.Reads as behind-over-reads
-use Rattle.text.proofs.runs.part_of.Reads as part-of-reads
-use Rattle.words.proofs.spelling.same_word.Reads as same-word-reads
 
--- src/times.rt:49:28
 part-of-requires : tie.Need-part-of-requires
 part-of-requires c κs = search needs
 
--- src/times.rt:49:55
 slice-aggregate-same-word : tie.Need-slice-aggregate-same-word
 slice-aggregate-same-word c = search needs
 
--- src/times.rt:49:8
 same-word-requires : tie.Need-same-word-requires
 same-word-requires c κs = search needs
 
--- src/times.rt:50:9
 behind-at-requires : tie.Need-behind-at-requires
 behind-at-requires c κs = search needs
 
--- src/times.rt:50:9
 returns : tie.Need-returns
 unfolding bytes
 returns c = (time-at (now (c .before .before .before .before .before .before .args .text)) (c .before .before .before .before .before .before .args .d) (c .before .before .before .before .before .before .args .over) (c .before .before .before .before .before .before .args .p) (c .before .before .before .before .before .before .args .e) _ (rw (c .before .before .before .before .part-of .ensures) at (sym (c .before .before .same-word .ensures) ∙ c .before .if1 .taken)) (c .behind-at .ensures .0), c .behind-at .ensures .1)
 
--- src/times.rt:53:32
 part-of-requires-2 : tie.Need-part-of-requires-2
 part-of-requires-2 c κs = search needs
 
--- src/times.rt:53:59
 slice-aggregate-same-word-2 : tie.Need-slice-aggregate-same-word-2
 slice-aggregate-same-word-2 c = search needs
 
--- src/times.rt:53:12
 same-word-requires-2 : tie.Need-same-word-requires-2
 same-word-requires-2 c κs = search needs
 
--- src/times.rt:54:13
 behind-over-requires : tie.Need-behind-over-requires
 behind-over-requires c κs = search needs
 
--- src/times.rt:54:13
 returns-2 : tie.Need-returns-2
 unfolding bytes
 returns-2 c = (time-over (now (c .before .before .before .before .before .before .before .before .before .before .before .args .text)) (c .before .before .before .before .before .before .before .before .before .before .before .args .d) (c .before .before .before .before .before .before .before .before .before .before .before .args .over) (c .before .before .before .before .before .before .before .before .before .before .before .args .p) (c .before .before .before .before .before .before .before .before .before .before .before .args .e) (rw (c .before .before .before .before .before .before .before .before .before .part-of .ensures) at (sym (c .before .before .before .before .before .before .before .same-word .ensures) ∙ c .before .before .before .before .before .before .if1 .left)) _ (c .before .before .before .before .before .if2 .taken) (rw (c .before .before .before .before .part-of2 .ensures) at (sym (c .before .before .same-word2 .ensures) ∙ c .before .if3 .taken)) (c .behind-over .ensures .0), c .behind-over .ensures .1)
 
--- src/times.rt:45:1
 returns-3 : tie.Need-returns-3
 unfolding bytes
 returns-3 c = (time-neither (now (c .before .before .before .before .before .before .before .before .before .before .args .text)) (c .before .before .before .before .before .before .before .before .before .before .args .d) (c .before .before .before .before .before .before .before .before .before .before .args .over) (c .before .before .before .before .before .before .before .before .before .before .args .p) (c .before .before .before .before .before .before .before .before .before .before .args .e) (rw (c .before .before .before .before .before .before .before .before .part-of .ensures) at (sym (c .before .before .before .before .before .before .same-word .ensures) ∙ c .before .before .before .before .before .if1 .left)) (c .before .before .before .before .if2 .taken) (rw (c .before .before .before .part-of2 .ensures) at (sym (c .before .same-word2 .ensures) ∙ c .if3 .left)), ahead-refused _ _ 3 _ _ refl)
 
--- src/times.rt:45:1
 returns-4 : tie.Need-returns-4
 unfolding bytes
 returns-4 c = (time-effect (now (c .before .before .before .before .before .before .args .text)) (c .before .before .before .before .before .before .args .d) (c .before .before .before .before .before .before .args .over) (c .before .before .before .before .before .before .args .p) (c .before .before .before .before .before .before .args .e) (rw (c .before .before .before .before .part-of .ensures) at (sym (c .before .before .same-word .ensures) ∙ c .before .if1 .left)) (c .if2 .left), ahead-refused _ _ 3 _ _ refl)

@@ -1,0 +1,13 @@
+-- `domain::fixed` meets its contract. Assumes nothing.
+use mathlib.Core.Path.{refl}
+use Rattle.init.specs.State.{noFacts, noNumbers}
+use Rattle.domain.specs.Load.{fixedOf}
+use Rattle.domain.proofs.fixed.Statement.{statement}
+use Rattle.domain.proofs.fixed.Tie as tie
+
+returns : tie.Need-returns
+unfolding fixedOf noFacts noNumbers
+returns c = refl
+
+pub fixed-spec : {M : Type 1} → statement M
+fixed-spec = tie.close (tie.spec returns)

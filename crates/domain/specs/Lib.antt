@@ -1,0 +1,4 @@
+-- What load gives, and how it is read back.
+pub mod Load
+pub mod Decode
+pub mod Examples

@@ -1,0 +1,2 @@
+-- How tables are read back from their rows.
+pub mod Entries

@@ -1,0 +1,1 @@
+// Tables of declared names, read back from the rows in which they lie: definitions and laws, no code.

@@ -1,0 +1,1 @@
+// What the grammar reads has no more cells than bytes were read: laws, no code.

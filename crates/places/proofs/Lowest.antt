@@ -1,0 +1,36 @@
+-- The law of the lowest place, of a domain and of a problem.
+use mathlib.Core.Path.{_≡_, sym, _∙_}
+use Prim.Native.Nat.{ℕ, _≤_, _<_}
+use native.Mathlib.Nat.{le-refl}
+use native.Mathlib.Omega.{arith}
+use Rattle.grammar.specs.Read.{Read, refused}
+use Rattle.grammar.specs.Domain.{domainText, readDomain}
+use Rattle.grammar.specs.Problem.{problemText, readProblem}
+use Rattle.places.specs.Lowest.{reach, reachInProblem, LowestInDomain, LowestInProblem}
+use Rattle.places.proofs.Local.{Edge, Far, Good, far, near}
+use Rattle.places.proofs.Suffice.{reach-above, reach-bracket, waits, edgeOf}
+use Rattle.places.proofs.Domains.{domain-local}
+use Rattle.places.proofs.Problems.{problem-local}
+
+-- what is refused within the edge is refused so in both
+within-edge : {A : Type 0} {E : Edge} {f : ℕ} {F : ℕ → Type 0} (k p : ℕ) (x y : Read A)
+    → 0 < k → E .reaches k p ≤ E .edge → x ≡ refused k p → Good E f F x y → y ≡ refused k p
+unfolding Far
+within-edge k p x y h i e (far z) = absurd (let o : ⊥ = omega (arith, (rw e at z) h) in o)
+within-edge k p x y h i e (near j d) = sym d ∙ e
+
+pub lowest-in-domain : LowestInDomain
+unfolding readDomain
+lowest-in-domain s t k p h a e =
+    within-edge {E = E} k p (domainText s 0) (domainText t 0) h (le-refl (reach s k p)) e (domain-local {E = E} .good t (record { same = a }) 0)
+  where
+    E : Edge
+    E = record { text = s; edge = reach s k p; reaches = reach s; above = reach-above s; bracket = reach-bracket s }
+
+pub lowest-in-problem : LowestInProblem
+unfolding readProblem reachInProblem
+lowest-in-problem s t d k p h a e =
+    within-edge {E = E} k p (problemText s d 0) (problemText t d 0) h (le-refl (reachInProblem s k p)) e (problem-local {E = E} (waits s) d .good t (record { same = a }) 0)
+  where
+    E : Edge
+    E = edgeOf s (reachInProblem s k p)

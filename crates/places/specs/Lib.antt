@@ -1,0 +1,3 @@
+-- What the law says, and how far it reaches in short texts.
+pub mod Lowest
+pub mod Examples

@@ -1,0 +1,3 @@
+-- What the contracts name, module by module.
+pub mod Parts
+pub mod Posed
