@@ -9,24 +9,34 @@ use crate::{answer, written};
 /// says how the plan would be fed in parts; whole texts are read here, so it changes nothing.
 pub fn answer_records(input: &mut dyn BufRead, output: &mut dyn Write) -> io::Result<()> {
     for record in 1u64.. {
-        let mut header = Vec::new();
-        input.read_until(b'\n', &mut header)?;
-        if header.is_empty() {
+        let Some([domain, problem, plan]) = read_record(input, record)? else {
             break;
-        }
-        let lengths = lengths(&header).ok_or_else(|| malformed(record, "its header"))?;
-        let mut texts = [Vec::new(), Vec::new(), Vec::new()];
-        for (text, length) in texts.iter_mut().zip(lengths) {
-            let read = (&mut *input).take(length).read_to_end(text)?;
-            if read as u64 != length {
-                return Err(malformed(record, "fewer bytes than its header says"));
-            }
-        }
-        let [domain, problem, plan] = &texts;
-        let written = written(&answer(domain, problem, plan));
+        };
+        let written = written(&answer(&domain, &problem, &plan));
         writeln!(output, "{written}--")?;
     }
     output.flush()
+}
+
+/// The three texts of the next record, none if the input ends before it.
+pub(crate) fn read_record(
+    input: &mut dyn BufRead,
+    record: u64,
+) -> io::Result<Option<[Vec<u8>; 3]>> {
+    let mut header = Vec::new();
+    input.read_until(b'\n', &mut header)?;
+    if header.is_empty() {
+        return Ok(None);
+    }
+    let lengths = lengths(&header).ok_or_else(|| malformed(record, "its header"))?;
+    let mut texts = [Vec::new(), Vec::new(), Vec::new()];
+    for (text, length) in texts.iter_mut().zip(lengths) {
+        let read = (&mut *input).take(length).read_to_end(text)?;
+        if read as u64 != length {
+            return Err(malformed(record, "fewer bytes than its header says"));
+        }
+    }
+    Ok(Some(texts))
 }
 
 /// The three lengths of a header line, none if it is malformed.

@@ -3,6 +3,7 @@
 
 pub mod batch;
 pub mod generate;
+pub mod happenings;
 pub mod loads;
 
 mod actions;

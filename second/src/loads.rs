@@ -4,6 +4,7 @@ use std::io::{self, Error, ErrorKind, Read, Write};
 
 use crate::domain::{read_domain, Domain};
 use crate::problem::{read_problem, Problem};
+use crate::state::State;
 use crate::text::Refusal;
 
 /// Two lengths of five digits each, parted by a space and ended by LF.
@@ -37,13 +38,21 @@ pub fn line(domain: &[u8], problem: &[u8]) -> String {
         vocabulary.functions.len(),
         domain.actions.len(),
     ];
-    let facts = problem.initial.facts.iter().enumerate();
-    let numbers = problem.initial.numbers.iter().enumerate();
     format!(
-        "loaded{} first{} and{} true{} numbers{}\n",
+        "loaded{} first{} and{}{}\n",
         spaced(counts),
         spaced(&problem.layout.first_facts),
         spaced(&problem.layout.first_numbers),
+        state_written(&problem.initial),
+    )
+}
+
+/// The true facts, and the defined numbers with their thousandths.
+pub(crate) fn state_written(state: &State) -> String {
+    let facts = state.facts.iter().enumerate();
+    let numbers = state.numbers.iter().enumerate();
+    format!(
+        " true{} numbers{}",
         spaced(facts.filter(|(_, fact)| **fact).map(|(index, _)| index)),
         spaced(numbers.filter_map(|(index, number)| Some(format!("{index} {}", (*number)?)))),
     )

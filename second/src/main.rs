@@ -1,5 +1,5 @@
 //! The command line: one check from three files, many from standard input, loads
-//! alone, or generated cases.
+//! or happenings alone, or generated cases.
 
 use std::env;
 use std::ffi::{OsStr, OsString};
@@ -9,7 +9,8 @@ use std::path::Path;
 use std::process::ExitCode;
 
 const USAGE: &str = "usage: second [--state] DOMAIN PROBLEM PLAN | second --batch | \
-                     second --generate SEED N | second --loads | \
+                     second --generate SEED N | second --happenings MOST | \
+                     second --happenings-answers MOST | second --loads | \
                      second --loads-cases SEED DOMAIN PROBLEM RECORDS | second --loads-large N";
 
 fn main() -> ExitCode {
@@ -34,6 +35,16 @@ fn run(arguments: &[OsString]) -> Result<(), String> {
         (Some("--generate"), [_, seed, count]) => {
             second::generate::generate(number(seed)?, number(count)?, output)
                 .and_then(|()| output.flush())
+                .map_err(|error| error.to_string())
+        }
+        (Some("--happenings"), [_, most]) => {
+            let input = &mut BufReader::new(io::stdin().lock());
+            second::happenings::lay_out(input, number(most)?, output)
+                .map_err(|error| error.to_string())
+        }
+        (Some("--happenings-answers"), [_, most]) => {
+            let input = &mut BufReader::new(io::stdin().lock());
+            second::happenings::answers(input, number(most)?, output)
                 .map_err(|error| error.to_string())
         }
         (Some("--loads"), [_]) => {

@@ -1,14 +1,15 @@
 // The line of a load: a refusal as document 01 writes it, else the counts, the first indexes and the first state.
-use crate::output;
 use domain::Loaded;
 use domain::Model;
 use domain::Verdict;
+use records::output;
+use records::state;
 use terms::scope::Counts;
 
 pub fn line(loaded: Loaded, out: &mut [u8], used: usize) -> usize {
     let verdict = loaded.answer;
     match verdict {
-        Verdict::Loaded => state(loaded, out, used),
+        Verdict::Loaded => known(loaded, out, used),
         Verdict::Domain(number, place) => refused(b"refused domain", number, place, out, used),
         Verdict::Problem(number, place) => refused(b"refused problem", number, place, out, used),
     }
@@ -21,12 +22,11 @@ fn refused(words: &[u8], number: u8, place: usize, out: &mut [u8], used: usize) 
     output::word(out, at, b" 0\n")
 }
 
-fn state(loaded: Loaded, out: &mut [u8], used: usize) -> usize {
+fn known(loaded: Loaded, out: &mut [u8], used: usize) -> usize {
     let model = loaded.model;
     let mut at = counts(model.counts, model.acting, out, used);
     at = layout(model, out, at);
-    at = facts(&loaded.facts, out, at);
-    at = numbers(&loaded.numbers, out, at);
+    at = state::state(&loaded.facts, &loaded.numbers, out, at);
     output::word(out, at, b"\n")
 }
 
@@ -62,43 +62,6 @@ fn firsts(indexes: &[usize], n: usize, out: &mut [u8], used: usize) -> usize {
 fn first(i: usize, n: usize, index: usize, out: &mut [u8], used: usize) -> usize {
     if i < n {
         return output::number(out, used, index as u64);
-    }
-    used
-}
-
-// The indexes of the true facts.
-fn facts(values: &[u8], out: &mut [u8], used: usize) -> usize {
-    let mut at = output::word(out, used, b" true");
-    let mut i = 0;
-    while i < values.len() {
-        at = fact(i, values[i], out, at);
-        i += 1;
-    }
-    at
-}
-
-fn fact(i: usize, value: u8, out: &mut [u8], used: usize) -> usize {
-    if value != 0 {
-        return output::number(out, used, i as u64);
-    }
-    used
-}
-
-// The indexes of the defined numbers, each with its value in thousandths.
-fn numbers(values: &[i64], out: &mut [u8], used: usize) -> usize {
-    let mut at = output::word(out, used, b" numbers");
-    let mut i = 0;
-    while i < values.len() {
-        at = number(i, values[i], out, at);
-        i += 1;
-    }
-    at
-}
-
-fn number(i: usize, value: i64, out: &mut [u8], used: usize) -> usize {
-    if output::is_defined(value) {
-        let at = output::number(out, used, i as u64);
-        return output::signed(out, at, value);
     }
     used
 }

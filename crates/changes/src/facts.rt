@@ -1,0 +1,58 @@
+// The effects of a point on facts: what it deletes, or what it adds.
+use grounds::Who;
+use happenings::Mark;
+use marks::steps;
+ghost use mathlib.Core.Path.{_≡_};
+ghost use lib.ListN.{length};
+ghost use Rattle.codes.specs.Decode.{whenOf};
+ghost use Rattle.happenings.specs.Writes.{marksOf};
+ghost use Rattle.happenings.specs.Happening.{eachMark};
+ghost use Rattle.grounds.specs.Grounded.{objectsIn, groundsIn};
+ghost use Rattle.marks.specs.Flat.{flatAt};
+ghost use Rattle.changes.specs.Changing.{writeFact};
+
+fn fact_one(facts: &mut [u8], m: Mark, add: bool)
+    ensures { λ _. ⌜ now (facts .exit) ≡ writeFact add (now (facts .entry)) m ⌝ }
+{
+    let Mark::Fact(adds, x) = m else {
+        return;
+    };
+    if add {
+        if adds {
+            literals::put(facts, x, 1);
+        }
+        return;
+    }
+    if adds {
+        return;
+    }
+    literals::put(facts, x, 0);
+}
+
+// The facts that a point adds (`add`) or deletes.
+pub fn write_facts<'a>(
+    code: &'a [u8],
+    firsts: &'a [u16],
+    facts: &mut [u8],
+    who: Who,
+    time: usize,
+    from: usize,
+    add: bool,
+)
+    ensures { λ _. ⌜ now (facts .exit) ≡ eachMark (writeFact add) (now (facts .entry)) (marksOf (groundsIn (now (firsts .entry))) (objectsIn who) (flatAt (length (now (code .entry))) (now (code .entry)) (whenOf time) 0 from)) ⌝ }
+{
+    let mut part = 0;
+    let mut at = from;
+    let mut left = code.len();
+    while 0 < left {
+        let s = steps::mark_at(code, firsts, who, time, part, at, 0);
+        if s.ended {
+            return;
+        }
+        let m = s.mark;
+        fact_one(facts, m, add);
+        part = s.part;
+        at = s.next;
+        left -= 1;
+    }
+}

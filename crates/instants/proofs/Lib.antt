@@ -1,0 +1,6 @@
+-- What the proofs of several functions use.
+pub mod Answers
+pub mod Applied
+pub mod Each
+pub mod Happens
+pub mod Places

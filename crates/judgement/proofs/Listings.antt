@@ -1,0 +1,168 @@
+-- Conditions with parts: the ways through the definition of one at a place, of the list in an `and`, and of the parts for a time.
+-- The loops keep that what is left leads to the whole.
+use mathlib.Core.Path.{_≡_, refl, sym, _∙_}
+use mathlib.Core.List.{List, [], _∷_}
+use mathlib.Core.Bool.{Bool, true, false, cond}
+use Prim.Native.Nat.{ℕ, zero, suc, _+_, _-_, _≤_, _<_}
+use native.Mathlib.Omega.{arith}
+use lib.ListN.{length}
+use borrow.Author.Tests.{lt-ltb, le-ltb, ne-eqb}
+use Rattle.grammar.specs.Conditions.{Cond, none, cons}
+use Rattle.grammar.specs.Actions.{When, Timed}
+use Rattle.rows.specs.Held.{byteAt}
+use Rattle.codes.specs.Decode.{Decoded, decoded, timed, singleAt, condsAt, condNode, condAt, partsAt, whenOf}
+use Rattle.happenings.specs.State.{State, Grounds}
+use Rattle.happenings.specs.Truths.{truthOf, truthsOf, holdAll, andThen}
+use Rattle.happenings.specs.Happening.{sameTime, partsFor}
+use Rattle.happenings.specs.declared.Truth.{Truth}
+use Rattle.happenings.specs.declared.Truth.the-variants.{Holds}
+use Rattle.judgement.specs.Judged.{judgedOf, listedOf, ofPart}
+use Rattle.judgement.specs.declared.facts.Judged.{Judged}
+use Rattle.judgement.proofs.Joined.{holds-then, then-holds, then-assoc}
+
+-- ---- a condition
+
+module _ (g : Grounds) (s : State) (os : List ℕ) (code : List ℕ) (at : ℕ) where
+  pub cond-none : (d : ℕ) → d ≡ 0 → _≡_ {A = Judged} (record { truth = Holds; next = at }) (judgedOf g s os (condAt d code at))
+  unfolding condAt judgedOf truthOf truthsOf
+  cond-none d h = rw h
+
+  pub cond-out : (d : ℕ) → length code ≤ at → _≡_ {A = Judged} (record { truth = Holds; next = at }) (judgedOf g s os (condAt d code at))
+  unfolding condAt judgedOf truthOf truthsOf
+  cond-out zero h = refl
+  cond-out (suc d) h = simp (le-ltb at (length code) h)
+
+  module _ (d : ℕ) {tag : ℕ} {r : Judged} (n : d ≡ 0 → ⊥) (l : at < length code) (e : tag ≡ byteAt code at) where
+    pub cond-group : tag ≡ 1 → r ≡ listedOf g s os (condsAt (condAt (d - 1) code) (length code) code (at + 1)) → r ≡ judgedOf g s os (condAt d code at)
+    unfolding condAt condNode judgedOf listedOf truthOf
+    cond-group h r = let k : d ≡ suc (d - 1) = omega arith in rw k (simp (r, lt-ltb at (length code) l, ← e, h))
+
+    pub cond-single : (tag ≡ 1 → ⊥) → r ≡ judgedOf g s os (singleAt code at tag) → r ≡ judgedOf g s os (condAt d code at)
+    unfolding condAt condNode
+    cond-single h r = let k : d ≡ suc (d - 1) = omega arith in rw (k, lt-ltb at (length code) l, ← e, ne-eqb tag 1 h) r
+
+-- ---- the conditions of an `and`
+
+module _ (f : ℕ → Decoded Cond) (code : List ℕ) (i : ℕ) where
+  conds-spent : (left : ℕ) → left ≡ 0 → condsAt f left code i ≡ decoded none i
+  unfolding condsAt
+  conds-spent left h = rw h
+
+  conds-out : (left : ℕ) → length code ≤ i → condsAt f left code i ≡ decoded none i
+  unfolding condsAt
+  conds-out zero h = refl
+  conds-out (suc n) h = simp (le-ltb i (length code) h)
+
+  conds-last : (left : ℕ) {tag : ℕ} → 0 < left → i < length code → tag ≡ byteAt code i → tag ≡ 0 → condsAt f left code i ≡ decoded none (i + 1)
+  unfolding condsAt
+  conds-last zero k h g z = absurd (omega arith)
+  conds-last (suc n) k h g z = simp (lt-ltb i (length code) h, ← g, z)
+
+  conds-step : (left : ℕ) {tag : ℕ} → 0 < left → i < length code → tag ≡ byteAt code i → (tag ≡ 0 → ⊥)
+      → condsAt f left code i ≡ decoded (cons (f i .tree) (condsAt f (left - 1) code (f i .next) .tree)) (condsAt f (left - 1) code (f i .next) .next)
+  unfolding condsAt
+  conds-step zero k h g z = absurd (omega arith)
+  conds-step (suc n) {tag} k h g z = let m : suc n - 1 ≡ n = omega arith in simp (lt-ltb i (length code) h, ← g, ne-eqb tag 0 z, m)
+
+-- what is left of the list, behind what held so far, leads to the whole
+pub record Onward (g : Grounds) (s : State) (os : List ℕ) (f : ℕ → Decoded Cond) (code : List ℕ) (n at : ℕ) (t : Truth) (i left : ℕ) : Type 0 where
+  pub truth : andThen t (truthsOf g s os (condsAt f left code i .tree)) ≡ truthsOf g s os (condsAt f n code at .tree)
+  pub next : condsAt f left code i .next ≡ condsAt f n code at .next
+
+module _ (g : Grounds) (s : State) (os : List ℕ) (f : ℕ → Decoded Cond) (code : List ℕ) (n at : ℕ) where
+  pub onward-start : Onward g s os f code n at Holds at n
+  onward-start = record { truth = holds-then _; next = refl }
+
+  ends : (i left m : ℕ) → condsAt f left code i ≡ decoded none m → {t : Truth} → Onward g s os f code n at t i left
+      → _≡_ {A = Judged} (record { truth = t; next = m }) (listedOf g s os (condsAt f n code at))
+  unfolding listedOf truthsOf
+  ends i left m e {t} o =
+      let p : t ≡ truthsOf g s os (condsAt f n code at .tree) = sym (then-holds t) ∙ (rw e at (o .truth)) in
+      let q : m ≡ condsAt f n code at .next = rw e at (o .next) in
+      rw (← p, ← q)
+
+  module _ (i left : ℕ) {t : Truth} (o : Onward g s os f code n at t i left) where
+    pub onward-spent : left ≡ 0 → _≡_ {A = Judged} (record { truth = t; next = i }) (listedOf g s os (condsAt f n code at))
+    onward-spent h = ends i left i (conds-spent f code i left h) o
+
+    pub onward-out : length code ≤ i → _≡_ {A = Judged} (record { truth = t; next = i }) (listedOf g s os (condsAt f n code at))
+    onward-out h = ends i left i (conds-out f code i left h) o
+
+    pub onward-last : {tag : ℕ} → 0 < left → i < length code → tag ≡ byteAt code i → tag ≡ 0
+        → _≡_ {A = Judged} (record { truth = t; next = i + 1 }) (listedOf g s os (condsAt f n code at))
+    onward-last l h e z = ends i left (i + 1) (conds-last f code i left l h e z) o
+
+    pub onward-turn : {tag : ℕ} {a : Judged} {u : Truth} → 0 < left → i < length code → tag ≡ byteAt code i → (tag ≡ 0 → ⊥)
+        → a ≡ judgedOf g s os (f i) → u ≡ andThen t (a .truth) → Onward g s os f code n at u (a .next) (left - 1)
+    unfolding judgedOf truthsOf
+    onward-turn l h e z a u =
+        let k = conds-step f code i left l h e z in
+        record { truth = rw (u, a, then-assoc) (rw k at (o .truth)); next = rw a (rw k at (o .next)) }
+
+-- ---- the parts for a time
+
+module _ (f : ℕ → Decoded Cond) (code : List ℕ) (i : ℕ) where
+  parts-spent : (left : ℕ) → left ≡ 0 → partsAt f left code i .tree ≡ []
+  unfolding partsAt
+  parts-spent left h = rw h
+
+  parts-out : (left : ℕ) → length code ≤ i → partsAt f left code i .tree ≡ []
+  unfolding partsAt
+  parts-out zero h = refl
+  parts-out (suc n) h = simp (le-ltb i (length code) h)
+
+  parts-last : (left : ℕ) {tag : ℕ} → 0 < left → i < length code → tag ≡ byteAt code i → tag ≡ 0 → partsAt f left code i .tree ≡ []
+  unfolding partsAt
+  parts-last zero k h g z = absurd (omega arith)
+  parts-last (suc n) k h g z = simp (lt-ltb i (length code) h, ← g, z)
+
+  parts-step : (left : ℕ) {tag : ℕ} → 0 < left → i < length code → tag ≡ byteAt code i → (tag ≡ 0 → ⊥)
+      → partsAt f left code i .tree ≡ timed (whenOf tag) (f (i + 1) .tree) (partsAt f (left - 1) code (f (i + 1) .next) .tree)
+  unfolding partsAt
+  parts-step zero k h g z = absurd (omega arith)
+  parts-step (suc n) {tag} k h g z = let m : suc n - 1 ≡ n = omega arith in simp (lt-ltb i (length code) h, ← g, ne-eqb tag 0 z, m)
+
+module _ (g : Grounds) (s : State) (os : List ℕ) (w : When) where
+  -- a part in front of others, for the time or not
+  in-front : (v : When) (c : Cond) (ps : List (Timed Cond)) (t : Truth)
+      → andThen t (holdAll g s os (partsFor w (timed v c ps))) ≡ andThen (ofPart v w t (truthOf g s os c)) (holdAll g s os (partsFor w ps))
+  unfolding partsFor ofPart holdAll
+  in-front v c ps t = by-time (sameTime v w)
+    where
+      by-time : (b : Bool) → andThen t (holdAll g s os (cond b (c ∷ partsFor w ps) (partsFor w ps)))
+          ≡ andThen (cond b (andThen t (truthOf g s os c)) t) (holdAll g s os (partsFor w ps))
+      by-time true = sym (then-assoc t _ _)
+      by-time false = refl
+
+-- what is left of the parts, behind what held so far, leads to the whole
+abbrev pub Toward : Grounds → State → List ℕ → When → (ℕ → Decoded Cond) → List ℕ → ℕ → ℕ → Truth → ℕ → ℕ → Type 0
+Toward g s os w f code n at t i left =
+    andThen t (holdAll g s os (partsFor w (partsAt f left code i .tree))) ≡ holdAll g s os (partsFor w (partsAt f n code at .tree))
+
+module _ (g : Grounds) (s : State) (os : List ℕ) (w : When) (f : ℕ → Decoded Cond) (code : List ℕ) (n at : ℕ) where
+  abbrev whole : Truth
+  whole = holdAll g s os (partsFor w (partsAt f n code at .tree))
+
+  pub toward-start : Toward g s os w f code n at Holds at n
+  toward-start = holds-then _
+
+  over : (i left : ℕ) → partsAt f left code i .tree ≡ [] → (t : Truth) → Toward g s os w f code n at t i left → t ≡ whole
+  unfolding partsFor holdAll
+  over i left e t o = sym (then-holds t) ∙ (rw e at o)
+
+  module _ (i left : ℕ) (t : Truth) (o : Toward g s os w f code n at t i left) where
+    pub toward-spent : left ≡ 0 → t ≡ whole
+    toward-spent h = over i left (parts-spent f code i left h) t o
+
+    pub toward-out : length code ≤ i → t ≡ whole
+    toward-out h = over i left (parts-out f code i left h) t o
+
+    pub toward-last : {tag : ℕ} → 0 < left → i < length code → tag ≡ byteAt code i → tag ≡ 0 → t ≡ whole
+    toward-last l h e z = over i left (parts-last f code i left l h e z) t o
+
+    pub toward-turn : {tag : ℕ} {a : Judged} {u : Truth} → 0 < left → i < length code → tag ≡ byteAt code i → (tag ≡ 0 → ⊥)
+        → a ≡ judgedOf g s os (f (i + 1)) → u ≡ ofPart (whenOf tag) w t (a .truth) → Toward g s os w f code n at u (a .next) (left - 1)
+    unfolding judgedOf
+    toward-turn {tag} l h e z a u =
+        let k = parts-step f code i left l h e z in
+        rw (u, a) (sym (in-front g s os w (whenOf tag) (f (i + 1) .tree) _ t) ∙ (rw k at o))

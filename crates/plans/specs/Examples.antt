@@ -1,0 +1,125 @@
+-- Worked examples: the starred cases of document 01's bench and K9, from the plan's bytes to the verdict, and lines that are refused.
+use mathlib.Core.Path.{_≡_, refl}
+use Prim.Native.Nat.{ℕ}
+use Prim.Native.String.{String}
+use mathlib.Core.List.{List, [], _∷_, map}
+use lib.IntN.{pos}
+use Rattle.words.specs.Bytes.{bytes, kindOf, lowerOf, inRun}
+use Rattle.words.specs.Spelling.{sameWord, nameByte, nameBytes, isName, placeFrom, wordsOf, wordIn}
+use Rattle.words.specs.Fixed.{isOperator}
+use Rattle.text.specs.Runs.{gapStep, gap, gapEnd, run, runEnd}
+use Rattle.text.specs.Numbers.{leading, decimal, scaleOf, fractionOf, numberFrom, numberOf}
+use Rattle.text.specs.Classes.{beginsNumber, classOf}
+use Rattle.text.specs.Tokens.{sizedOf, numberToken, judgedOf, strangeOf, planNumber, planWord, squareOf, planTokenAt}
+use Rattle.rows.specs.Held.{padded}
+use Rattle.grammar.specs.Tables.{lookup, declared, isBelow}
+use Rattle.grammar.specs.Examples.{pump, ofPump, bench, two-doses}
+use Rattle.happenings.specs.State.{State, Grounds, isTrue, inside, within, defined, numberAt, plusOf, lessOf, digits, indexIn}
+use Rattle.happenings.specs.Truths.{valueOf, agrees, compared, comparedOf, andThen, truthOf, truthsOf, holdAll}
+use Rattle.happenings.specs.Writes.{some, exprReads, condReads, condsRead, rightReads, markOf, undo, collide, against, itself}
+use Rattle.happenings.specs.Happening.{partsFor, joined, unless, each, judged, lasting, tested, apart, ruleReads, readsFact, readsNumber, reads, interfere, clear, pairs, changeOne, changeAll, changePoints, leaves, stays, without, with, eachMark, allMarks, allowed, happening, spans, spanning, reached, promises}
+use Rattle.happenings.specs.declared.Outcome.{Outcome}
+use Rattle.happenings.specs.declared.Outcome.the-variants.{Done, Duration, Condition, Conflict, Invariant, Goal}
+use Rattle.plans.specs.Plan.{Run, going, failed, Rules, upTo, verdict, firstRefusal, Result, result}
+use Rattle.plans.specs.Plan as P
+use Rattle.plans.specs.Text.{meaning}
+use Rattle.plans.specs.Promised.{Act, rulesOf}
+use Rattle.plans.specs.Lines.{Known, mark, opening, name, lineEnd, startAt, argument, fits, objectsTo, durationIn, spanOf, actAt, lineAt, Refused, reader, limits}
+
+-- pumps a and b; `ready` and `on` of each, `lock` and `doses` of each
+abbrev grounds : Grounds
+grounds = record { objects = 2; facts = 0 ∷ 2 ∷ []; numbers = 0 ∷ 2 ∷ [] }
+
+abbrev first : State
+first = record { facts = 1 ∷ 1 ∷ 1 ∷ 1 ∷ []; numbers = pos 5000 ∷ pos 5000 ∷ pos 0 ∷ pos 0 ∷ [] }
+
+abbrev rules : Rules State Act Outcome
+rules = rulesOf (promises grounds (two-doses .goal)) first
+
+-- ---- from the plan's text
+
+abbrev known : Known
+known = record { types = bench .types; objects = two-doses .objects; actions = bench .actions }
+
+-- document 01's number, line and column of a refusal; or the verdict, its time
+pub data Shown : Type 0 where
+  refuses : ℕ → ℕ → ℕ → Shown
+  says : Outcome → ℕ → Shown
+
+abbrev saysOf : Run State Outcome → Shown
+saysOf (going s t) = says Done t
+saysOf (failed s t w) = says w t
+
+abbrev shown : Result State Outcome Refused → Shown
+shown (P.refused r) = refuses (r .number) (r .line) (r .column)
+shown (P.ended r) = saysOf r
+
+abbrev answers : List String → List Shown
+answers ts = map (λ t. shown (meaning rules limits (reader known) (bytes t))) ts
+
+starred : answers (
+    "0: (dose a) [5]\n5.001: (dose a) [5]\n"
+    ∷ "0: (dose a) [5]\n5: (dose a) [5]"
+    ∷ "0: (dose a) [5]\n2: (off a)\n"
+    ∷ "0: (dose a) [5]\n5.001: (dose a) [5]\n10.001: (off a)\n"
+    ∷ "0: (dose a) [5]\n0: (off a)\n"
+    ∷ ""
+    ∷ "0: (off a)\n0: (off a)\n"
+    ∷ "0: (dose a) [4]"
+    ∷ "0: (DOSE A) [5.000] ; a comment\n\n5: (note a)\n"
+    ∷ "0: (dose a) [5]\n5: (zero a)"
+    ∷ [])
+    ≡ says Done 10001
+    ∷ says (Condition 2) 5000
+    ∷ says (Invariant 1) 2000
+    ∷ says Done 10001
+    ∷ says (Invariant 1) 0
+    ∷ says Goal 0
+    ∷ says (Conflict 1 2) 0
+    ∷ says (Duration 1) 0
+    ∷ says Done 5000
+    ∷ says (Conflict 1 2) 5000
+    ∷ []
+unfolding bytes bench two-doses pump ofPump kindOf lowerOf inRun sameWord nameByte nameBytes isName placeFrom wordsOf wordIn isOperator gapStep gap gapEnd run runEnd leading decimal scaleOf fractionOf numberFrom numberOf beginsNumber classOf sizedOf numberToken planWord planNumber strangeOf squareOf judgedOf planTokenAt lookup declared isBelow padded mark opening name lineEnd startAt argument fits objectsTo durationIn spanOf actAt lineAt isTrue inside within defined numberAt plusOf lessOf digits indexIn valueOf agrees compared comparedOf andThen truthOf truthsOf holdAll some exprReads condReads condsRead rightReads markOf undo collide against itself partsFor joined unless each judged lasting tested apart ruleReads readsFact readsNumber reads interfere clear pairs changeOne changeAll changePoints leaves stays without with eachMark allMarks allowed happening spans spanning reached upTo verdict firstRefusal result meaning
+starred = refl
+
+-- a plan refusal outranks every verdict, whatever has failed before it
+refusals : answers (
+    "0: (off a)\n0: (off a)\n0: (note"
+    ∷ "0: (note ;"
+    ∷ "0 (note a)"
+    ∷ "0: note"
+    ∷ "0: (note c)"
+    ∷ "0: (nought a)"
+    ∷ "0: (note a b)"
+    ∷ "0: (note)"
+    ∷ "5: (note a)\n4.999: (note c)"
+    ∷ "0: (dose a)"
+    ∷ "0: (note a) [5]"
+    ∷ "0: (dose a) [0]"
+    ∷ "0: (dose a) []"
+    ∷ "0: (dose a) [5] [5]"
+    ∷ "0: (dose a) [5"
+    ∷ "-1: (note a)"
+    ∷ "0: (note ?p)"
+    ∷ [])
+    ≡ refuses 4 3 9
+    ∷ refuses 4 1 11
+    ∷ refuses 3 1 3
+    ∷ refuses 3 1 4
+    ∷ refuses 8 1 10
+    ∷ refuses 8 1 5
+    ∷ refuses 9 1 12
+    ∷ refuses 9 1 9
+    ∷ refuses 16 2 1
+    ∷ refuses 17 1 12
+    ∷ refuses 17 1 13
+    ∷ refuses 17 1 14
+    ∷ refuses 3 1 14
+    ∷ refuses 3 1 17
+    ∷ refuses 4 1 15
+    ∷ refuses 6 1 1
+    ∷ refuses 3 1 10
+    ∷ []
+unfolding bytes bench two-doses pump ofPump kindOf lowerOf inRun sameWord nameByte nameBytes isName placeFrom wordsOf wordIn isOperator gapStep gap gapEnd run runEnd leading decimal scaleOf fractionOf numberFrom numberOf beginsNumber classOf sizedOf numberToken planWord planNumber strangeOf squareOf judgedOf planTokenAt lookup declared isBelow padded mark opening name lineEnd startAt argument fits objectsTo durationIn spanOf actAt lineAt isTrue inside within defined numberAt plusOf lessOf digits indexIn valueOf agrees compared comparedOf andThen truthOf truthsOf holdAll some exprReads condReads condsRead rightReads markOf undo collide against itself partsFor joined unless each judged lasting tested apart ruleReads readsFact readsNumber reads interfere clear pairs changeOne changeAll changePoints leaves stays without with eachMark allMarks allowed happening spans spanning reached upTo verdict firstRefusal result meaning
+refusals = refl
