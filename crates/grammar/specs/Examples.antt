@@ -25,10 +25,10 @@ use Rattle.grammar.specs.Actions.{start, whole, end, moment, rule, timeO
 use Rattle.grammar.specs.Domain.{Domain, beginsWith, ending, headingOf, flagsTo, actionsTo, flagsSection, typesSection, constantsSection, declaredSection, vocabulary, domainText, readDomain}
 use Rattle.grammar.specs.Problem.{Valued, Problem, sumOf, firstOf, digits, indexOf, isGiven, initTo, sectionDueOf, initAndGoal, premises, problemText, readProblem}
 
-benchText : List ℕ
+pub benchText : List ℕ
 benchText = bytes "(define (domain bench) (:requirements :strips :typing :fluents :durative-actions) (:types pump) (:predicates (ready ?p - pump) (on ?p - pump)) (:functions (lock ?p - pump) (doses ?p - pump)) (:durative-action dose :parameters (?p - pump) :duration (= ?duration (lock ?p)) :condition (and (at start (ready ?p)) (over all (on ?p))) :effect (and (at start (not (ready ?p))) (at end (ready ?p)) (at end (increase (doses ?p) 1)))) (:action off :parameters (?p - pump) :precondition (on ?p) :effect (not (on ?p))) (:action note :parameters (?p - pump) :effect (increase (doses ?p) 1)) (:action zero :parameters (?p - pump) :effect (assign (doses ?p) 0)))"
 
-problemBytes : List ℕ
+pub problemBytes : List ℕ
 problemBytes = bytes "(define (problem two-doses) (:domain bench) (:objects a b - pump) (:init (ready a) (ready b) (on a) (on b) (= (lock a) 5) (= (lock b) 5) (= (doses a) 0) (= (doses b) 0)) (:goal (>= (doses a) 2)))"
 
 unfoldable pub pump : List ℕ → Entry
@@ -58,7 +58,7 @@ bench = record {
       ∷ [];
 }
 
-bench-read : readDomain benchText ≡ got bench 648
+pub bench-read : readDomain benchText ≡ got bench 648
 unfolding bytes kindOf lowerOf inRun sameWord nameByte nameBytes isName placeFrom wordsOf wordIn headOf isFlag isListed isReserved isOperator gapStep gap gapEnd run runEnd leading decimal scaleOf fractionOf numberFrom numberOf beginsNumber classOf sizedOf numberToken domainWord isPast bracketOf tokenAt spotAt lookup fresh declared isBelow retype opening closing wordDue anyName newName typeNamed typeDue group item declare waiting typed namesTo variablesTo typesTo declaration declarations argument fits arguments reference counted operandsEnd expr expression atomAt comparison sameObjects equality negation listTo conjunction condition becomesAt target changeAt deletion effectsTo effect timeOf partBehind partAt partsTo parts durationRule fieldOf simpleBody durativeBody action beginsWith ending headingOf flagsTo actionsTo flagsSection typesSection constantsSection declaredSection vocabulary domainText readDomain benchText bench pump ofPump
 bench-read = refl
 
@@ -72,7 +72,7 @@ two-doses = record {
   goal = compare true atLeast (value (record { head = 1; args = object 0 ∷ [] })) (number (pos 2000));
 }
 
-problem-read : readProblem problemBytes bench ≡ got two-doses 195
+pub problem-read : readProblem problemBytes bench ≡ got two-doses 195
 unfolding bytes kindOf lowerOf inRun sameWord nameByte nameBytes isName placeFrom wordsOf wordIn headOf isFlag isListed isReserved isOperator gapStep gap gapEnd run runEnd leading decimal scaleOf fractionOf numberFrom numberOf beginsNumber classOf sizedOf numberToken domainWord isPast bracketOf tokenAt spotAt lookup fresh declared isBelow retype opening closing wordDue anyName newName typeNamed typeDue group item declare waiting typed namesTo variablesTo typesTo declaration declarations argument fits arguments reference counted operandsEnd expr expression atomAt comparison sameObjects equality negation listTo conjunction condition becomesAt target changeAt deletion effectsTo effect timeOf partBehind partAt partsTo parts durationRule fieldOf simpleBody durativeBody action beginsWith ending headingOf flagsTo actionsTo flagsSection typesSection constantsSection declaredSection vocabulary domainText readDomain sumOf firstOf digits indexOf isGiven initTo sectionDueOf initAndGoal premises problemText readProblem problemBytes bench pump ofPump two-doses valued
 problem-read = refl
 

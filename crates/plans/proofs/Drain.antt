@@ -92,6 +92,23 @@ module _ {A : Type 0} where
       go moment ih = rw (le-leb (x .start) t (omega (arith, a .0))) ih
       go (lasting d) ih = rw (le-leb (x .start) t (omega (arith, a .0)), way-ends s t x d (points xs) h, ih)
 
+-- ---- the loop: one turn, and its end
+
+module _ {S A W : Type 0} (R : Rules S A W) (b : ℕ) where
+  pub drain-go : (n : ℕ) (r : Run S W) (q : List (Point A)) → soonest b q < b
+      → drain R (suc n) b r q ≡ drain R n b (instant R (soonest b q) (at (soonest b q) q) (underWay (soonest b q) q) r) (from (suc (soonest b q)) q)
+  unfolding drain
+  drain-go n r q h = rw (lt-ltb (soonest b q) b h, drain)
+
+  pub drain-done : (n : ℕ) (r : Run S W) (q : List (Point A)) → b ≤ soonest b q → drain R n b r q ≡ (r, q)
+  unfolding drain
+  drain-done zero r q h = refl
+  drain-done (suc n) r q h = rw (le-ltb (soonest b q) b h, drain)
+
+  pub none-waits : (q : List (Point A)) → length q ≤ 0 → b ≤ soonest b q
+  none-waits [] l = omega arith
+  none-waits (p ∷ ps) l = omega arith
+
 module _ {S A W : Type 0} (R : Rules S A W) (plan : List (Step A)) where
   -- instants with no point change nothing
   pub skip : (a b : ℕ) → a ≤ b → ((t : ℕ) → a ≤ t → t < b → at t (points plan) ≡ []) → upTo R plan b ≡ upTo R plan a
@@ -114,30 +131,16 @@ module _ {S A W : Type 0} (R : Rules S A W) (plan : List (Step A)) where
   turn a m h s f = rw (at-from a m (points plan) h, ← under-way a m h plan s, ← quiet a m h f)
 
   module _ (b : ℕ) where
-    drain-go : (n : ℕ) (r : Run S W) (q : List (Point A)) → soonest b q < b
-        → drain R (suc n) b r q ≡ drain R n b (instant R (soonest b q) (at (soonest b q) q) (underWay (soonest b q) q) r) (from (suc (soonest b q)) q)
-    unfolding drain
-    drain-go n r q h = rw (lt-ltb (soonest b q) b h, drain)
-
-    drain-done : (n : ℕ) (r : Run S W) (q : List (Point A)) → b ≤ soonest b q → drain R n b r q ≡ (r, q)
-    unfolding drain
-    drain-done zero r q h = refl
-    drain-done (suc n) r q h = rw (le-ltb (soonest b q) b h, drain)
-
-    none-waits : (q : List (Point A)) → length q ≤ 0 → b ≤ soonest b q
-    none-waits [] l = omega arith
-    none-waits (p ∷ ps) l = omega arith
-
     stays : (n a : ℕ) → a ≤ b → b ≤ soonest b (from a (points plan))
         → drain R n b (upTo R plan a) (from a (points plan)) ≡ (upTo R plan b, from b (points plan))
     stays n a h l =
         let f : From b (from a (points plan)) = all-map (λ p g. omega arith) (from a (points plan)) (soonest-from b (from a (points plan))) in
-        rw (drain-done n (upTo R plan a) (from a (points plan)) l, quiet a b h f, ← from-from a b (points plan) h, from-all b (from a (points plan)) f)
+        rw (drain-done R b n (upTo R plan a) (from a (points plan)) l, quiet a b h f, ← from-from a b (points plan) h, from-all b (from a (points plan)) f)
 
     -- the loop runs the plan from a up to b, and the points from b on still wait
     pub drains : (n a : ℕ) → a ≤ b → All (λ x. x .start ≤ a) plan → length (from a (points plan)) ≤ n
         → drain R n b (upTo R plan a) (from a (points plan)) ≡ (upTo R plan b, from b (points plan))
-    drains zero a h s l = stays zero a h (none-waits (from a (points plan)) l)
+    drains zero a h s l = stays zero a h (none-waits R b (from a (points plan)) l)
     drains (suc n) a h s l = go (ltb m b) refl (drains n)
       where
         m : ℕ
@@ -153,5 +156,5 @@ module _ {S A W : Type 0} (R : Rules S A W) (plan : List (Step A)) where
             let am : a ≤ m = soonest-greatest a b (from a (points plan)) h (from-is a (points plan)) in
             let ff : from (suc m) (from a (points plan)) ≡ from (suc m) (points plan) = from-from a (suc m) (points plan) (omega arith) in
             let sh : length (from (suc m) (points plan)) < length (from a (points plan)) = rw ff at (soonest-falls m b (from a (points plan)) (omega arith) l′) in
-            drain-go n (upTo R plan a) (from a (points plan)) l′
+            drain-go R b n (upTo R plan a) (from a (points plan)) l′
             ∙ rw (turn a m am s (soonest-from b (from a (points plan))), ff) (ih (suc m) l′ (all-map (λ x g. omega arith) plan s) (omega arith))

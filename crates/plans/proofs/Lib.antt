@@ -1,6 +1,12 @@
--- The machine, fed in any parts, gives what the plan means as a whole.
+-- The machine, fed in any parts, gives what the plan means as a whole; what is known of every line's step and refusal; steps in numbers and back.
 pub mod Lists
 pub mod Drain
 pub mod Stream
 pub mod Text
+pub mod Given
+pub mod Tokens
+pub mod Walk
+pub mod Steps
+pub mod Places
 pub mod Rising
+pub mod Stored

@@ -34,7 +34,7 @@ abbrev first : State
 first = record { facts = 1 ∷ 1 ∷ 1 ∷ 1 ∷ []; numbers = pos 5000 ∷ pos 5000 ∷ pos 0 ∷ pos 0 ∷ [] }
 
 abbrev rules : Rules State Act Outcome
-rules = rulesOf (promises grounds (two-doses .goal)) first
+rules = rulesOf (promises grounds (two-doses .goal)) (bench .actions) first
 
 -- ---- from the plan's text
 

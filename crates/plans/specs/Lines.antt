@@ -6,20 +6,20 @@ use mathlib.Core.Bool.{cond}
 use mathlib.Core.Option.{Option, some, none}
 use lib.Dec.{eqb, ltb}
 use lib.IntN.{natAbs}
-use lib.ListN.{length, getD}
+use lib.ListN.{length}
 use Rattle.text.specs.Runs.{part}
 use Rattle.text.specs.Tokens.{planTokenAt}
 use Rattle.text.specs.declared.tokens.Token.{Token}
 use Rattle.text.specs.declared.tokens.Token.the-variants as T
 use Rattle.rows.specs.Held.{padded}
 use Rattle.grammar.specs.Read.{_>>=_, Read, Reader, got, refused, give, refuse}
-use Rattle.grammar.specs.Tables.{entry, Table, entryAt, typeOf, wantedOf, declared, isBelow}
+use Rattle.grammar.specs.Tables.{Table, entryAt, typeOf, wantedOf, declared, isBelow}
 use Rattle.grammar.specs.Due.{afterOf, wrong, onWord, onNumber, onOpen, onClose, onEnd, Name}
 use Rattle.grammar.specs.Actions.{Lasting, Action}
 use Rattle.grammar.specs.Actions as A
 use Rattle.plans.specs.Plan.{Span, moment, lasting, Step, Answer, blank, step, refusal, Limits}
 use Rattle.plans.specs.Text as X
-use Rattle.plans.specs.Promised.{Act}
+use Rattle.plans.specs.Promised.{Act, actionOf}
 
 -- what a plan's names stand for
 pub record Known : Type 0 where
@@ -138,9 +138,6 @@ spanOf s l = do
 
 -- ---- a line
 
-abbrev pub none-such : Action
-none-such = record { declared = entry [] []; lasting = A.moment; conditions = []; effects = [] }
-
 abbrev pub declarations : List Action → Table
 declarations as′ = map (λ (a : Action). a .declared) as′
 
@@ -151,9 +148,9 @@ actAt s k n start = do
   _ ← opening s
   w ← name s
   i ← declared (declarations (k .actions)) (w .place) (w .word)
-  os ← objectsTo s k (wantedOf (getD (k .actions) i none-such .declared))
-  d ← spanOf s (getD (k .actions) i none-such .lasting)
-  give (record { line = n; start = start; span = d; act = record { action = getD (k .actions) i none-such; objects = padded 4 os; width = length s } })
+  os ← objectsTo s k (wantedOf (actionOf (k .actions) i .declared))
+  d ← spanOf s (actionOf (k .actions) i .lasting)
+  give (record { line = n; start = start; span = d; act = record { action = i; objects = padded 4 os; width = length s } })
 
 -- a line is a step or nothing; `before` is the previous step's start
 unfoldable pub lineAt : List ℕ → Known → ℕ → ℕ → Reader (Option (Step Act))

@@ -4,13 +4,27 @@ use mathlib.Core.List.{List, [], _∷_, _++_, append-assoc, append-nil, map}
 use Prim.Native.Nat.{ℕ, zero, suc, _+_, _-_, _*_, _≤_, _<_}
 use native.Mathlib.Numerals.{add-one}
 use native.Mathlib.Omega.{arith}
-use borrow.Author.Tests.{le-ltb}
-use lib.ListN.{length, getD, take, drop, set, length-append, drop-of-length-le, List·getD-append, List·getD-map, length-map}
+use native.Mathlib.Decide.{decLe}
+use borrow.Author.Tests.{lt-ltb, le-ltb}
+use lib.ListN.{length, getD, take, drop, set, length-append, drop-of-length-le, List·getD-append, List·getD-map, List·getD-eq-default, length-map}
 use lib.Seq.{sets, drop-cons, drop-at, getD-at, set-at, take-at, drop-append-add, getD-append-add}
 use Rattle.words.specs.Names as Names
 use Rattle.words.specs.Spelling.{placeFrom}
 use Rattle.grammar.specs.Tables.{Entry, entry, nameOf, infoOf, typeOf, withType, Table, lookup, retype}
-use Rattle.rows.specs.Held.{padded, rowOf, rowsOf, Short, Holds}
+use Rattle.rows.specs.Held.{byteAt, padded, rowOf, rowsOf, Short, Holds}
+
+-- ---- a byte past the end is 0 by either reading
+
+pub byte-past : (rows : List ℕ) (i : ℕ) → length rows ≤ i → byteAt rows i ≡ 0
+unfolding byteAt
+byte-past rows i past = rw (le-ltb i (length rows) past)
+
+pub byte-is : (rows : List ℕ) (i : ℕ) → byteAt rows i ≡ getD rows i 0
+unfolding byteAt
+byte-is rows i = elim (decLe (length rows) i) [
+  | yes past ↦ byte-past rows i past ∙ sym (List·getD-eq-default rows 0 past)
+  | no here ↦ rw (lt-ltb i (length rows) (omega arith))
+]
 
 -- ---- names and rows
 
@@ -36,7 +50,7 @@ sets-at (x ∷ p) q vs zero h = absurd (let z : ⊥ = omega arith in z)
 sets-at (x ∷ p) q vs (suc n) h = sets-cons x (p ++ q) n vs ∙ ap (λ (l : List ℕ). x ∷ l) (sets-at p q vs n (omega arith))
 
 -- a name stored over zeros
-sets-padded : (m : ℕ) (w rest : List ℕ) → length w ≤ m → sets (padded m [] ++ rest) 0 w ≡ padded m w ++ rest
+pub sets-padded : (m : ℕ) (w rest : List ℕ) → length w ≤ m → sets (padded m [] ++ rest) 0 w ≡ padded m w ++ rest
 unfolding padded
 sets-padded m [] rest h = refl
 sets-padded zero (b ∷ bs) rest h = absurd (let z : ⊥ = omega arith in z)

@@ -6,7 +6,8 @@ use Prim.Native.Nat.{ℕ, zero, suc, _+_, _-_, _*_, _≤_, _<_}
 use native.Mathlib.Nat.{add-comm}
 use native.Mathlib.Numerals.{add-one}
 use native.Mathlib.Omega.{arith}
-use borrow.Author.Tests.{lt-ltb, eq-eqb, ne-eqb}
+use native.Mathlib.Decide.{decLe}
+use borrow.Author.Tests.{lt-ltb, eq-eqb, ne-eqb, le-leb, lt-leb}
 use lib.ListN.{length, getD, drop, length-take, length-drop, length-map, List·getD-append, List·getD-eq-default}
 use lib.Seq.{getD-take, getD-drop, getD-append-add}
 use lib.Dec.{eqb}
@@ -15,6 +16,7 @@ use Rattle.words.specs.declared.spelling.Found.the-variants.{At}
 use Rattle.text.specs.Runs.{part}
 use Rattle.grammar.specs.Tables.{entry, nameOf, infoOf, Table, entryAt, typeOf, lookup, isBelow}
 use Rattle.rows.specs.Held.{byteAt, padded, rowOf, Holds}
+use Rattle.terms.specs.Raw.{keptIn, belowIn}
 use Rattle.rows.proofs.Rows.{length-padded, length-rows, row}
 
 -- a number of a row, behind the name's length
@@ -43,7 +45,7 @@ module _ (tables : List ℕ) (from to m n : ℕ) (t : Table) (h : Holds m (part 
       let e : length (part tables from to) ≡ 38 * m = ap length (h .are) ∙ length-rows m t in
       omega (arith, e, length-take (to - from) (drop from tables), length-drop from tables)
 
-  pub kept-in-part : (i j : ℕ) → i < n → j < 5 → byteAt tables (from + 38 * i + 1 + j) ≡ getD (infoOf (entryAt t i)) j 0
+  kept-in-part : (i j : ℕ) → i < n → j < 5 → byteAt tables (from + 38 * i + 1 + j) ≡ getD (infoOf (entryAt t i)) j 0
   unfolding byteAt
   kept-in-part i j below few =
       let k = 38 * i + (1 + j) in
@@ -54,26 +56,52 @@ module _ (tables : List ℕ) (from to m n : ℕ) (t : Table) (h : Holds m (part 
       rw (at, lt-ltb (from + k) (length tables) room, ← getD-drop from tables k 0, ← getD-take (to - from) (drop from tables) k 0 short)
       (kept-at m (part tables from to) n t h i j below few)
 
-pub kept-past : (m : ℕ) (rows : List ℕ) (n : ℕ) (t : Table) (i j : ℕ) → Holds m rows n t → n ≤ i → 0 ≡ getD (infoOf (entryAt t i)) j 0
+kept-past : (m : ℕ) (rows : List ℕ) (n : ℕ) (t : Table) (i j : ℕ) → Holds m rows n t → n ≤ i → 0 ≡ getD (infoOf (entryAt t i)) j 0
 kept-past m rows n t i j h past =
     let b : length t ≤ i = omega (arith, h .count) in
     rw (List·getD-eq-default t (entry [] []) b)
 
+-- ---- any bytes, and those that hold a table
+
+pub raw-past : (tables : List ℕ) (from n i j : ℕ) → n ≤ i → keptIn tables from n i j ≡ 0
+unfolding keptIn
+raw-past tables from n i j h = rw (le-leb n i h)
+
+pub raw-kept : (tables : List ℕ) (from n i j : ℕ) → i < n → keptIn tables from n i j ≡ byteAt tables (from + 38 * i + 1 + j)
+unfolding keptIn
+raw-kept tables from n i j h = rw (lt-leb n i h)
+
+pub raw-held : (tables : List ℕ) (from to m n : ℕ) (t : Table) (i j : ℕ) → Holds m (part tables from to) n t → j < 5 → keptIn tables from n i j ≡ getD (infoOf (entryAt t i)) j 0
+raw-held tables from to m n t i j h few = elim (decLe n i) [
+  | yes past ↦ raw-past tables from n i j past ∙ kept-past m (part tables from to) n t i j h past
+  | no here ↦ raw-kept tables from n i j (omega arith) ∙ kept-in-part tables from to m n t h i j (omega arith) few
+]
+
 -- ---- the way up from a type
 
-pub below-same : (k : ℕ) (ts : Table) (x b : ℕ) → 0 < k → x ≡ b → true ≡ isBelow k ts x b
-unfolding isBelow
-below-same zero ts x b h e = absurd (let z : ⊥ = omega arith in z)
-below-same (suc k) ts x b h e = rw (eq-eqb x b e)
+pub below-same : (k : ℕ) (tables : List ℕ) (n x b : ℕ) → 0 < k → x ≡ b → true ≡ belowIn k tables n x b
+unfolding belowIn
+below-same zero tables n x b h e = absurd (let z : ⊥ = omega arith in z)
+below-same (suc k) tables n x b h e = rw (eq-eqb x b e)
 
-pub below-up : (k : ℕ) (ts : Table) (x b : ℕ) → 0 < k → (x ≡ b → ⊥) → isBelow k ts x b ≡ isBelow (k - 1) ts (typeOf (entryAt ts x)) b
-unfolding isBelow
-below-up zero ts x b h e = absurd (let z : ⊥ = omega arith in z)
-below-up (suc k) ts x b h e = let q : suc k - 1 ≡ k = omega arith in rw (q, ne-eqb x b e)
+pub below-up : (k : ℕ) (tables : List ℕ) (n x b : ℕ) → 0 < k → (x ≡ b → ⊥) → belowIn k tables n x b ≡ belowIn (k - 1) tables n (keptIn tables 0 n x 0) b
+unfolding belowIn
+below-up zero tables n x b h e = absurd (let z : ⊥ = omega arith in z)
+below-up (suc k) tables n x b h e = let q : suc k - 1 ≡ k = omega arith in rw (q, ne-eqb x b e)
 
-pub below-end : (k : ℕ) (ts : Table) (x b : ℕ) → k ≤ 0 → eqb x b ≡ isBelow k ts x b
-unfolding isBelow
-below-end k ts x b h = let q : k ≡ 0 = omega arith in rw q
+pub below-end : (k : ℕ) (tables : List ℕ) (n x b : ℕ) → k ≤ 0 → eqb x b ≡ belowIn k tables n x b
+unfolding belowIn
+below-end k tables n x b h = let q : k ≡ 0 = omega arith in rw q
+
+-- bytes that keep each type's parent
+pub below-kept : (k : ℕ) (tables : List ℕ) (n : ℕ) (ts : Table) (x b : ℕ) → ((i : ℕ) → keptIn tables 0 n i 0 ≡ typeOf (entryAt ts i)) → belowIn k tables n x b ≡ isBelow k ts x b
+unfolding belowIn isBelow
+below-kept zero tables n ts x b h = refl
+below-kept (suc k) tables n ts x b h = rw (h x, below-kept k tables n ts (typeOf (entryAt ts x)) b h)
+
+pub below-held : (tables : List ℕ) (to m n : ℕ) (ts : Table) (x b : ℕ) → Holds m (part tables 0 to) n ts → belowIn n tables n x b ≡ isBelow (length ts) ts x b
+below-held tables to m n ts x b h =
+    below-kept n tables n ts x b (λ i. raw-held tables 0 to m n ts i 0 h (let z : 0 < 5 = omega arith in z)) ∙ ap (λ (k : ℕ). isBelow k ts x b) (h .count)
 
 -- ---- a name that was found stands in its table
 

@@ -1,3 +1,4 @@
 -- What the contracts name, module by module.
 pub mod Scoped
 pub mod Cells
+pub mod Raw

@@ -12,7 +12,7 @@ is-below-requires : tie.Need-is-below-requires
 is-below-requires c κs = search needs
 
 returns : tie.Need-returns
-returns c = λ x h. c .is-below .ensures 17 646 (x .types) (h .types) ∙ rw (c .before .type-of-cell .ensures x h)
+returns c = λ x h. c .is-below .ensures .0 17 646 (x .types) (h .types) ∙ rw (c .before .type-of-cell .ensures x h)
 
 pub fits-at-spec : {M : Type 1} → statement M
 fits-at-spec = tie.close (tie.spec type-of-cell-requires is-below-requires returns)

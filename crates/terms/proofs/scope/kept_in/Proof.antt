@@ -1,15 +1,16 @@
 -- `terms::scope::kept_in` meets its contract. Assumes nothing.
-use mathlib.Core.Path.{_∙_}
+use mathlib.Core.Path.{sym, _∙_}
 use denote.Ref.{now}
 use native.Mathlib.Omega.{arith}
-use Prim.Native.Nat.{_-_}
-use Rattle.terms.proofs.Kept.{kept-past, kept-in-part}
+use Rattle.terms.proofs.Kept.{raw-past, raw-kept, raw-held}
 use borrow.Author.Needs.{needs}
 use Rattle.terms.proofs.scope.kept_in.Statement.{statement}
 use Rattle.terms.proofs.scope.kept_in.Tie as tie
 
 returns : tie.Need-returns
-returns c = (λ m to t h. kept-past m _ (c .before .before .args .n) t (c .before .before .args .i) (c .before .before .args .j) h (c .if1 .taken), omega arith)
+returns c =
+    let past = raw-past (now (c .before .before .args .tables)) (c .before .before .args .from) (c .before .before .args .n) (c .before .before .args .i) (c .before .before .args .j) (c .if1 .taken) in
+    (λ m to t h. sym past ∙ raw-held (now (c .before .before .args .tables)) (c .before .before .args .from) to m (c .before .before .args .n) t (c .before .before .args .i) (c .before .before .args .j) h (c .before .before .pre .2), omega arith, sym past)
 
 mul-byte : tie.Need-mul-byte
 mul-byte c = search needs
@@ -30,7 +31,9 @@ cast-result : tie.Need-cast-result
 cast-result c = search needs
 
 returns-2 : tie.Need-returns-2
-returns-2 c = (λ m to t h. c .byte .ensures ∙ kept-in-part (now (c .before .before .before .args .tables)) (c .before .before .before .args .from) to m (c .before .before .before .args .n) t h (c .before .before .before .args .i) (c .before .before .before .args .j) (c .before .if1 .left) (c .before .before .before .pre .2), search needs)
+returns-2 c =
+    let kept = c .byte .ensures ∙ sym (raw-kept (now (c .before .before .before .args .tables)) (c .before .before .before .args .from) (c .before .before .before .args .n) (c .before .before .before .args .i) (c .before .before .before .args .j) (c .before .if1 .left)) in
+    (λ m to t h. kept ∙ raw-held (now (c .before .before .before .args .tables)) (c .before .before .before .args .from) to m (c .before .before .before .args .n) t (c .before .before .before .args .i) (c .before .before .before .args .j) h (c .before .before .before .pre .2), search needs, kept)
 
 pub kept-in-spec : {M : Type 1} → statement M
 kept-in-spec =

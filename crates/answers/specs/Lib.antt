@@ -1,0 +1,4 @@
+-- What is answered of three texts.
+pub mod Answer
+pub mod Starred
+pub mod Refusals

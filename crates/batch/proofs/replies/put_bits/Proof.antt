@@ -1,0 +1,56 @@
+-- `batch::replies::put_bits` is safe and ends. Assumes nothing.
+use mathlib.Core.Path.{_≡_}
+use Prim.Native.Nat.{_-_}
+use lib.ListN.{length}
+use borrow.Author.Needs.{needs}
+use Rattle.batch.proofs.replies.put_bits.Statement.{statement}
+use Rattle.batch.proofs.replies.put_bits.Tie as tie
+
+abbrev Inv-loop : tie.InvT-loop
+Inv-loop facts out₀ used at₀ i₀ out at i = length out ≡ length out₀
+
+abbrev μ-loop : tie.MeasureT-loop
+μ-loop facts out₀ used at₀ i₀ out at i = length facts - i
+
+loop-holds : tie.Need-loop-holds Inv-loop μ-loop
+loop-holds c = search needs
+
+shared-slice-read-bit : tie.Need-shared-slice-read-bit Inv-loop μ-loop
+shared-slice-read-bit c = search needs
+
+bit-requires : tie.Need-bit-requires Inv-loop μ-loop
+bit-requires c κs = search needs
+
+put-requires : tie.Need-put-requires Inv-loop μ-loop
+put-requires c κs = search needs
+
+add-i : tie.Need-add-i Inv-loop μ-loop
+add-i c = search needs
+
+loop-less : tie.Need-loop-less Inv-loop μ-loop
+loop-less c = search needs
+
+loop-again : tie.Need-loop-again Inv-loop μ-loop
+loop-again c = search needs
+
+same-length : tie.Need-same-length Inv-loop μ-loop
+same-length c = search needs
+
+returns : tie.Need-returns Inv-loop μ-loop
+returns c = search needs
+
+pub put-bits-spec : {M : Type 1} → statement M
+put-bits-spec =
+    tie.close
+    (tie.spec
+    Inv-loop
+    μ-loop
+    loop-holds
+    shared-slice-read-bit
+    bit-requires
+    put-requires
+    add-i
+    loop-less
+    loop-again
+    same-length
+    returns)

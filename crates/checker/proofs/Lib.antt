@@ -1,0 +1,10 @@
+-- Laws of checks, for this crate's functions and the crates above.
+pub mod Formed
+pub mod Padding
+pub mod Written
+pub mod Shown
+pub mod Refusals
+pub mod Storing
+pub mod Calling
+pub mod Results
+pub mod Loading

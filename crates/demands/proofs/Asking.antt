@@ -1,0 +1,46 @@
+-- What is asked of a check after finish is what the plan's answer shows. Assumes nothing.
+use Prim.Native.Nat.{ℕ, _≤_}
+use mathlib.Core.Bool.{true}
+use mathlib.Core.List.{List}
+use mathlib.Core.Path.{_≡_, refl}
+use borrow.Author.Tests.{le-ltb}
+use lib.IntN.{ℤ}
+use lib.ListN.{length}
+use lib.Seq.{sets}
+use Rattle.happenings.specs.State.{State}
+use Rattle.happenings.specs.declared.Outcome as Why
+use Rattle.plans.specs.Plan.{going, failed, Result, refused, ended}
+use Rattle.plans.specs.Lines.{Refused}
+use Rattle.answers.specs.Answer.{ofPlan}
+use Rattle.checker.specs.Calls as C
+use Rattle.checker.specs.Calls.{wellFormed, resultOf, factsOf, numbersOf}
+use Rattle.checker.specs.declared.Check.{Check}
+use Rattle.demands.specs.Sessions.{Shows}
+use Rattle.demands.proofs.Storing.{fresh-formed}
+
+module _ (c : Check) (f : wellFormed c ≡ true) where
+  pub ended-formed : (x : Result State Why.Outcome Refused) → wellFormed (C.ended c x) ≡ true
+  unfolding C.ended
+  ended-formed (refused e) = fresh-formed c f (C.ended c (refused e) .progress) refl refl refl
+  ended-formed (ended r) = fresh-formed c f (C.ended c (ended r) .progress) refl refl refl
+
+  -- the line
+  pub asked-line : (x : Result State Why.Outcome Refused) (j k : ℕ) (line : List ℕ) → 64 ≤ length line
+      → resultOf (C.ended c x) line .1 ≡ sets line 0 (ofPlan j k x .line)
+  unfolding resultOf C.ended ofPlan
+  asked-line (refused e) j k line h = rw (ended-formed (refused e), le-ltb (length line) 64 h)
+  asked-line (ended (going s t)) j k line h = rw (ended-formed (ended (going s t)), le-ltb (length line) 64 h)
+  asked-line (ended (failed s t w)) j k line h = rw (ended-formed (ended (failed s t w)), le-ltb (length line) 64 h)
+
+  -- the facts and the numbers
+  pub asked-facts : (x : Result State Why.Outcome Refused) (k : ℕ) (out : List ℕ)
+      → Shows (c .ground .facts) (ofPlan (c .ground .facts) k x .final) (λ y. y .facts) out (factsOf (C.ended c x) out .1)
+  unfolding factsOf C.ended ofPlan
+  asked-facts (refused e) k out = rw (ended-formed (refused e)) refl
+  asked-facts (ended r) k out = λ h. rw (ended-formed (ended r), le-ltb (length out) (c .ground .facts) h) refl
+
+  pub asked-numbers : (x : Result State Why.Outcome Refused) (j : ℕ) (out : List ℤ)
+      → Shows (c .ground .numbers) (ofPlan j (c .ground .numbers) x .final) (λ y. y .numbers) out (numbersOf (C.ended c x) out .1)
+  unfolding numbersOf C.ended ofPlan
+  asked-numbers (refused e) j out = rw (ended-formed (refused e)) refl
+  asked-numbers (ended r) j out = λ h. rw (ended-formed (ended r), le-ltb (length out) (c .ground .numbers) h) refl

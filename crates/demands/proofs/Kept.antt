@@ -1,0 +1,168 @@
+-- Demand 1: every call keeps a check well formed, and refusals 19 to 23 return it unchanged and write to no output. Assumes nothing.
+use Prim.Native.Nat.{ℕ}
+use mathlib.Core.Bool.{Bool, true, false, cond}
+use mathlib.Core.List.{List, [], map}
+use mathlib.Core.Path.{_≡_, refl, sym, ap, _∙_}
+use lib.IntN.{ℤ}
+use lib.Dec.{ltb}
+use lib.ListN.{length, take}
+use Rattle.grammar.specs.Read.{Read, got, refused}
+use Rattle.grammar.specs.Domain.{Domain, readDomain}
+use Rattle.grammar.specs.Problem.{Problem, readProblem}
+use Rattle.happenings.specs.State.{State}
+use Rattle.happenings.specs.declared.Outcome as Why
+use Rattle.plans.specs.Machine.{waits, halted}
+use Rattle.plans.specs.Feed.{Feed, reading, close}
+use Rattle.plans.specs.Promised.{Act}
+use Rattle.plans.specs.Lines.{Refused, reader, limits}
+use Rattle.domain.specs.Load.{fixedOf}
+use Rattle.domain.specs.declared.Verdict.{Verdict}
+use Rattle.domain.specs.declared.Verdict.the-variants as Is
+use Rattle.answers.specs.Answer.{bit, shown}
+use Rattle.checker.specs.Calls as C
+use Rattle.checker.specs.Calls.{countersFit, formed, wellFormed, rulesOn, knownOn, heldBy, stored, noGround, checkFor, feedOf, finishOf, resultOf, factsOf, numbersOf, openOf}
+use Rattle.checker.specs.declared.Check.{Check}
+use Rattle.checker.specs.declared.Fed.{Fed}
+use Rattle.checker.specs.declared.Answer.the-variants as A
+use Rattle.demands.specs.Sessions.{Misused}
+use Rattle.demands.proofs.Keeping.{KeptFeed}
+use Rattle.demands.proofs.Storing.{stored-formed}
+use Rattle.demands.proofs.Session.{Open, fedBy, feed-open, finish-open, fed-kept, refused-formed}
+use Rattle.demands.proofs.Asking.{ended-formed}
+use Rattle.demands.proofs.Loaded.{loaded-open}
+use Rattle.demands.proofs.Whole.{opened, domain-opened, problem-opened, fixed-unformed}
+
+-- ---- well-formedness is kept
+
+module _ (c : Check) (f : wellFormed c ≡ true) where
+  stored-kept : (m : Feed State Act Why.Outcome Refused) → KeptFeed (c .model .acting) m → wellFormed (stored c m) ≡ true
+  unfolding stored
+  stored-kept (reading (halted e) n part) h = refused-formed c e f
+  stored-kept (reading (waits r s q) n part) h = stored-formed c r s q n part f (h .0) (h .1)
+
+  pub feed-keeps : (p : List ℕ) → wellFormed (feedOf c p .check) ≡ true
+  unfolding feedOf formed countersFit
+  feed-keeps p = by (c .finished) refl (c .progress .refused) refl
+    where
+      by : (b : Bool) → c .finished ≡ b → (d : Bool) → c .progress .refused ≡ d → wellFormed (feedOf c p .check) ≡ true
+      by true e d g = rw (f, e) f
+      by false e true g = rw (f, e, g) f
+      by false e false g =
+          let o : Open c = record { formed = f; unfinished = e; unrefused = g } in
+          ap (λ x. wellFormed x) (feed-open c p o) ∙ stored-kept (fedBy c p) (fed-kept c p o)
+
+  pub finish-keeps : wellFormed (finishOf c .check) ≡ true
+  unfolding finishOf formed countersFit
+  finish-keeps = by (c .finished) refl (c .progress .refused) refl
+    where
+      by : (b : Bool) → c .finished ≡ b → (d : Bool) → c .progress .refused ≡ d → wellFormed (finishOf c .check) ≡ true
+      by true e d g = rw (f, e) f
+      by false e true g = rw (f, e, g) f
+      by false e false g =
+          let o : Open c = record { formed = f; unfinished = e; unrefused = g } in
+          ap (λ x. wellFormed x) (finish-open c o) ∙ ended-formed c f (close (rulesOn c) limits (reader (knownOn c)) (heldBy c))
+
+-- ---- refusals 19 to 23 return the check unchanged and write to no output
+
+-- what holds of both holds of either
+either : {X : Type 0} (P : X → Type 0) (b : Bool) {x y : X} → P x → P y → P (cond b x y)
+either P true h k = h
+either P false h k = k
+
+abbrev pub Unchanged : Check → Fed → Type 0
+Unchanged c r = Misused (r .answer) → r .check ≡ c
+
+-- an answer that stands is none of them
+stands : (c : Check) (x : Check) → Unchanged c (C.answering x)
+stands c x = by (x .progress .refused)
+  where
+    by : (b : Bool) → Misused (cond b (A.Refused (x .progress .refusal) (x .progress .at) (x .progress .column)) (A.Done 0)) → x ≡ c
+    by true m = absurd m
+    by false m = absurd m
+
+open-unchanged : (c : Check) (next : Fed) → Unchanged c next → Unchanged c (C.whileOpen c next)
+open-unchanged c next h =
+    either (Unchanged c) (wellFormed c) (either (Unchanged c) (c .finished) (λ m. refl) h) (λ m. refl)
+
+pub feed-unchanged : (c : Check) (p : List ℕ) → Unchanged c (feedOf c p)
+unfolding feedOf
+feed-unchanged c p = open-unchanged c _ (either (Unchanged c) (c .progress .refused) (stands c c) (stands c (stored c (fedBy c p))))
+
+pub finish-unchanged : (c : Check) → Unchanged c (finishOf c)
+unfolding finishOf
+finish-unchanged c =
+    open-unchanged c _
+    (either (Unchanged c) (c .progress .refused) (stands c (C.withFinish c)) (stands c (C.ended c (close (rulesOn c) limits (reader (knownOn c)) (heldBy c)))))
+
+-- asking never changes the check
+module _ {X : Type 0} (c : Check) (out : List X) where
+  abbrev pub Asked : Fed × List X → Type 0
+  Asked r = (r .0 .check ≡ c) × (Misused (r .0 .answer) → r .1 ≡ out)
+
+  done-asked : (next : Fed × List X) → Asked next → Asked (C.whenDone c out next)
+  done-asked next h = either Asked (wellFormed c) (either Asked (c .finished) h (refl, λ m. refl)) (refl, λ m. refl)
+
+  written-asked : (least : ℕ) (w : List X) → Asked (C.writing c out least w)
+  written-asked least w = either Asked (ltb (length out) least) (refl, λ m. refl) (refl, λ m. absurd m)
+
+  stated-asked : (next : Fed × List X) → Asked next → Asked (C.unlessRefused c out next)
+  stated-asked next h = either Asked (c .progress .refused) (refl, λ m. refl) h
+
+pub result-asked : (c : Check) (out : List ℕ) → Asked c out (resultOf c out)
+unfolding resultOf
+result-asked c out = done-asked c out (C.writing c out 64 w) (written-asked c out 64 w)
+  where
+    w : List ℕ
+    w = C.lineIn (c .progress)
+
+pub facts-asked : (c : Check) (out : List ℕ) → Asked c out (factsOf c out)
+unfolding factsOf
+facts-asked c out =
+    done-asked c out (C.unlessRefused c out (C.writing c out n w)) (stated-asked c out (C.writing c out n w) (written-asked c out n w))
+  where
+    n : ℕ
+    n = c .ground .facts
+
+    w : List ℕ
+    w = map bit (take (c .ground .facts) (c .facts))
+
+pub numbers-asked : (c : Check) (out : List ℤ) → Asked c out (numbersOf c out)
+unfolding numbersOf
+numbers-asked c out =
+    done-asked c out (C.unlessRefused c out (C.writing c out n w)) (stated-asked c out (C.writing c out n w) (written-asked c out n w))
+  where
+    n : ℕ
+    n = c .ground .numbers
+
+    w : List ℤ
+    w = map shown (take (c .ground .numbers) (c .numbers))
+
+-- ---- a load gives a well-formed check if it is not refused, else one fixed check that is not
+
+abbrev pub fixedCheck : Check
+fixedCheck = checkFor (fixedOf Is.Loaded) noGround 0
+
+abbrev pub Opens : Verdict → Check → Type 0
+Opens Is.Loaded c = wellFormed c ≡ true
+Opens (Is.Domain k p) c = (c ≡ fixedCheck) × (wellFormed c ≡ false)
+Opens (Is.Problem k p) c = (c ≡ fixedCheck) × (wellFormed c ≡ false)
+
+fixed-one : (v : Verdict) → checkFor (fixedOf v) noGround 0 ≡ fixedCheck
+unfolding fixedOf
+fixed-one v = refl
+
+pub load-opens : (s t : List ℕ) → Opens (openOf s t .answer) (openOf s t .check)
+load-opens s t = by (readDomain s) refl
+  where
+    behind : (d : Domain) (m : ℕ) → readDomain s ≡ got d m → (x : Read Problem) → readProblem t d ≡ x → Opens (openOf s t .answer) (openOf s t .check)
+    behind d m e (got p n) f = rw (opened s t d p m n e f []) (loaded-open s t d p m n e f .formed)
+    behind d m e (refused k q) f = rw (problem-opened s t k q d m e f) (fixed-one (Is.Problem k q), fixed-unformed (Is.Problem k q))
+
+    by : (x : Read Domain) → readDomain s ≡ x → Opens (openOf s t .answer) (openOf s t .check)
+    by (got d m) e = behind d m e (readProblem t d) refl
+    by (refused k q) e = rw (domain-opened s t k q e) (fixed-one (Is.Domain k q), fixed-unformed (Is.Domain k q))
+
+-- ---- any two answers that a contract admits are equal: each is one equation
+
+pub one-answer : {X : Type 0} {x y z : X} → x ≡ z → y ≡ z → x ≡ y
+one-answer e f = e ∙ sym f

@@ -1,0 +1,10 @@
+-- The demands.
+pub mod Begun
+pub mod Keeping
+pub mod Storing
+pub mod Session
+pub mod Asking
+pub mod Loaded
+pub mod Whole
+pub mod Kept
+pub mod Exactly

@@ -1,0 +1,5 @@
+-- Laws that the proofs cite.
+pub mod Taking
+pub mod Answering
+pub mod Turning
+pub mod Ending

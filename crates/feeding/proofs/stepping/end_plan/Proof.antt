@@ -1,0 +1,110 @@
+-- `feeding::stepping::end_plan` meets its contract. Assumes nothing.
+use denote.Ref.{now}
+use lib.ListN.{take}
+use Rattle.codes.specs.Decode.{conditionAt}
+use Rattle.entries.specs.Entries.{signedIn}
+use Rattle.grammar.specs.Conditions.{Cond}
+use Rattle.grammar.specs.Tables.{Table}
+use Rattle.judgement.specs.Judged.{stateIn}
+use Rattle.happenings.specs.State.{State}
+use Rattle.happenings.specs.declared.Outcome.{Outcome}
+use Rattle.plans.specs.Plan.{Rules}
+use Rattle.plans.specs.Promised.{Act}
+use Rattle.plans.specs.Text.{Reader}
+use Rattle.plans.specs.Lines.{Refused, reader}
+use Rattle.lines.specs.Knowing.{knownIn}
+use Rattle.running.specs.Running.{rulesIn}
+use Rattle.lines.proofs.Names.{signed-length}
+use Rattle.feeding.proofs.Ending.{closed-refused, closed-run}
+use borrow.Author.Needs.{needs}
+use Rattle.feeding.proofs.stepping.end_plan.Statement.{statement}
+use Rattle.feeding.proofs.stepping.end_plan.Tie as tie
+
+abbrev start : tie.After-take-line → tie.Start
+start c = c .before .before .before .before .before .before .before .before .before .before .before .before
+
+abbrev goal : tie.Start → Cond
+goal c = conditionAt (now (c .args .goal)) 0 .tree
+
+abbrev heads : tie.Start → Table
+heads c = signedIn (now (c .args .heads)) (c .args .acting)
+
+abbrev rules : tie.Start → State → Rules State Act Outcome
+rules c s = rulesIn (now (c .args .code)) (now (c .args .starts)) (now (c .args .firsts)) (goal c) (heads c) s
+
+abbrev reads : tie.Start → Reader Act Refused
+reads c = reader (knownIn (now (c .args .tables)) (c .args .counts) (now (c .args .heads)) (c .args .acting) (now (c .args .code)) (now (c .args .starts)))
+
+-- the state before the last line, and behind it
+abbrev first : tie.Start → State
+first c = stateIn (now (c .args .facts)) (now (c .args .numbers))
+
+abbrev there : tie.After-take-line → State
+there c = stateIn (c .take-line .last .1 .1 .1 .1 .1 .1 .1 .0) (c .take-line .last .1 .1 .1 .1 .1 .1 .1 .1 .0)
+
+take-line-requires : tie.Need-take-line-requires
+take-line-requires c κs = search needs
+
+same-length : tie.Need-same-length
+same-length c = search needs
+
+same-length-2 : tie.Need-same-length-2
+same-length-2 c = search needs
+
+same-length-3 : tie.Need-same-length-3
+same-length-3 c = search needs
+
+returns : tie.Need-returns
+returns c =
+    let v = c .before .before .before .before .before .before in
+    let a = start v .args in
+    let t = v .take-line in
+    λ s. closed-refused (rules (start v) s) (first (start v)) (there v) (a .queue) (a .p) (reads (start v)) (start v .pre .3)
+    (take (a .p .used) (now (a .line))) (t .result .queue) (t .result .progress) (t .ensures .0 (goal (start v)) s) (there v) (c .if1 .taken)
+
+end-run-requires : tie.Need-end-run-requires
+end-run-requires c κs =
+    let v = c .before .before .before .before .before .before .before .before .before in
+    let t = v .take-line .ensures in
+    ((start v .args .acting, t .1 .0), t .1 .1, start v .pre .5, t .3)
+
+begun-requires : tie.Need-begun-requires
+begun-requires c κs = search needs
+
+same-length-4 : tie.Need-same-length-4
+same-length-4 c = search needs
+
+same-length-5 : tie.Need-same-length-5
+same-length-5 c = search needs
+
+same-length-6 : tie.Need-same-length-6
+same-length-6 c = search needs
+
+returns-2 : tie.Need-returns-2
+returns-2 c =
+    let v = c .before .before .before .before .before .before .before .before .before .before .before .before .before .before .before in
+    let a = start v .args in
+    let t = v .take-line in
+    let r = c .before .before .before .before .before .end-run in
+    let n = signed-length (now (a .heads)) (a .acting) in
+    let last = stateIn (r .last .1 .1 .1 .1 .0) (r .last .1 .1 .1 .1 .1 .0) in
+    λ s. closed-run (rules (start v) s) (first (start v)) (there v) (a .queue) (a .p) (reads (start v)) (start v .pre .3)
+    (take (a .p .used) (now (a .line))) (t .result .queue) (t .result .progress) (t .ensures .0 (goal (start v)) s) last (r .result)
+    (c .begun .result) (c .before .before .before .before .before .before .before .before .before .if1 .left) (c .begun .ensures)
+    (r .ensures (heads (start v)) s (rw n (t .ensures .1 .0)) (rw n (start v .pre .1 .1)))
+
+pub end-plan-spec : {M : Type 1} → statement M
+end-plan-spec =
+    tie.close
+    (tie.spec
+    take-line-requires
+    same-length
+    same-length-2
+    same-length-3
+    returns
+    end-run-requires
+    begun-requires
+    same-length-4
+    same-length-5
+    same-length-6
+    returns-2)

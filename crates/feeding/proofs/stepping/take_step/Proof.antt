@@ -1,0 +1,136 @@
+-- `feeding::stepping::take_step` meets its contract. Assumes nothing.
+use mathlib.Core.Path.{_≡_, ap}
+use Prim.Native.Nat.{_≤_}
+use native.Mathlib.Omega.{arith}
+use denote.Ref.{now}
+use lib.ListN.{length}
+use Rattle.grammar.specs.Conditions.{Cond}
+use Rattle.grammar.specs.Tables.{Table}
+use Rattle.judgement.specs.Judged.{stateIn}
+use Rattle.happenings.specs.State.{State}
+use Rattle.happenings.specs.declared.Outcome.{Outcome}
+use Rattle.plans.specs.Plan.{Rules}
+use Rattle.plans.specs.Promised.{Act}
+use Rattle.running.specs.Running.{rulesIn}
+use Rattle.waiting.proofs.Places.{length-mapped}
+use Rattle.feeding.specs.declared.Progress.{Progress}
+use Rattle.feeding.proofs.Taking.{points-few, crowded, admitted}
+use borrow.Author.Needs.{needs}
+use Rattle.feeding.proofs.stepping.take_step.Statement.{statement}
+use Rattle.feeding.proofs.stepping.take_step.Tie as tie
+
+abbrev start : tie.After-drain-below → tie.Start
+start c = c .before .before .before .before .before .before .before .before
+
+abbrev rules : tie.Start → Cond → Table → State → Rules State Act Outcome
+rules c g es s = rulesIn (now (c .args .code)) (now (c .args .starts)) (now (c .args .firsts)) g es s
+
+-- the state at the step's start, and before
+abbrev there : tie.After-drain-below → State
+there c = stateIn (c .drain-below .last .1 .1 .1 .0) (c .drain-below .last .1 .1 .1 .1 .0)
+
+abbrev first : tie.Start → State
+first c = stateIn (now (c .args .facts)) (now (c .args .numbers))
+
+-- the queue that is left has all its places, and no more points than places
+long : (c : tie.After-drain-below) → length (c .drain-below .result .queue .slots) ≡ 64
+long c = search (needs, length-mapped)
+
+few : (c : tie.After-drain-below) → c .drain-below .result .queue .count ≤ 64
+few c = let t = start c .pre .0 in c .drain-below .ensures .1 (t .0) (t .1) .0
+
+drain-below-requires : tie.Need-drain-below-requires
+drain-below-requires c κs = search needs
+
+points-of-requires : tie.Need-points-of-requires
+points-of-requires c κs = search needs
+
+add-if1 : tie.Need-add-if1
+add-if1 c =
+    let v = c .before .before .before .before .before .before .before in
+    let k = few v in
+    let e : c .before .points-of .result ≤ 2 = rw (c .before .points-of .ensures) (points-few (start v .args .x)) in
+    search needs
+
+add-refuse : tie.Need-add-refuse
+add-refuse c = search needs
+
+refuse-requires : tie.Need-refuse-requires
+refuse-requires c κs = search needs
+
+same-length : tie.Need-same-length
+same-length c = search needs
+
+same-length-2 : tie.Need-same-length-2
+same-length-2 c = search needs
+
+same-length-3 : tie.Need-same-length-3
+same-length-3 c = search needs
+
+returns : tie.Need-returns
+returns c =
+    let v = c .before .before .before .before .before .before .before .before .before .before in
+    let a = start v .args in
+    let d = v .drain-below in
+    let r = c .refuse in (
+      λ g es s h k. crowded (d .result .queue) (a .x) (rules (start v) g es s) (a .queue) (first (start v)) (there v) (d .result .past) (a .p) (r .result)
+          (d .ensures .0 g es s h k) (long v) (few v) (r .ensures)
+          (omega (arith, c .before .before .if1 .taken, c .before .before .before .before .points-of .ensures)) (start v .pre .2),
+      λ n h k. d .ensures .1 n h,
+      ap (λ (w : Progress). w .used) (r .ensures),
+      ap (λ (w : Progress). w .number) (r .ensures),
+      λ m h k. rw (r .ensures) h,
+      d .ensures .2,
+    )
+
+enter-requires : tie.Need-enter-requires
+enter-requires c κs = search needs
+
+begun-requires : tie.Need-begun-requires
+begun-requires c κs = search needs
+
+same-length-4 : tie.Need-same-length-4
+same-length-4 c = search needs
+
+same-length-5 : tie.Need-same-length-5
+same-length-5 c = search needs
+
+same-length-6 : tie.Need-same-length-6
+same-length-6 c = search needs
+
+returns-2 : tie.Need-returns-2
+returns-2 c =
+    let v = c .before .before .before .before .before .before .before .before .before .before in
+    let a = start v .args in
+    let d = v .drain-below in
+    let r = c .begun in
+    let e = c .before .enter in (
+      λ g es s h k. admitted (d .result .queue) (a .x) (rules (start v) g es s) (a .queue) (first (start v)) (there v) (d .result .past) (a .p) (r .result)
+          (d .ensures .0 g es s h k) (long v) (few v) (e .result) (r .ensures)
+          (omega (arith, c .before .before .if1 .left, c .before .before .before .before .points-of .ensures)) (e .ensures .0) (start v .pre .1),
+      λ n h k. e .ensures .1 n (d .ensures .1 n h) k,
+      ap (λ (w : Progress). w .used) (r .ensures),
+      ap (λ (w : Progress). w .number) (r .ensures),
+      λ m h k. rw (r .ensures) k,
+      d .ensures .2,
+    )
+
+pub take-step-spec : {M : Type 1} → statement M
+take-step-spec =
+    tie.close
+    (tie.spec
+    drain-below-requires
+    points-of-requires
+    add-if1
+    add-refuse
+    refuse-requires
+    same-length
+    same-length-2
+    same-length-3
+    returns
+    enter-requires
+    begun-requires
+    same-length-4
+    same-length-5
+    same-length-6
+    returns-2)

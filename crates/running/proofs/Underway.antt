@@ -1,0 +1,150 @@
+-- The points and steps that rows of sound slots give are those of the slots. Assumes nothing.
+use Prim.Native.Nat.{ℕ, _+_, _*_, _≤_, _<_}
+use mathlib.Core.Bool.{Bool, true, false, _&&_}
+use mathlib.Core.List.{List, [], _∷_, map}
+use mathlib.Core.Path.{_≡_, refl, sym, ap, _∙_}
+use native.Mathlib.Omega.{arith}
+use lib.Dec.{eqb, ltb}
+use lib.ListN.{length, take, getD, length-map}
+use Rattle.grammar.specs.Tables.{Table, entryAt}
+use Rattle.grammar.specs.Actions.{start, end, Action}
+use Rattle.rows.specs.Held.{byteAt}
+use Rattle.codes.specs.Decode.{whenOf, actionFrom, actionAt, actionsAt}
+use Rattle.codes.proofs.Actions.{numbered}
+use Rattle.happenings.specs.Happening as H
+use Rattle.points.specs.Placed as Code
+use Rattle.instants.specs.Given.{whoIn, startIn, placedIn, pointsIn, stepsIn}
+use Rattle.instants.proofs.Places.{start-there}
+use Rattle.words.proofs.Ranges.{both-0, both-1}
+use Rattle.plans.specs.Lists.{keep}
+use Rattle.plans.specs.Plan.{time, at}
+use Rattle.plans.specs.Plan as Plan
+use Rattle.plans.specs.Machine.{underWay}
+use Rattle.plans.specs.Promised.{Act, none-such, pointFor, stepFor}
+use Rattle.plans.specs.Stored.{stepIn, pointIn}
+use Rattle.plans.specs.declared.Step.{Step}
+use Rattle.plans.specs.declared.Slot.{Slot}
+use Rattle.plans.proofs.Stored.{duration-back}
+use Rattle.waiting.specs.Waiting.{soundStep, soundAll}
+use Rattle.waiting.proofs.Soundness.{sound-action, sound-keep}
+use Rattle.running.specs.Laid.{whenIn, whoOf, Laid}
+use Rattle.rows.proofs.Rows.{byte-is}
+use Rattle.running.proofs.Laying.{rowAt, Laying}
+
+-- ---- which slots
+
+-- its point has the time t
+abbrev pub isAt : ℕ → Slot → Bool
+isAt t s = eqb (time (pointIn s)) t
+
+-- it is the end of a step, and lies after t
+abbrev pub isOpen : ℕ → Slot → Bool
+isOpen t s = s .ends && ltb t (time (pointIn s))
+
+abbrev pub pointWhen : Slot → ℕ
+pointWhen s = whenIn (s .ends)
+
+abbrev pub endWhen : Slot → ℕ
+endWhen s = 3
+
+abbrev stepOf : Slot → Plan.Step Act
+stepOf s = stepIn (s .step)
+
+points-at : (t : ℕ) (l : List Slot) → map pointIn (keep (isAt t) l) ≡ at t (map pointIn l)
+points-at t [] = refl
+points-at t (s ∷ ss) = go (isAt t s) refl (points-at t ss)
+  where
+    go : (b : Bool) → isAt t s ≡ b → map pointIn (keep (isAt t) ss) ≡ at t (map pointIn ss) → map pointIn (keep (isAt t) (s ∷ ss)) ≡ at t (map pointIn (s ∷ ss))
+    go true e ih = rw (e, ih)
+    go false e ih = rw (e, ih)
+
+steps-open : (t : ℕ) (l : List Slot) → map stepOf (keep (isOpen t) l) ≡ underWay t (map pointIn l)
+unfolding pointIn
+steps-open t [] = refl
+steps-open t (s ∷ ss) = go (s .ends) (ltb t (time (pointIn s))) refl refl (steps-open t ss)
+  where
+    go : (a b : Bool) → s .ends ≡ a → ltb t (time (pointIn s)) ≡ b → map stepOf (keep (isOpen t) ss) ≡ underWay t (map pointIn ss)
+        → map stepOf (keep (isOpen t) (s ∷ ss)) ≡ underWay t (map pointIn (s ∷ ss))
+    go true true e k ih = let k′ = rw e at k in rw (e, k′, ih)
+    go true false e k ih = let k′ = rw e at k in rw (e, k′, ih)
+    go false b e k ih = rw (e, ih)
+
+module _ (t : ℕ) (s : Slot) where
+  -- r is the time of an end
+  pub open-end : {r : ℕ} {b : Bool} → s .ends ≡ true → r ≡ time (pointIn s) → ltb t r ≡ b → isOpen t s ≡ b
+  open-end e k h = rw (← k, h, e)
+
+  pub open-no : s .ends ≡ false → isOpen t s ≡ false
+  open-no e = rw e
+
+-- ---- a row
+
+module _ (code starts : List ℕ) (es : Table) (few : length es ≤ 32) where
+  abbrev actions : List Action
+  actions = actionsAt code starts 0 es
+
+  part-is : (action part : ℕ) → action < length es → startIn starts action part ≡ byteAt starts (3 * action + part)
+  part-is action part h = sym (start-there starts action part (omega arith) (byte-is starts (3 * action + part)))
+
+  first-part : (action : ℕ) → action < length es → startIn starts action 0 ≡ byteAt starts (3 * action)
+  first-part action h = let z : 3 * action + 0 ≡ 3 * action = omega arith in part-is action 0 h ∙ ap (byteAt starts) z
+
+  action-is : (i : ℕ) → i < length es → getD actions i none-such ≡ actionAt code starts i (entryAt es i)
+  action-is i h = let z : 0 + i ≡ i = omega arith in rw z at (numbered es code starts 0 i none-such (omega arith))
+
+  module _ (rows objects : List ℕ) where
+    row-step : (x : Step) (j : ℕ) → x .action < length es → getD rows (4 * j) 0 ≡ x .line → getD rows (4 * j + 1) 0 ≡ x .action
+        → getD rows (4 * j + 3) 0 ≡ x .duration → whoIn objects j ≡ whoOf x
+        → Code.stepIn code (placedIn starts rows objects j) ≡ stepFor actions (stepIn x)
+    unfolding placedIn stepIn actionAt actionFrom
+    row-step x j h el ea ed ew =
+        rw (el, ea, ed, ew, first-part (x .action) h, part-is (x .action) 1 h, part-is (x .action) 2 h, duration-back (x .duration), action-is (x .action) h)
+
+    row-point : (s : Slot) (j : ℕ) → getD rows (4 * j + 2) 0 ≡ pointWhen s → Code.stepIn code (placedIn starts rows objects j) ≡ stepFor actions (stepIn (s .step))
+        → Code.pointIn code (placedIn starts rows objects j) ≡ pointFor actions (pointIn s)
+    unfolding placedIn pointIn whenOf
+    row-point s j et ex = go (s .ends) refl
+      where
+        go : (b : Bool) → s .ends ≡ b → Code.pointIn code (placedIn starts rows objects j) ≡ pointFor actions (pointIn s)
+        go true e = rw (et, e) (ap (λ (x : H.Step). record { step = x; when = end }) ex)
+        go false e = rw (et, e) (ap (λ (x : H.Step). record { step = x; when = start }) ex)
+
+    -- ---- rows from number j on
+
+    module _ (s : Slot) (ss : List Slot) (h : soundAll (length es) (s ∷ ss) ≡ true) where
+      rest-sound : soundAll (length es) ss ≡ true
+      unfolding soundAll
+      rest-sound = both-1 (soundStep (length es) (s .step)) (soundAll (length es) ss) h
+
+      first-step : (w : Slot → ℕ) (j : ℕ) → Laid rows objects j (map (rowAt w) (s ∷ ss)) → Code.stepIn code (placedIn starts rows objects j) ≡ stepFor actions (stepOf s)
+      unfolding soundAll Laid
+      first-step w j r =
+          let a = sound-action (length es) (s .step) (both-0 (soundStep (length es) (s .step)) (soundAll (length es) ss) h) in
+          row-step (s .step) j a (r .0) (r .1) (r .3) (r .4)
+
+    laid-points : (ss : List Slot) (j : ℕ) → soundAll (length es) ss ≡ true → Laid rows objects j (map (rowAt pointWhen) ss)
+        → pointsIn code starts rows objects (length ss) j ≡ map (pointFor actions) (map pointIn ss)
+    unfolding Laid pointsIn
+    laid-points [] j h r = refl
+    laid-points (s ∷ ss) j h r = rw (row-point s j (r .2) (first-step s ss h pointWhen j r), laid-points ss (j + 1) (rest-sound s ss h) (r .5))
+
+    laid-steps : (ss : List Slot) (j : ℕ) → soundAll (length es) ss ≡ true → Laid rows objects j (map (rowAt endWhen) ss)
+        → stepsIn code starts rows objects (length ss) j ≡ map (stepFor actions) (map stepOf ss)
+    unfolding Laid stepsIn
+    laid-steps [] j h r = refl
+    laid-steps (s ∷ ss) j h r = rw (first-step s ss h endWhen j r, laid-steps ss (j + 1) (rest-sound s ss h) (r .5))
+
+  -- ---- when all slots are gone through
+
+  module _ (t : ℕ) {l : List Slot} {rows objects : List ℕ} {n j : ℕ} (sound : soundAll (length es) (take n l) ≡ true) where
+    pub points-laid : Laying (isAt t) pointWhen l rows objects n j → pointsIn code starts rows objects j 0 ≡ map (pointFor actions) (at t (map pointIn (take n l)))
+    points-laid k =
+        let kept = keep (isAt t) (take n l) in
+        let count : length kept ≡ j = sym (length-map kept (rowAt pointWhen)) ∙ k .counted in
+        rw (← count, ← points-at t (take n l)) (laid-points rows objects kept 0 (sound-keep (length es) (isAt t) (take n l) sound) (k .laid))
+
+    pub steps-laid : Laying (isOpen t) endWhen l rows objects n j → stepsIn code starts rows objects j 0 ≡ map (stepFor actions) (underWay t (map pointIn (take n l)))
+    steps-laid k =
+        let kept = keep (isOpen t) (take n l) in
+        let count : length kept ≡ j = sym (length-map kept (rowAt endWhen)) ∙ k .counted in
+        rw (← count, ← steps-open t (take n l)) (laid-steps rows objects kept 0 (sound-keep (length es) (isOpen t) (take n l) sound) (k .laid))

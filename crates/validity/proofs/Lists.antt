@@ -1,0 +1,55 @@
+-- Laws of every element and of membership, and of the tests that find some element. Assumes nothing.
+use mathlib.Core.Bool.{Bool, true, false, _||_}
+use mathlib.Core.List.{List, [], _∷_, _++_}
+use mathlib.Core.Logic.{inl, inr}
+use mathlib.Core.Path.{_≡_, refl, sym, subst}
+use Rattle.happenings.specs.Writes.{some}
+use Rattle.plans.proofs.Lists.{all-append}
+use Rattle.validity.specs.Lists.{All, Pairwise, _∈_}
+
+pub or-left : (s t : Bool) → (s || t) ≡ false → s ≡ false
+or-left true t e = e
+or-left false t e = refl
+
+pub or-right : (s t : Bool) → (s || t) ≡ false → t ≡ false
+or-right true true e = e
+or-right true false e = refl
+or-right false t e = e
+
+pub neither : {s t : Bool} → s ≡ false → t ≡ false → (s || t) ≡ false
+neither e f = rw (e, f)
+
+module _ {A : Type 0} where
+  pub all-in : (P : A → Type 0) (xs : List A) → All P xs → (x : A) → x ∈ xs → P x
+  all-in P [] a x i = absurd i
+  all-in P (y ∷ ys) a x (inl e) = subst P (sym e) (a .0)
+  all-in P (y ∷ ys) a x (inr i) = all-in P ys (a .1) x i
+
+  pub in-all : {P : A → Type 0} (xs : List A) → ((x : A) → x ∈ xs → P x) → All P xs
+  in-all [] h = tt
+  in-all (y ∷ ys) h = (h y (inl refl), in-all ys (λ x i. h x (inr i)))
+
+  pub in-left : (x : A) (xs ys : List A) → x ∈ xs → x ∈ (xs ++ ys)
+  in-left x [] ys i = absurd i
+  in-left x (y ∷ xs) ys (inl e) = inl e
+  in-left x (y ∷ xs) ys (inr i) = inr (in-left x xs ys i)
+
+  pub in-right : (x : A) (xs ys : List A) → x ∈ ys → x ∈ (xs ++ ys)
+  in-right x [] ys i = i
+  in-right x (y ∷ xs) ys i = inr (in-right x xs ys i)
+
+  -- two lists whose elements go together, each by itself and one with the other
+  pub pairwise-append : (R : A → A → Type 0) (xs ys : List A) → Pairwise R xs → Pairwise R ys → All (λ x. All (R x) ys) xs → Pairwise R (xs ++ ys)
+  pairwise-append R [] ys a b c = b
+  pairwise-append R (x ∷ xs) ys a b c = (all-append (R x) xs ys (a .0) (c .0), pairwise-append R xs ys (a .1) b (c .1))
+
+  -- ---- `some`
+  pub none-in : (f : A → Bool) (xs : List A) → some f xs ≡ false → All (λ x. f x ≡ false) xs
+  unfolding some
+  none-in f [] e = tt
+  none-in f (x ∷ xs) e = (or-left (f x) (some f xs) e, none-in f xs (or-right (f x) (some f xs) e))
+
+  pub all-none : (f : A → Bool) (xs : List A) → All (λ x. f x ≡ false) xs → some f xs ≡ false
+  unfolding some
+  all-none f [] a = refl
+  all-none f (x ∷ xs) a = neither (a .0) (all-none f xs (a .1))

@@ -1,0 +1,6 @@
+-- When a plan is valid, apart from how that is computed.
+pub mod Lists
+pub mod Satisfied
+pub mod Happens
+pub mod Failing
+pub mod Valid

@@ -1,0 +1,5 @@
+-- Laws of the points that wait, for this crate's functions and the crates above.
+pub mod Soundness
+pub mod Points
+pub mod Sifting
+pub mod Places

@@ -1,0 +1,3 @@
+-- The line written.
+pub mod Wording
+pub mod Examples
