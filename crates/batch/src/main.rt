@@ -1,10 +1,11 @@
 // Checks plans from standard input and writes what came of each, to be held beside `second --batch`.
 mod header;
+mod pieces;
 mod plan;
+mod reading;
 mod replies;
 
 use header::Head;
-use records::input;
 use text::runs;
 
 // Reads the three texts of a record and answers it: whether its header is one and they were there.
@@ -13,26 +14,27 @@ fn texts(head: Head) -> bool {
     if part == 0 {
         return false;
     }
-    let dn = head.domain;
-    let pn = head.problem;
     let mut domain = [0u8; 65536];
     let mut problem = [0u8; 65536];
-    if input::read_text(&mut domain, dn) {
-        if input::read_text(&mut problem, pn) {
-            let opened = checker::load(
-                runs::part_of(&domain, 0, dn),
-                runs::part_of(&problem, 0, pn),
-            );
-            let fed = plan::feed(opened.check, head.plan, part);
-            let whole = fed.whole;
-            if whole {
-                let verdict = opened.answer;
-                replies::write(verdict, fed.check);
-            }
-            return whole;
-        }
+    let first = reading::read(&mut domain, head.domain);
+    if !first.whole {
+        return false;
     }
-    false
+    let second = reading::read(&mut problem, head.problem);
+    if !second.whole {
+        return false;
+    }
+    let opened = checker::load(
+        runs::part_of(&domain, 0, first.used),
+        runs::part_of(&problem, 0, second.used),
+    );
+    let fed = plan::feed(opened.check, head.plan, part);
+    let whole = fed.whole;
+    if whole {
+        let verdict = opened.answer;
+        replies::write(verdict, fed.check);
+    }
+    whole
 }
 
 // Reads one record and answers it: whether to go on.

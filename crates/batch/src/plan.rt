@@ -1,8 +1,9 @@
 // The plan of a record, fed in parts: only one part is held at a time.
+use crate::pieces;
 use checker::Check;
 use records::input;
 use text::runs;
-ghost use Prim.Native.Nat.{_≤_, _<_};
+ghost use Prim.Native.Nat.{_<_};
 
 pub struct Fed {
     pub check: Check,
@@ -10,27 +11,17 @@ pub struct Fed {
     pub whole: bool,
 }
 
-fn least(a: usize, b: usize) -> usize
-    requires { ⌜ (0 < a) × (0 < b) ⌝ }
-    ensures { λ r. ⌜ (0 < r) × (r ≤ a) ⌝ }
-{
-    if a < b {
-        return a;
-    }
-    b
-}
-
 // Feeds a plan of so many bytes, `part` at a time but no more than 65,536.
 pub fn feed(fresh: Check, total: usize, part: usize) -> Fed
     requires { ⌜ 0 < part ⌝ }
 {
     let mut block = [0u8; 65536];
-    let size = least(part, 65536);
+    let size = pieces::least(part, 65536);
     let mut check = fresh;
     let mut left = total;
     let mut whole = true;
     while 0 < left && whole {
-        let n = least(left, size);
+        let n = pieces::least(left, size);
         whole = input::read_text(&mut block, n);
         let fed = check.feed(runs::part_of(&block, 0, n));
         check = fed.check;

@@ -1,7 +1,7 @@
 -- The ways through one effect: on a number, on a fact, and on one of two tables made equal. Assumes nothing.
 use mathlib.Core.Path.{_≡_, refl, sym, ap, _∙_}
 use mathlib.Core.List.{List, [], _∷_}
-use mathlib.Core.Bool.{Bool, true, false, cond, not}
+use mathlib.Core.Bool.{Bool, true, false, cond, not, _||_}
 use Prim.Native.Nat.{ℕ, _-_, _^_, _≤_, _<_}
 use native.Mathlib.Omega.{arith}
 use types.Run.{OneOf, miss}
@@ -30,7 +30,8 @@ use Rattle.evaluation.specs.Evaluated.{valuedOf}
 use Rattle.evaluation.specs.declared.values.Valued.{Valued}
 use Rattle.evaluation.proofs.Ranging.{value-ranged}
 use Rattle.marks.specs.Flat.{changeIn, changeBy}
-use Rattle.changes.specs.Changing.{Bounded, blamed, shifted, settleOne, writeFact}
+use Rattle.changes.specs.Changing.{Bounded, blamed, shifted, settleOne, writeFact, adds}
+use Rattle.changes.proofs.Passing.{or-none}
 
 -- ---- a value that is no number
 
@@ -164,6 +165,19 @@ module _ (m : Mark) where
       go add (Fact a x) h = absurd (miss (0 ∷ 2 ∷ []) 1 tt h)
       go true (Number a x) h = refl
       go false (Number a x) h = refl
+
+  pub adds-other : (earlier : Bool) → OneOf (0 ∷ 2 ∷ []) (tagOf mark-type.the-type m) → earlier ≡ (earlier || adds m)
+  unfolding adds
+  adds-other earlier h = go m h
+    where
+      go : (m : Mark) → OneOf (0 ∷ 2 ∷ []) (tagOf mark-type.the-type m) → earlier ≡ (earlier || adds m)
+      go Nothing h = or-none earlier
+      go (Fact a x) h = absurd (miss (0 ∷ 2 ∷ []) 1 tt h)
+      go (Number a x) h = or-none earlier
+
+  pub adds-fact : {earlier a : Bool} {x : ℕ} → m ≡ Fact a x → earlier ≡ false → a ≡ (earlier || adds m)
+  unfolding adds
+  adds-fact q z = rw (q, z)
 
   module _ (fs : List ℕ) {add a : Bool} {x : ℕ} (q : m ≡ Fact a x) where
     pub fact-added : {gs : List ℕ} → add ≡ true → a ≡ true → gs ≡ set fs x 1 → gs ≡ writeFact add fs m

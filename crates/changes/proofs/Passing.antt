@@ -1,7 +1,7 @@
 -- The ways through the steps of a point: what is left of its effects, with what one step has passed. Assumes nothing.
 use mathlib.Core.Path.{_≡_, refl, sym, ap, _∙_}
 use mathlib.Core.List.{List, [], _∷_, _++_}
-use mathlib.Core.Bool.{Bool, true, false}
+use mathlib.Core.Bool.{Bool, true, false, true≢false, _||_}
 use Prim.Native.Nat.{ℕ, suc, _-_, _≤_, _<_}
 use native.Mathlib.Omega.{arith}
 use lib.IntN.{ℤ}
@@ -25,14 +25,28 @@ use Rattle.marks.specs.Flat.{markedAt, flatAt, marksIn, changeIn, changeBy, cha
 use Rattle.marks.specs.declared.steps.Marked.{Marked}
 use Rattle.marks.proofs.Stepping.{on-marks, on-changes}
 use Rattle.marks.proofs.Searching.{flat-none, no-clash, clash-hit, clash-on}
-use Rattle.changes.specs.Changing.{Room, settleOne, settleAll, writeFact}
+use Rattle.changes.specs.Changing.{Room, settleOne, settleAll, writeFact, adds}
 use Rattle.changes.proofs.Bounds.{room-step}
-use Rattle.changes.proofs.Settling.{settle-append}
+use Rattle.changes.proofs.Settling.{settle-append, some-append, or-assoc}
 
 pub each-append : (f : List ℕ → Mark → List ℕ) (fs : List ℕ) (ms ks : List Mark) → eachMark f fs (ms ++ ks) ≡ eachMark f (eachMark f fs ms) ks
 unfolding eachMark
 each-append f fs [] ks = refl
 each-append f fs (m ∷ ms) ks = each-append f (f fs m) ms ks
+
+-- whether some mark has it: known of those before, then of some more
+pub some-more : (f : Mark → Bool) (any : Bool) (ms ks : List Mark) {more : Bool} → more ≡ (any || some f ms) → (more || some f ks) ≡ (any || some f (ms ++ ks))
+some-more f any ms ks q =
+    ap (λ (t : Bool). t || some f ks) q ∙ sym (or-assoc any (some f ms) (some f ks)) ∙ ap (λ (t : Bool). any || t) (sym (some-append f ms ks))
+
+-- where no effect adds a fact, adding changes nothing
+pub none-added : (fs : List ℕ) (ms : List Mark) → some adds ms ≡ false → eachMark (writeFact true) fs ms ≡ fs
+unfolding eachMark some adds with
+none-added fs [] e = refl
+none-added fs (Nothing ∷ ms) e = none-added fs ms e
+none-added fs (Fact true x ∷ ms) e = absurd (true≢false e)
+none-added fs (Fact false x ∷ ms) e = none-added fs ms e
+none-added fs (Number a x ∷ ms) e = none-added fs ms e
 
 -- ---- one mark, if any
 
@@ -44,6 +58,16 @@ facts-in true fs (Fact a x) = refl
 facts-in false fs (Fact a x) = refl
 facts-in true fs (Number a x) = refl
 facts-in false fs (Number a x) = refl
+
+pub or-none : (t : Bool) → t ≡ (t || false)
+or-none true = refl
+or-none false = refl
+
+adds-in : (m : Mark) → adds m ≡ some adds (marksIn m)
+unfolding some adds
+adds-in Nothing = refl
+adds-in (Fact a x) = or-none a
+adds-in (Number a x) = refl
 
 nothing-leaves : (ns : List ℤ) → leaves ns Nothing ≡ false
 unfolding leaves
@@ -77,6 +101,10 @@ module _ (g : Grounds) (os : List ℕ) (es : List Effect) (e : es ≡ []) where
   pub facts-end : (add : Bool) (fs : List ℕ) → fs ≡ eachMark (writeFact add) fs (marksOf g os es)
   unfolding eachMark
   facts-end add fs = rw e
+
+  pub adds-end : (any : Bool) → any ≡ (any || some adds (marksOf g os es))
+  unfolding some
+  adds-end any = rw e (or-none any)
 
   pub leaves-end : (ns : List ℤ) → false ≡ some (leaves ns) (marksOf g os es)
   leaves-end ns = no-clash (leaves ns) g os es e
@@ -112,6 +140,12 @@ module _ (g : Grounds) (os : List ℕ) (code : List ℕ) (w : When) (part at n :
       ap (λ (l : List ℕ). eachMark (writeFact add) l rest) (q ∙ sym (facts-in add fs (s .mark)))
       ∙ sym (each-append (writeFact add) fs (marksIn (s .mark)) rest)
       ∙ ap (eachMark (writeFact add) fs) (sym marks-step)
+
+  pub adds-turn : (any : Bool) {more : Bool} → more ≡ (any || adds (s .mark))
+      → (more || some adds (marksOf g os (flatAt (n - 1) code w (s .part) (s .next)))) ≡ (any || some adds (marksOf g os (flatAt n code w part at)))
+  adds-turn any q =
+      some-more adds any (marksIn (s .mark)) rest (q ∙ ap (λ (t : Bool). any || t) (adds-in (s .mark)))
+      ∙ ap (λ (ms : List Mark). any || some adds ms) (sym marks-step)
 
   pub settle-turn : (source target into : List ℤ) → into ≡ settleOne source target (s .mark)
       → settleAll source into (marksOf g os (flatAt (n - 1) code w (s .part) (s .next))) ≡ settleAll source target (marksOf g os (flatAt n code w part at))

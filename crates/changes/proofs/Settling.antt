@@ -53,7 +53,7 @@ or-right true true e = e
 or-right true false e = refl
 or-right false t e = e
 
-or-assoc : (s t u : Bool) → (s || (t || u)) ≡ ((s || t) || u)
+pub or-assoc : (s t u : Bool) → (s || (t || u)) ≡ ((s || t) || u)
 or-assoc true t u = refl
 or-assoc false t u = refl
 

@@ -2,7 +2,7 @@
 use mathlib.Core.Path.{_≡_}
 use Prim.Native.Nat.{ℕ, _+_, _*_, _≤_, _<_, _^_}
 use mathlib.Core.List.{List, [], _∷_}
-use mathlib.Core.Bool.{Bool, true, cond}
+use mathlib.Core.Bool.{Bool, true, false, cond}
 use lib.IntN.{ℤ}
 use lib.ListN.{set}
 use lib.Signed.{mag}
@@ -44,3 +44,9 @@ settleAll source target (m ∷ ms) = settleAll source (settleOne source target m
 
 abbrev pub writeFact : Bool → List ℕ → Mark → List ℕ
 writeFact add = cond add with without
+
+-- whether an effect makes a fact true
+unfoldable pub adds : Mark → Bool
+adds Nothing = false
+adds (Fact added x) = added
+adds (Number a x) = false

@@ -3,13 +3,14 @@ use grounds::Who;
 use happenings::Mark;
 use marks::steps;
 ghost use mathlib.Core.Path.{_≡_};
+ghost use mathlib.Core.Bool.{_||_};
 ghost use lib.ListN.{length};
 ghost use Rattle.codes.specs.Decode.{whenOf};
-ghost use Rattle.happenings.specs.Writes.{marksOf};
+ghost use Rattle.happenings.specs.Writes.{some, marksOf};
 ghost use Rattle.happenings.specs.Happening.{eachMark};
 ghost use Rattle.grounds.specs.Grounded.{objectsIn, groundsIn};
 ghost use Rattle.marks.specs.Flat.{flatAt};
-ghost use Rattle.changes.specs.Changing.{writeFact};
+ghost use Rattle.changes.specs.Changing.{writeFact, adds};
 
 fn fact_one(facts: &mut [u8], m: Mark, add: bool)
     ensures { λ _. ⌜ now (facts .exit) ≡ writeFact add (now (facts .entry)) m ⌝ }
@@ -29,7 +30,17 @@ fn fact_one(facts: &mut [u8], m: Mark, add: bool)
     literals::put(facts, x, 0);
 }
 
-// The facts that a point adds (`add`) or deletes.
+// Whether this effect, or an earlier one, adds a fact.
+fn adds_one(earlier: bool, m: Mark) -> bool
+    ensures { λ r. ⌜ r ≡ (earlier || adds m) ⌝ }
+{
+    let Mark::Fact(added, _) = m else {
+        return earlier;
+    };
+    earlier || added
+}
+
+// The facts that a point adds (`add`) or deletes. The answer: whether this point, or an earlier one, adds a fact at all.
 pub fn write_facts<'a>(
     code: &'a [u8],
     firsts: &'a [u16],
@@ -38,21 +49,25 @@ pub fn write_facts<'a>(
     time: usize,
     from: usize,
     add: bool,
-)
-    ensures { λ _. ⌜ now (facts .exit) ≡ eachMark (writeFact add) (now (facts .entry)) (marksOf (groundsIn (now (firsts .entry))) (objectsIn who) (flatAt (length (now (code .entry))) (now (code .entry)) (whenOf time) 0 from)) ⌝ }
+    earlier: bool,
+) -> bool
+    ensures { λ r. ⌜ (now (facts .exit) ≡ eachMark (writeFact add) (now (facts .entry)) (marksOf (groundsIn (now (firsts .entry))) (objectsIn who) (flatAt (length (now (code .entry))) (now (code .entry)) (whenOf time) 0 from))) × (r ≡ (earlier || some adds (marksOf (groundsIn (now (firsts .entry))) (objectsIn who) (flatAt (length (now (code .entry))) (now (code .entry)) (whenOf time) 0 from)))) ⌝ }
 {
     let mut part = 0;
     let mut at = from;
     let mut left = code.len();
+    let mut any = earlier;
     while 0 < left {
         let s = steps::mark_at(code, firsts, who, time, part, at, 0);
         if s.ended {
-            return;
+            return any;
         }
         let m = s.mark;
         fact_one(facts, m, add);
+        any = adds_one(any, m);
         part = s.part;
         at = s.next;
         left -= 1;
     }
+    any
 }

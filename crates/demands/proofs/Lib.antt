@@ -5,6 +5,8 @@ pub mod Storing
 pub mod Session
 pub mod Asking
 pub mod Loaded
+pub mod Short
 pub mod Whole
+pub mod Long
 pub mod Kept
 pub mod Exactly

@@ -1,13 +1,15 @@
 -- Demands 2 and 3: for every domain, problem and list of parts, what load, feed, finish and the questions give is `answer` of the texts and the joined parts.
 -- Assumes nothing.
 use Prim.Native.Nat.{ℕ, _≤_}
-use mathlib.Core.List.{List, [], _∷_}
+use mathlib.Core.List.{List, [], _∷_, _++_}
 use mathlib.Core.Bool.{false}
 use mathlib.Core.Path.{_≡_, refl, sym, ap, subst, _∙_}
+use native.Mathlib.Nat.{zero-add}
+use native.Mathlib.Omega.{arith}
 use borrow.Author.Tests.{le-ltb}
 use lib.IntN.{ℤ}
-use lib.ListN.{length}
-use lib.Seq.{sets}
+use lib.ListN.{length, drop}
+use lib.Seq.{sets, sets-eq}
 use Rattle.grammar.specs.Read.{Read, got, refused}
 use Rattle.grammar.specs.Domain.{Domain, readDomain}
 use Rattle.grammar.specs.Problem.{Problem, readProblem, sumOf}
@@ -36,6 +38,7 @@ use Rattle.demands.proofs.Begun.{feed-same, close-same}
 use Rattle.demands.proofs.Session.{session}
 use Rattle.demands.proofs.Asking.{asked-line, asked-facts, asked-numbers}
 use Rattle.demands.proofs.Loaded as L
+use Rattle.demands.proofs.Short.{answer-short}
 
 -- ---- what is to come does not hang on where the run began
 
@@ -145,6 +148,17 @@ whole-line s t ps line h = by (readDomain s) refl
     by : (x : Read Domain) → readDomain s ≡ x → askedLine (openOf s t .answer) (sessionOf s t ps) line ≡ sets line 0 (answer s t (joined ps) .line)
     by (got d m) e = behind d m e (readProblem t d) refl
     by (refused k q) e = domain-line s t k q ps line h e
+
+-- it stands there whole, and what lies behind it stays
+pub whole-line-first : (s t : List ℕ) (ps : List (List ℕ)) (line : List ℕ) → 64 ≤ length line
+    → askedLine (openOf s t .answer) (sessionOf s t ps) line
+    ≡ answer s t (joined ps) .line ++ drop (length (answer s t (joined ps) .line)) line
+whole-line-first s t ps line h =
+    whole-line s t ps line h
+    ∙ sets-first (answer s t (joined ps) .line) line (omega (arith, answer-short s t (joined ps)))
+  where
+    sets-first : (w out : List ℕ) → length w ≤ length out → sets out 0 w ≡ w ++ drop (length w) out
+    sets-first w out l = sets-eq w out 0 (omega arith) ∙ ap (λ (n : ℕ). w ++ drop n out) (zero-add (length w))
 
 -- ---- the final facts and numbers
 

@@ -3,3 +3,4 @@ pub mod Taking
 pub mod Answering
 pub mod Turning
 pub mod Ending
+pub mod Alike

@@ -21,6 +21,7 @@ use Rattle.plans.specs.Feed.{Feed, reading, byte, feed}
 use Rattle.plans.specs.Promised.{Act}
 use Rattle.plans.specs.Lines.{Known, Refused, reader, limits}
 use Rattle.waiting.specs.Waiting.{waiting}
+use Rattle.waiting.specs.Lent.{queueIn}
 use Rattle.waiting.specs.declared.Queue.{Queue}
 use Rattle.running.specs.Running.{runIn}
 use Rattle.feeding.specs.declared.Progress.{Progress}
@@ -145,10 +146,10 @@ module _ (n : ℕ) (rules : Cond → State → Rules State Act Outcome) (k : Kno
 
 module _ {n : ℕ} {rules : Cond → State → Rules State Act Outcome} {k : Known} where
   -- where the lists and records that a turn leads to have other names
-  pub turn-same : (m : Memory) (b : ℕ) {facts facts′ : List ℕ} {numbers numbers′ fresh fresh′ : List ℤ} {line line′ : List ℕ} {q q′ : Queue} {p p′ : Progress}
-      → facts′ ≡ facts → numbers′ ≡ numbers → fresh′ ≡ fresh → line′ ≡ line → q′ ≡ q → p′ ≡ p
-      → Turn n rules k m b (memory facts numbers fresh line q p) → Turn n rules k m b (memory facts′ numbers′ fresh′ line′ q′ p′)
-  turn-same m b f g h l q p t = rw (f, g, h, l, q, p) t
+  pub turn-same : (m : Memory) (b : ℕ) {facts facts′ : List ℕ} {numbers numbers′ fresh fresh′ : List ℤ} {line line′ words words′ objects objects′ : List ℕ} {count count′ : ℕ} {p p′ : Progress}
+      → facts′ ≡ facts → numbers′ ≡ numbers → fresh′ ≡ fresh → line′ ≡ line → words′ ≡ words → objects′ ≡ objects → count′ ≡ count → p′ ≡ p
+      → Turn n rules k m b (memory facts numbers fresh line (queueIn words objects count) p) → Turn n rules k m b (memory facts′ numbers′ fresh′ line′ (queueIn words′ objects′ count′) p′)
+  turn-same m b f g h l w o q p t = rw (f, g, h, l, w, o, q, p) t
 
   module _ (m : Memory) (b : ℕ) (ready : Ready n m) (unrefused : m .progress .refused ≡ false) where
     pub turn-beyond : 1000000 < m .progress .number

@@ -20,6 +20,12 @@ pub struct Progress {
     pub column: usize,
 }
 
+// How many points wait, in lent numbers, and what else is kept.
+pub struct Went {
+    pub count: usize,
+    pub progress: Progress,
+}
+
 pub struct Taken {
     pub queue: Queue,
     pub progress: Progress,

@@ -1,6 +1,6 @@
-// A line that has ended, and the plan's end.
+// A line that has ended, and the plan's end. The points that wait are the first `count` in `words` and `objects`; points, whos, lines and others are lent to be written in.
 use crate::Progress;
-use crate::Taken;
+use crate::Went;
 use lines::steps;
 use plans::Line;
 use plans::Step;
@@ -8,6 +8,7 @@ use running::Past;
 use terms::scope::Counts;
 use text::runs;
 use waiting::Queue;
+use waiting::lent;
 ghost use mathlib.Core.Path.{_≡_};
 ghost use mathlib.Core.Bool.{true, false};
 ghost use Prim.Native.Nat.{ℕ, _≤_, _<_, max};
@@ -25,6 +26,7 @@ ghost use Rattle.plans.specs.Feed.{reading, close};
 ghost use Rattle.plans.specs.Stored.{stepIn};
 ghost use Rattle.plans.specs.Lines.{reader, limits};
 ghost use Rattle.waiting.specs.Waiting.{waiting, soundStep, Sound, Timed};
+ghost use Rattle.waiting.specs.Lent.{queueIn};
 ghost use Rattle.running.specs.Running.{runIn, rulesIn};
 ghost use Rattle.lines.specs.Knowing.{Tabled, Headed, knownIn};
 ghost use Rattle.feeding.specs.Feeding.{refusedIn, checkIn, closedIn, refusing, going, Fit};
@@ -70,12 +72,18 @@ fn take_step<'a>(
     facts: &mut [u8],
     numbers: &mut [i64],
     fresh: &mut [i64],
-    queue: Queue,
+    words: &mut [usize; 384],
+    objects: &mut [u8; 256],
+    count: usize,
     p: Progress,
     x: Step,
-) -> Taken
-    requires { ⌜ Timed queue × (p .refused ≡ false) × (x .line ≡ p .number) × (x .start < 1000000000000) × (x .width ≤ 257) × (length (now code) ≤ 32768) × (now fresh ≡ now numbers) ⌝ }
-    ensures { λ r. ⌜ ((c : Cond) (es : Table) (s : State) → Sound (length es) queue → length es ≤ 32 → checkIn (stateIn (now (facts .exit)) (now (numbers .exit))) (r .queue) (r .progress) ≡ drained (rulesIn (now (code .entry)) (now (starts .entry)) (now (firsts .entry)) c es s) limits (stepIn x) (drain (rulesIn (now (code .entry)) (now (starts .entry)) (now (firsts .entry)) c es s) (length (waiting queue)) (x .start) (runIn (p .past) (stateIn (now (facts .entry)) (now (numbers .entry)))) (waiting queue))) × ((n : ℕ) → Sound n queue → soundStep n x ≡ true → Sound n (r .queue)) × (r .progress .used ≡ p .used) × (r .progress .number ≡ p .number) × ((m : ℕ) → p .start < m → x .start < m → r .progress .start < m) × (now (fresh .exit) ≡ now (numbers .exit)) ⌝ }
+    points: &mut [usize; 256],
+    whos: &mut [u8; 256],
+    lines: &mut [usize; 256],
+    others: &mut [u8; 256],
+) -> Went
+    requires { ⌜ Timed (queueIn (now words) (now objects) count) × (p .refused ≡ false) × (x .line ≡ p .number) × (x .start < 1000000000000) × (x .width ≤ 257) × (length (now code) ≤ 32768) × (now fresh ≡ now numbers) ⌝ }
+    ensures { λ r. ⌜ ((c : Cond) (es : Table) (s : State) → Sound (length es) (queueIn (now (words .entry)) (now (objects .entry)) count) → length es ≤ 32 → checkIn (stateIn (now (facts .exit)) (now (numbers .exit))) (queueIn (now (words .exit)) (now (objects .exit)) (r .count)) (r .progress) ≡ drained (rulesIn (now (code .entry)) (now (starts .entry)) (now (firsts .entry)) c es s) limits (stepIn x) (drain (rulesIn (now (code .entry)) (now (starts .entry)) (now (firsts .entry)) c es s) (length (waiting (queueIn (now (words .entry)) (now (objects .entry)) count))) (x .start) (runIn (p .past) (stateIn (now (facts .entry)) (now (numbers .entry)))) (waiting (queueIn (now (words .entry)) (now (objects .entry)) count)))) × ((n : ℕ) → Sound n (queueIn (now (words .entry)) (now (objects .entry)) count) → soundStep n x ≡ true → Sound n (queueIn (now (words .exit)) (now (objects .exit)) (r .count))) × (r .progress .used ≡ p .used) × (r .progress .number ≡ p .number) × ((m : ℕ) → p .start < m → x .start < m → r .progress .start < m) × (now (fresh .exit) ≡ now (numbers .exit)) ⌝ }
 {
     let d = running::drain_below(
         code,
@@ -84,19 +92,25 @@ fn take_step<'a>(
         facts,
         numbers,
         fresh,
-        queue,
+        words,
+        objects,
+        count,
         x.start,
         p.past,
+        points,
+        whos,
+        lines,
+        others,
     );
-    let q = d.queue;
-    if 64 < q.count + waiting::points_of(x) {
-        return Taken {
-            queue: q,
+    let n = d.count;
+    if 64 < n + waiting::points_of(x) {
+        return Went {
+            count: n,
             progress: refuse(p, 18, x.width + 1),
         };
     }
-    Taken {
-        queue: waiting::enter(q, x),
+    Went {
+        count: lent::enter(words, objects, n, x),
         progress: begun(p, x.start, d.past),
     }
 }
@@ -114,11 +128,17 @@ pub fn take_line<'a>(
     numbers: &mut [i64],
     fresh: &mut [i64],
     line: &'a [u8],
-    queue: Queue,
+    words: &mut [usize; 384],
+    objects: &mut [u8; 256],
+    count: usize,
     p: Progress,
-) -> Taken
-    requires { ⌜ Tabled (now tables) counts × Headed (now heads) acting × Fit acting queue p × (p .refused ≡ false) × (length (now line) ≡ 257) × (length (now code) ≤ 32768) × (now fresh ≡ now numbers) ⌝ }
-    ensures { λ r. ⌜ ((c : Cond) (s : State) → checkIn (stateIn (now (facts .exit)) (now (numbers .exit))) (r .queue) (r .progress) ≡ M.take (rulesIn (now (code .entry)) (now (starts .entry)) (now (firsts .entry)) c (signedIn (now (heads .entry)) acting) s) limits (checkIn (stateIn (now (facts .entry)) (now (numbers .entry))) queue p) (reader (knownIn (now (tables .entry)) counts (now (heads .entry)) acting (now (code .entry)) (now (starts .entry))) .line (p .number) (p .start) (take (p .used) (now (line .entry))))) × Fit acting (r .queue) (r .progress) × (r .progress .number ≡ p .number) × (now (fresh .exit) ≡ now (numbers .exit)) ⌝ }
+    points: &mut [usize; 256],
+    whos: &mut [u8; 256],
+    lines: &mut [usize; 256],
+    others: &mut [u8; 256],
+) -> Went
+    requires { ⌜ Tabled (now tables) counts × Headed (now heads) acting × Fit acting (queueIn (now words) (now objects) count) p × (p .refused ≡ false) × (length (now line) ≡ 257) × (length (now code) ≤ 32768) × (now fresh ≡ now numbers) ⌝ }
+    ensures { λ r. ⌜ ((c : Cond) (s : State) → checkIn (stateIn (now (facts .exit)) (now (numbers .exit))) (queueIn (now (words .exit)) (now (objects .exit)) (r .count)) (r .progress) ≡ M.take (rulesIn (now (code .entry)) (now (starts .entry)) (now (firsts .entry)) c (signedIn (now (heads .entry)) acting) s) limits (checkIn (stateIn (now (facts .entry)) (now (numbers .entry))) (queueIn (now (words .entry)) (now (objects .entry)) count) p) (reader (knownIn (now (tables .entry)) counts (now (heads .entry)) acting (now (code .entry)) (now (starts .entry))) .line (p .number) (p .start) (take (p .used) (now (line .entry))))) × Fit acting (queueIn (now (words .exit)) (now (objects .exit)) (r .count)) (r .progress) × (r .progress .number ≡ p .number) × (now (fresh .exit) ≡ now (numbers .exit)) ⌝ }
 {
     let text = runs::part_of(line, 0, p.used);
     let l = steps::line_at(
@@ -133,12 +153,28 @@ pub fn take_line<'a>(
         p.start,
     );
     match l {
-        Line::Blank => Taken { queue, progress: p },
-        Line::Refused(k, place) => Taken {
-            queue,
+        Line::Blank => Went { count, progress: p },
+        Line::Refused(k, place) => Went {
+            count,
             progress: refuse(p, k, place + 1),
         },
-        Line::Read(x) => take_step(code, starts, firsts, facts, numbers, fresh, queue, p, x),
+        Line::Read(x) => take_step(
+            code,
+            starts,
+            firsts,
+            facts,
+            numbers,
+            fresh,
+            words,
+            objects,
+            count,
+            p,
+            x,
+            points,
+            whos,
+            lines,
+            others,
+        ),
     }
 }
 
@@ -192,13 +228,19 @@ fn end_run<'a>(
     facts: &mut [u8],
     numbers: &mut [i64],
     fresh: &mut [i64],
-    queue: Queue,
+    words: &mut [usize; 384],
+    objects: &mut [u8; 256],
+    count: usize,
     p: Progress,
+    points: &mut [usize; 256],
+    whos: &mut [u8; 256],
+    lines: &mut [usize; 256],
+    others: &mut [u8; 256],
 ) -> Past
-    requires { ⌜ Timed queue × (p .start < 1000000000000) × (length (now code) ≤ 32768) × (now fresh ≡ now numbers) ⌝ }
-    ensures { λ r. ⌜ ((es : Table) (s : State) → Sound (length es) queue → length es ≤ 32 → P.ended (runIn r (stateIn (now (facts .exit)) (now (numbers .exit)))) ≡ finish (rulesIn (now (code .entry)) (now (starts .entry)) (now (firsts .entry)) (conditionAt (now (goal .entry)) 0 .tree) es s) limits (waits (runIn (p .past) (stateIn (now (facts .entry)) (now (numbers .entry)))) (p .start) (waiting queue))) ⌝ }
+    requires { ⌜ Timed (queueIn (now words) (now objects) count) × (p .start < 1000000000000) × (length (now code) ≤ 32768) × (now fresh ≡ now numbers) ⌝ }
+    ensures { λ r. ⌜ ((es : Table) (s : State) → Sound (length es) (queueIn (now (words .entry)) (now (objects .entry)) count) → length es ≤ 32 → P.ended (runIn r (stateIn (now (facts .exit)) (now (numbers .exit)))) ≡ finish (rulesIn (now (code .entry)) (now (starts .entry)) (now (firsts .entry)) (conditionAt (now (goal .entry)) 0 .tree) es s) limits (waits (runIn (p .past) (stateIn (now (facts .entry)) (now (numbers .entry)))) (p .start) (waiting (queueIn (now (words .entry)) (now (objects .entry)) count)))) ⌝ }
 {
-    let b = 1 + higher(p.start, waiting::latest_of(queue));
+    let b = 1 + higher(p.start, lent::last(words, count));
     let d = running::drain_below(
         code,
         starts,
@@ -206,9 +248,15 @@ fn end_run<'a>(
         facts,
         numbers,
         fresh,
-        queue,
+        words,
+        objects,
+        count,
         b,
         p.past,
+        points,
+        whos,
+        lines,
+        others,
     );
     running::judge(goal, firsts, facts, numbers, d.past)
 }
@@ -233,6 +281,13 @@ pub fn end_plan<'a>(
     requires { ⌜ Tabled (now tables) counts × Headed (now heads) acting × Fit acting queue p × (p .refused ≡ false) × (length (now line) ≡ 257) × (length (now code) ≤ 32768) × (now fresh ≡ now numbers) ⌝ }
     ensures { λ r. ⌜ ((s : State) → closedIn (stateIn (now (facts .exit)) (now (numbers .exit))) r ≡ close (rulesIn (now (code .entry)) (now (starts .entry)) (now (firsts .entry)) (conditionAt (now (goal .entry)) 0 .tree) (signedIn (now (heads .entry)) acting) s) limits (reader (knownIn (now (tables .entry)) counts (now (heads .entry)) acting (now (code .entry)) (now (starts .entry)))) (reading (checkIn (stateIn (now (facts .entry)) (now (numbers .entry))) queue p) (p .number) (take (p .used) (now (line .entry))))) ⌝ }
 {
+    let mut words = [0usize; 384];
+    let mut objects = [0u8; 256];
+    let mut points = [0usize; 256];
+    let mut whos = [0u8; 256];
+    let mut lines = [0usize; 256];
+    let mut others = [0u8; 256];
+    lent::lend(queue, &mut words, &mut objects);
     let t = take_line(
         tables,
         counts,
@@ -245,8 +300,14 @@ pub fn end_plan<'a>(
         numbers,
         fresh,
         line,
-        queue,
+        &mut words,
+        &mut objects,
+        queue.count,
         p,
+        &mut points,
+        &mut whos,
+        &mut lines,
+        &mut others,
     );
     let last = t.progress;
     let refused = last.refused;
@@ -261,8 +322,14 @@ pub fn end_plan<'a>(
         facts,
         numbers,
         fresh,
-        t.queue,
+        &mut words,
+        &mut objects,
+        t.count,
         last,
+        &mut points,
+        &mut whos,
+        &mut lines,
+        &mut others,
     );
     begun(last, last.start, past)
 }

@@ -1,7 +1,7 @@
 -- Step 4 over the points from number j on: what is left leads to the whole. Assumes nothing.
 use mathlib.Core.Path.{_≡_, refl, sym, ap, _∙_}
 use mathlib.Core.List.{List, [], _∷_, _++_}
-use mathlib.Core.Bool.{Bool, true, false}
+use mathlib.Core.Bool.{Bool, true, false, _||_}
 use Prim.Native.Nat.{ℕ, _+_, _-_, _*_, _≤_, _<_}
 use native.Mathlib.Omega.{arith}
 use lib.IntN.{ℤ}
@@ -10,7 +10,7 @@ use Rattle.codes.specs.Decode.{whenOf}
 use Rattle.grammar.specs.Effects.{Effect}
 use Rattle.happenings.specs.State.{Grounds}
 use Rattle.happenings.specs.Writes.{some, marksOf}
-use Rattle.happenings.specs.Happening.{Point, unless, each, Made, made, changeAll, changePoints, leaves, stays, eachMark, allMarks, effectsOf, marks}
+use Rattle.happenings.specs.Happening.{Point, unless, each, Made, made, changeAll, changePoints, leaves, stays, eachMark, allMarks, newFacts, effectsOf, marks}
 use Rattle.happenings.specs.declared.Mark.{Mark}
 use Rattle.happenings.specs.declared.Outcome.{Outcome}
 use Rattle.happenings.specs.declared.Outcome.the-variants.{Done, Range}
@@ -18,9 +18,9 @@ use Rattle.happenings.proofs.Failing.{Fails, fails}
 use Rattle.grounds.specs.Grounded.{objectsIn}
 use Rattle.marks.specs.Flat.{flatAt}
 use Rattle.marks.proofs.Flatness.{flat-length, flat-parts}
-use Rattle.changes.specs.Changing.{Room, settleAll}
+use Rattle.changes.specs.Changing.{Room, settleAll, writeFact, adds}
 use Rattle.changes.proofs.Bounds.{room-start, room-less, room-all}
-use Rattle.changes.proofs.Passing.{each-append}
+use Rattle.changes.proofs.Passing.{each-append, or-none, some-more, none-added}
 use Rattle.changes.proofs.Settling.{settle-append}
 use Rattle.points.specs.Placed.{pointIn}
 use Rattle.points.specs.declared.tests.Placed.{Placed}
@@ -91,6 +91,10 @@ module _ (g : Grounds) (code ss ps os : List ℕ) (n j : ℕ) where
     unfolding eachMark
     write-end f fs = rw (marks-end g (points-end code ss ps os n j z))
 
+    pub adds-end : (any : Bool) → any ≡ (any || some adds (allMarks g (pointsIn code ss ps os (n - j) j)))
+    unfolding some
+    adds-end any = rw (marks-end g (points-end code ss ps os n j z)) (or-none any)
+
     pub settle-end : (a b : List ℤ) → b ≡ settleAll a b (allMarks g (pointsIn code ss ps os (n - j) j))
     settle-end a b = settle-none a b ∙ ap (settleAll a b) (sym (marks-end g (points-end code ss ps os n j z)))
 
@@ -122,9 +126,24 @@ module _ (g : Grounds) (code ss ps os : List ℕ) (n j : ℕ) where
         ∙ sym (each-append f fs (marksAt g code p) (allMarks g (pointsIn code ss ps os (n - (j + 1)) (j + 1))))
         ∙ ap (eachMark f fs) (sym (marks-step g code p (points-step code ss ps os n j h ep)))
 
+    pub adds-turn : (any : Bool) {more : Bool} → more ≡ (any || some adds (marksAt g code p))
+        → (more || some adds (allMarks g (pointsIn code ss ps os (n - (j + 1)) (j + 1)))) ≡ (any || some adds (allMarks g (pointsIn code ss ps os (n - j) j)))
+    adds-turn any q =
+        some-more adds any (marksAt g code p) (allMarks g (pointsIn code ss ps os (n - (j + 1)) (j + 1))) q
+        ∙ ap (λ ms. any || some adds ms) (sym (marks-step g code p (points-step code ss ps os n j h ep)))
+
     pub settle-turn : (a b : List ℤ) {d : List ℤ} → d ≡ settleAll a b (marksAt g code p)
         → settleAll a d (allMarks g (pointsIn code ss ps os (n - (j + 1)) (j + 1))) ≡ settleAll a b (allMarks g (pointsIn code ss ps os (n - j) j))
     settle-turn a b e =
         ap (λ x. settleAll a x (allMarks g (pointsIn code ss ps os (n - (j + 1)) (j + 1)))) e
         ∙ sym (settle-append a b (marksAt g code p) (allMarks g (pointsIn code ss ps os (n - (j + 1)) (j + 1))))
         ∙ ap (settleAll a b) (sym (marks-step g code p (points-step code ss ps os n j h ep)))
+
+-- ---- the facts: a second time through the points, or none if no effect adds a fact
+
+module _ (g : Grounds) (fs : List ℕ) (ps : List Point) {gs : List ℕ} (e : gs ≡ eachMark (writeFact false) fs (allMarks g ps)) where
+  pub facts-twice : {hs : List ℕ} → hs ≡ eachMark (writeFact true) gs (allMarks g ps) → hs ≡ newFacts g fs ps
+  facts-twice q = q ∙ ap (λ x. eachMark (writeFact true) x (allMarks g ps)) e
+
+  pub facts-once : {any : Bool} → any ≡ some adds (allMarks g ps) → any ≡ false → gs ≡ newFacts g fs ps
+  facts-once q z = sym (none-added gs (allMarks g ps) (sym q ∙ z)) ∙ ap (λ x. eachMark (writeFact true) x (allMarks g ps)) e

@@ -6,11 +6,11 @@ use Prim.Native.Nat.{ℕ}
 use lib.IntN.{ℤ}
 use Rattle.judgement.specs.Judged.{stateIn}
 use Rattle.happenings.specs.State.{State, Grounds}
-use Rattle.happenings.specs.Happening.{Point, Step, each, made, changePoints, stays, eachMark, allMarks, Happened, happened, onDone, allowed, happening, spanning}
+use Rattle.happenings.specs.Happening.{Point, Step, each, made, changePoints, stays, allMarks, newFacts, Happened, happened, onDone, allowed, happening, spanning}
 use Rattle.happenings.specs.declared.Outcome.{Outcome}
 use Rattle.happenings.specs.declared.Outcome.the-variants.{Done}
 use Rattle.happenings.proofs.Failing.{Fails, fails, unless-done, unless-fails}
-use Rattle.changes.specs.Changing.{settleAll, writeFact}
+use Rattle.changes.specs.Changing.{settleAll}
 use Rattle.changes.proofs.Settling.{settled-old, settled-new}
 use Rattle.instants.specs.Given.{instantOf}
 
@@ -42,10 +42,9 @@ module _ (g : Grounds) (fs : List ℕ) (ns fr : List ℤ) (ps : List Point) (sam
       unfolding happening
       happen-leaves f ek = (rw (← eo, d, ← changed, ← es, ← unless-done s dc) (kept s f (stateIn fs ns) _), back ek)
 
-      pub happen-done : s ≡ Done → {gs hs : List ℕ} {k : List ℤ} → gs ≡ eachMark (writeFact false) fs (allMarks g ps) → hs ≡ eachMark (writeFact true) gs (allMarks g ps)
-          → k ≡ settleAll ms ns (allMarks g ps) → (happened Done (stateIn hs k) ≡ happening g (stateIn fs ns) ps) × (ms ≡ k)
+      pub happen-done : s ≡ Done → {hs : List ℕ} {k : List ℤ} → hs ≡ newFacts g fs ps → k ≡ settleAll ms ns (allMarks g ps) → (happened Done (stateIn hs k) ≡ happening g (stateIn fs ns) ps) × (ms ≡ k)
       unfolding happening
-      happen-done ds eg eh ek = (rw (← eo, d, ← changed, ← es, ← unless-done s dc, ds, eh, eg, ← forth ek), forth ek)
+      happen-done ds eh ek = (rw (← eo, d, ← changed, ← es, ← unless-done s dc, ds, eh, ← forth ek), forth ek)
 
 -- ---- with the conditions that span it
 

@@ -6,9 +6,10 @@ use happenings::Outcome;
 ghost use mathlib.Core.Path.{_≡_};
 ghost use Prim.Native.Nat.{_≤_};
 ghost use lib.ListN.{length};
-ghost use Rattle.happenings.specs.Happening.{made, changePoints, each, stays, eachMark, allMarks};
+ghost use Rattle.happenings.specs.Happening.{made, changePoints, each, stays, eachMark, allMarks, newFacts};
+ghost use Rattle.happenings.specs.Writes.{some};
 ghost use Rattle.grounds.specs.Grounded.{groundsIn};
-ghost use Rattle.changes.specs.Changing.{settleAll, writeFact};
+ghost use Rattle.changes.specs.Changing.{settleAll, writeFact, adds};
 ghost use Rattle.instants.specs.Given.{pointsIn};
 
 // The new numbers into `fresh`, which holds the old ones.
@@ -63,8 +64,8 @@ pub fn stay_all<'a>(
     Outcome::Done
 }
 
-// What all points delete, or add.
-pub fn write_points<'a>(
+// What all points delete, or add. The answer: whether one of them adds a fact at all.
+fn write_points<'a>(
     code: &'a [u8],
     starts: &'a [usize],
     firsts: &'a [u16],
@@ -73,16 +74,37 @@ pub fn write_points<'a>(
     objects: &'a [u8],
     n: usize,
     add: bool,
-)
+) -> bool
     requires { ⌜ n ≤ 64 ⌝ }
-    ensures { λ _. ⌜ now (facts .exit) ≡ eachMark (writeFact add) (now (facts .entry)) (allMarks (groundsIn (now (firsts .entry))) (pointsIn (now (code .entry)) (now (starts .entry)) (now (points .entry)) (now (objects .entry)) n 0)) ⌝ }
+    ensures { λ r. ⌜ (now (facts .exit) ≡ eachMark (writeFact add) (now (facts .entry)) (allMarks (groundsIn (now (firsts .entry))) (pointsIn (now (code .entry)) (now (starts .entry)) (now (points .entry)) (now (objects .entry)) n 0))) × (r ≡ some adds (allMarks (groundsIn (now (firsts .entry))) (pointsIn (now (code .entry)) (now (starts .entry)) (now (points .entry)) (now (objects .entry)) n 0))) ⌝ }
 {
+    let mut any = false;
     let mut j = 0;
     while j < n {
         let p = pointing::point_at(starts, points, objects, j);
         let who = p.who;
-        facts::write_facts(code, firsts, facts, who, p.time, p.effect, add);
+        any = facts::write_facts(code, firsts, facts, who, p.time, p.effect, add, any);
         j += 1;
+    }
+    any
+}
+
+// "(old without deleted) with added". Most happenings add no fact: the points are gone through again only if one does.
+pub fn renew_facts<'a>(
+    code: &'a [u8],
+    starts: &'a [usize],
+    firsts: &'a [u16],
+    facts: &mut [u8],
+    points: &'a [usize],
+    objects: &'a [u8],
+    n: usize,
+)
+    requires { ⌜ n ≤ 64 ⌝ }
+    ensures { λ _. ⌜ now (facts .exit) ≡ newFacts (groundsIn (now (firsts .entry))) (now (facts .entry)) (pointsIn (now (code .entry)) (now (starts .entry)) (now (points .entry)) (now (objects .entry)) n 0) ⌝ }
+{
+    let more = write_points(code, starts, firsts, facts, points, objects, n, false);
+    if more {
+        write_points(code, starts, firsts, facts, points, objects, n, true);
     }
 }
 

@@ -5,13 +5,16 @@ use judgement::truths;
 use points::interference;
 use points::tests;
 use points::tests::Placed;
+use signatures::Signature;
 ghost use mathlib.Core.Path.{_≡_};
-ghost use Prim.Native.Nat.{_-_, _≤_};
+ghost use Prim.Native.Nat.{_+_, _-_, _≤_, _<_};
+ghost use lib.ListN.{length};
 ghost use Rattle.judgement.specs.Judged.{stateIn};
 ghost use Rattle.happenings.specs.Happening.{each, tested, apart, clear, pairs, allowed, spans, spanning};
 ghost use Rattle.grounds.specs.Grounded.{groundsIn};
 ghost use Rattle.points.specs.Placed.{pointIn, stepIn};
-ghost use Rattle.instants.specs.Given.{pointsIn, stepsIn};
+ghost use Rattle.instants.specs.Given.{placedIn, pointsIn, stepsIn};
+ghost use Rattle.instants.specs.Signing.{signatureIn, SignedTo};
 
 // Step 1, point by point.
 fn test_all<'a>(
@@ -63,7 +66,45 @@ fn apart_all<'a>(
     Outcome::Done
 }
 
-// A point and those from j on.
+// The signature of point j, as it is kept.
+fn signature_at(signs: &[u64; 192], j: usize) -> Signature
+    requires { ⌜ j < 64 ⌝ }
+    ensures { λ r. ⌜ r ≡ signatureIn (now (signs .entry)) j ⌝ }
+{
+    let i = 3 * j;
+    Signature {
+        reads: signs[i],
+        one: signs[i + 1],
+        other: signs[i + 2],
+    }
+}
+
+// The signatures of all points.
+fn sign_all<'a>(
+    code: &'a [u8],
+    starts: &'a [usize],
+    firsts: &'a [u16],
+    points: &'a [usize],
+    objects: &'a [u8],
+    n: usize,
+    signs: &mut [u64; 192],
+)
+    requires { ⌜ (n ≤ 64) × (length (now signs) ≡ 192) ⌝ }
+    ensures { λ _. ⌜ SignedTo (groundsIn (now (firsts .entry))) (now (code .entry)) (now (starts .entry)) (now (points .entry)) (now (objects .entry)) n (now (signs .exit)) ⌝ }
+{
+    let mut j = 0;
+    while j < n {
+        let p = pointing::point_at(starts, points, objects, j);
+        let s = signatures::sign(code, firsts, p);
+        let i = 3 * j;
+        signs[i] = s.reads;
+        signs[i + 1] = s.one;
+        signs[i + 2] = s.other;
+        j += 1;
+    }
+}
+
+// Point i and those behind it: points whose signatures don't meet are clear of each other.
 fn clear_all<'a>(
     code: &'a [u8],
     starts: &'a [usize],
@@ -71,25 +112,29 @@ fn clear_all<'a>(
     points: &'a [usize],
     objects: &'a [u8],
     n: usize,
-    p: Placed,
-    from: usize,
+    i: usize,
+    signs: &'a [u64; 192],
 ) -> Outcome
-    requires { ⌜ (n ≤ 64) × (from ≤ n) ⌝ }
-    ensures { λ r. ⌜ r ≡ each (clear (groundsIn (now (firsts .entry))) (pointIn (now (code .entry)) p)) (pointsIn (now (code .entry)) (now (starts .entry)) (now (points .entry)) (now (objects .entry)) (n - from) from) ⌝ }
+    requires { ⌜ (n ≤ 64) × (i < n) × SignedTo (groundsIn (now firsts)) (now code) (now starts) (now points) (now objects) n (now signs) ⌝ }
+    ensures { λ r. ⌜ r ≡ each (clear (groundsIn (now (firsts .entry))) (pointIn (now (code .entry)) (placedIn (now (starts .entry)) (now (points .entry)) (now (objects .entry)) i))) (pointsIn (now (code .entry)) (now (starts .entry)) (now (points .entry)) (now (objects .entry)) (n - (i + 1)) (i + 1)) ⌝ }
 {
-    let mut j = from;
+    let s = signature_at(signs, i);
+    let mut j = i + 1;
     while j < n {
-        let q = pointing::point_at(starts, points, objects, j);
-        let o = interference::keep_clear(code, firsts, p, q);
-        let Outcome::Done = o else {
-            return o;
-        };
+        if signatures::meet(s, signature_at(signs, j)) {
+            let p = pointing::point_at(starts, points, objects, i);
+            let q = pointing::point_at(starts, points, objects, j);
+            let o = interference::keep_clear(code, firsts, p, q);
+            let Outcome::Done = o else {
+                return o;
+            };
+        }
         j += 1;
     }
     Outcome::Done
 }
 
-// Step 3: "Per pair, ordered by the lower line, then the higher".
+// Step 3: "Per pair, ordered by the lower line, then the higher". An instant of one point, the common case, pays nothing for signatures.
 fn clear_pairs<'a>(
     code: &'a [u8],
     starts: &'a [usize],
@@ -101,14 +146,18 @@ fn clear_pairs<'a>(
     requires { ⌜ n ≤ 64 ⌝ }
     ensures { λ r. ⌜ r ≡ pairs (groundsIn (now (firsts .entry))) (pointsIn (now (code .entry)) (now (starts .entry)) (now (points .entry)) (now (objects .entry)) n 0) ⌝ }
 {
-    let mut j = 0;
-    while j < n {
-        let p = pointing::point_at(starts, points, objects, j);
-        let o = clear_all(code, starts, firsts, points, objects, n, p, j + 1);
+    if n < 2 {
+        return Outcome::Done;
+    }
+    let mut signs = [0u64; 192];
+    sign_all(code, starts, firsts, points, objects, n, &mut signs);
+    let mut i = 0;
+    while i < n {
+        let o = clear_all(code, starts, firsts, points, objects, n, i, &signs);
         let Outcome::Done = o else {
             return o;
         };
-        j += 1;
+        i += 1;
     }
     Outcome::Done
 }

@@ -45,8 +45,7 @@ pub fn happen<'a>(
         applying::settle_points(code, starts, firsts, numbers, fresh, points, objects, n);
         return s;
     };
-    applying::write_points(code, starts, firsts, facts, points, objects, n, false);
-    applying::write_points(code, starts, firsts, facts, points, objects, n, true);
+    applying::renew_facts(code, starts, firsts, facts, points, objects, n);
     applying::settle_points(code, starts, firsts, fresh, numbers, points, objects, n);
     Outcome::Done
 }

@@ -1,17 +1,12 @@
--- `andThen` has `Holds` as its unit and is associative; a part's truth counts at its time only.
+-- `andThen` has `Holds` as its unit and is associative.
 use mathlib.Core.Path.{_≡_, refl}
 use mathlib.Core.List.{[], _∷_}
-use Prim.Native.Nat.{ℕ}
 use types.Run.{OneOf, miss}
 use denote.Enum.Declared.{tagOf}
-use borrow.Author.Tests.{eq-eqb, ne-eqb}
-use Rattle.grammar.specs.Actions.{When}
 use Rattle.happenings.specs.Truths.{andThen}
-use Rattle.happenings.specs.Happening.{order}
 use Rattle.happenings.specs.declared.Truth.{Truth}
 use Rattle.happenings.specs.declared.Truth.the-variants.{Holds, Fails, Undefined, Range}
 use Rattle.happenings.proofs.Truth as truth-type
-use Rattle.judgement.specs.Judged.{ofPart}
 
 pub holds-then : (t : Truth) → andThen Holds t ≡ t
 unfolding andThen
@@ -42,12 +37,3 @@ decided Range b h = refl
 pub undecided : (a b : Truth) → a ≡ Holds → b ≡ andThen a b
 unfolding andThen
 undecided a b h = rw h
-
-module _ (v w : When) {m n : ℕ} (a : m ≡ order v) (b : n ≡ order w) (so t : Truth) where
-  pub part-counts : m ≡ n → {r : Truth} → r ≡ andThen so t → r ≡ ofPart v w so t
-  unfolding ofPart
-  part-counts h r = rw (← a, ← b, eq-eqb m n h) r
-
-  pub part-other : (m ≡ n → ⊥) → so ≡ ofPart v w so t
-  unfolding ofPart
-  part-other h = rw (← a, ← b, ne-eqb m n h)

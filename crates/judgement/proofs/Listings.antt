@@ -1,22 +1,23 @@
 -- Conditions with parts: the ways through the definition of one at a place, of the list in an `and`, and of the parts for a time.
 -- The loops keep that what is left leads to the whole.
 use mathlib.Core.Path.{_≡_, refl, sym, _∙_}
-use mathlib.Core.List.{List, [], _∷_}
-use mathlib.Core.Bool.{Bool, true, false, cond}
+use mathlib.Core.List.{List, []}
 use Prim.Native.Nat.{ℕ, zero, suc, _+_, _-_, _≤_, _<_}
 use native.Mathlib.Omega.{arith}
 use lib.ListN.{length}
 use borrow.Author.Tests.{lt-ltb, le-ltb, ne-eqb}
-use Rattle.grammar.specs.Conditions.{Cond, none, cons}
-use Rattle.grammar.specs.Actions.{When, Timed}
+use Rattle.grammar.specs.Conditions.{Cond, none}
+use Rattle.grammar.specs.Actions.{When}
 use Rattle.rows.specs.Held.{byteAt}
-use Rattle.codes.specs.Decode.{Decoded, decoded, timed, singleAt, condsAt, condNode, condAt, partsAt, whenOf}
+use Rattle.codes.specs.Decode.{Decoded, decoded, singleAt, condsAt, condNode, condAt, partsAt, whenOf}
 use Rattle.happenings.specs.State.{State, Grounds}
 use Rattle.happenings.specs.Truths.{truthOf, truthsOf, holdAll, andThen}
-use Rattle.happenings.specs.Happening.{sameTime, partsFor}
+use Rattle.happenings.specs.Happening.{order, partsFor}
 use Rattle.happenings.specs.declared.Truth.{Truth}
 use Rattle.happenings.specs.declared.Truth.the-variants.{Holds}
-use Rattle.judgement.specs.Judged.{judgedOf, listedOf, ofPart}
+use Rattle.evaluation.proofs.Groups.{conds-spent, conds-out, conds-last, conds-step}
+use Rattle.evaluation.proofs.Parts.{parts-spent, parts-out, parts-last, parts-counted, parts-passed}
+use Rattle.judgement.specs.Judged.{judgedOf, listedOf}
 use Rattle.judgement.specs.declared.facts.Judged.{Judged}
 use Rattle.judgement.proofs.Joined.{holds-then, then-holds, then-assoc}
 
@@ -42,27 +43,6 @@ module _ (g : Grounds) (s : State) (os : List ℕ) (code : List ℕ) (at : ℕ) 
     cond-single h r = let k : d ≡ suc (d - 1) = omega arith in rw (k, lt-ltb at (length code) l, ← e, ne-eqb tag 1 h) r
 
 -- ---- the conditions of an `and`
-
-module _ (f : ℕ → Decoded Cond) (code : List ℕ) (i : ℕ) where
-  conds-spent : (left : ℕ) → left ≡ 0 → condsAt f left code i ≡ decoded none i
-  unfolding condsAt
-  conds-spent left h = rw h
-
-  conds-out : (left : ℕ) → length code ≤ i → condsAt f left code i ≡ decoded none i
-  unfolding condsAt
-  conds-out zero h = refl
-  conds-out (suc n) h = simp (le-ltb i (length code) h)
-
-  conds-last : (left : ℕ) {tag : ℕ} → 0 < left → i < length code → tag ≡ byteAt code i → tag ≡ 0 → condsAt f left code i ≡ decoded none (i + 1)
-  unfolding condsAt
-  conds-last zero k h g z = absurd (omega arith)
-  conds-last (suc n) k h g z = simp (lt-ltb i (length code) h, ← g, z)
-
-  conds-step : (left : ℕ) {tag : ℕ} → 0 < left → i < length code → tag ≡ byteAt code i → (tag ≡ 0 → ⊥)
-      → condsAt f left code i ≡ decoded (cons (f i .tree) (condsAt f (left - 1) code (f i .next) .tree)) (condsAt f (left - 1) code (f i .next) .next)
-  unfolding condsAt
-  conds-step zero k h g z = absurd (omega arith)
-  conds-step (suc n) {tag} k h g z = let m : suc n - 1 ≡ n = omega arith in simp (lt-ltb i (length code) h, ← g, ne-eqb tag 0 z, m)
 
 -- what is left of the list, behind what held so far, leads to the whole
 pub record Onward (g : Grounds) (s : State) (os : List ℕ) (f : ℕ → Decoded Cond) (code : List ℕ) (n at : ℕ) (t : Truth) (i left : ℕ) : Type 0 where
@@ -101,39 +81,6 @@ module _ (g : Grounds) (s : State) (os : List ℕ) (f : ℕ → Decoded Cond) (c
 
 -- ---- the parts for a time
 
-module _ (f : ℕ → Decoded Cond) (code : List ℕ) (i : ℕ) where
-  parts-spent : (left : ℕ) → left ≡ 0 → partsAt f left code i .tree ≡ []
-  unfolding partsAt
-  parts-spent left h = rw h
-
-  parts-out : (left : ℕ) → length code ≤ i → partsAt f left code i .tree ≡ []
-  unfolding partsAt
-  parts-out zero h = refl
-  parts-out (suc n) h = simp (le-ltb i (length code) h)
-
-  parts-last : (left : ℕ) {tag : ℕ} → 0 < left → i < length code → tag ≡ byteAt code i → tag ≡ 0 → partsAt f left code i .tree ≡ []
-  unfolding partsAt
-  parts-last zero k h g z = absurd (omega arith)
-  parts-last (suc n) k h g z = simp (lt-ltb i (length code) h, ← g, z)
-
-  parts-step : (left : ℕ) {tag : ℕ} → 0 < left → i < length code → tag ≡ byteAt code i → (tag ≡ 0 → ⊥)
-      → partsAt f left code i .tree ≡ timed (whenOf tag) (f (i + 1) .tree) (partsAt f (left - 1) code (f (i + 1) .next) .tree)
-  unfolding partsAt
-  parts-step zero k h g z = absurd (omega arith)
-  parts-step (suc n) {tag} k h g z = let m : suc n - 1 ≡ n = omega arith in simp (lt-ltb i (length code) h, ← g, ne-eqb tag 0 z, m)
-
-module _ (g : Grounds) (s : State) (os : List ℕ) (w : When) where
-  -- a part in front of others, for the time or not
-  in-front : (v : When) (c : Cond) (ps : List (Timed Cond)) (t : Truth)
-      → andThen t (holdAll g s os (partsFor w (timed v c ps))) ≡ andThen (ofPart v w t (truthOf g s os c)) (holdAll g s os (partsFor w ps))
-  unfolding partsFor ofPart holdAll
-  in-front v c ps t = by-time (sameTime v w)
-    where
-      by-time : (b : Bool) → andThen t (holdAll g s os (cond b (c ∷ partsFor w ps) (partsFor w ps)))
-          ≡ andThen (cond b (andThen t (truthOf g s os c)) t) (holdAll g s os (partsFor w ps))
-      by-time true = sym (then-assoc t _ _)
-      by-time false = refl
-
 -- what is left of the parts, behind what held so far, leads to the whole
 abbrev pub Toward : Grounds → State → List ℕ → When → (ℕ → Decoded Cond) → List ℕ → ℕ → ℕ → Truth → ℕ → ℕ → Type 0
 Toward g s os w f code n at t i left =
@@ -146,23 +93,26 @@ module _ (g : Grounds) (s : State) (os : List ℕ) (w : When) (f : ℕ → Decod
   pub toward-start : Toward g s os w f code n at Holds at n
   toward-start = holds-then _
 
-  over : (i left : ℕ) → partsAt f left code i .tree ≡ [] → (t : Truth) → Toward g s os w f code n at t i left → t ≡ whole
-  unfolding partsFor holdAll
+  over : (i left : ℕ) → partsFor w (partsAt f left code i .tree) ≡ [] → (t : Truth) → Toward g s os w f code n at t i left → t ≡ whole
+  unfolding holdAll
   over i left e t o = sym (then-holds t) ∙ (rw e at o)
 
   module _ (i left : ℕ) (t : Truth) (o : Toward g s os w f code n at t i left) where
     pub toward-spent : left ≡ 0 → t ≡ whole
-    toward-spent h = over i left (parts-spent f code i left h) t o
+    toward-spent h = over i left (parts-spent w f code i left h) t o
 
     pub toward-out : length code ≤ i → t ≡ whole
-    toward-out h = over i left (parts-out f code i left h) t o
+    toward-out h = over i left (parts-out w f code i left h) t o
 
-    pub toward-last : {tag : ℕ} → 0 < left → i < length code → tag ≡ byteAt code i → tag ≡ 0 → t ≡ whole
-    toward-last l h e z = over i left (parts-last f code i left l h e z) t o
+    module _ {tag : ℕ} (l : 0 < left) (h : i < length code) (e : tag ≡ byteAt code i) where
+      pub toward-last : tag ≡ 0 → t ≡ whole
+      toward-last z = over i left (parts-last w f code i left l h e z) t o
 
-    pub toward-turn : {tag : ℕ} {a : Judged} {u : Truth} → 0 < left → i < length code → tag ≡ byteAt code i → (tag ≡ 0 → ⊥)
-        → a ≡ judgedOf g s os (f (i + 1)) → u ≡ ofPart (whenOf tag) w t (a .truth) → Toward g s os w f code n at u (a .next) (left - 1)
-    unfolding judgedOf
-    toward-turn {tag} l h e z a u =
-        let k = parts-step f code i left l h e z in
-        rw (u, a) (sym (in-front g s os w (whenOf tag) (f (i + 1) .tree) _ t) ∙ (rw k at o))
+      module _ (z : tag ≡ 0 → ⊥) {b c : ℕ} (eb : b ≡ order (whenOf tag)) (ec : c ≡ order w) where
+        pub toward-counts : b ≡ c → {a : Judged} {u : Truth} → a ≡ judgedOf g s os (f (i + 1)) → u ≡ andThen t (a .truth)
+            → Toward g s os w f code n at u (a .next) (left - 1)
+        unfolding judgedOf holdAll
+        toward-counts q a u = rw (u, a, then-assoc) (rw (parts-counted w f code i left l h e z eb ec q) at o)
+
+        pub toward-passes : (b ≡ c → ⊥) → {m : ℕ} → m ≡ f (i + 1) .next → Toward g s os w f code n at t m (left - 1)
+        toward-passes q m = rw m (rw (parts-passed w f code i left l h e z eb ec q) at o)

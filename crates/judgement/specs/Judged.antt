@@ -1,14 +1,11 @@
 -- What is answered of decoded conditions: whether they hold, and the place after them.
 use Prim.Native.Nat.{ℕ}
 use mathlib.Core.List.{List}
-use mathlib.Core.Bool.{cond}
 use lib.IntN.{ℤ}
 use Rattle.grammar.specs.Conditions.{Cond, Conds}
-use Rattle.grammar.specs.Actions.{When}
 use Rattle.codes.specs.Decode.{Decoded}
 use Rattle.happenings.specs.State.{State, Grounds}
-use Rattle.happenings.specs.Truths.{onValue, truthOf, truthsOf, andThen}
-use Rattle.happenings.specs.Happening.{sameTime}
+use Rattle.happenings.specs.Truths.{onValue, truthOf, truthsOf}
 use Rattle.happenings.specs.declared.Value.{Value}
 use Rattle.happenings.specs.declared.Truth.{Truth}
 use Rattle.happenings.specs.declared.Truth.the-variants.{Holds}
@@ -20,10 +17,6 @@ stateIn facts numbers = record { facts = facts; numbers = numbers }
 -- what a value that is no number makes of a condition
 unfoldable pub blamed : Value → Truth
 blamed v = onValue v (λ _. Holds)
-
--- a part's truth counts only at its time
-unfoldable pub ofPart : When → When → Truth → Truth → Truth
-ofPart v w so t = cond (sameTime v w) (andThen so t) so
 
 module _ (g : Grounds) (s : State) (os : List ℕ) where
   unfoldable pub judgedOf : Decoded Cond → Judged

@@ -1,6 +1,7 @@
 // Conditions with parts: "An `and` holds conditions, and a condition may be an `and`"; and the parts of an action's condition for a time.
 use crate::facts;
 use crate::facts::Judged;
+use evaluation::ends;
 use grounds::Who;
 use happenings::Truth;
 ghost use mathlib.Core.Path.{_≡_};
@@ -10,7 +11,7 @@ ghost use Rattle.codes.specs.Decode.{condsAt, condAt, conditionsAt, whenOf};
 ghost use Rattle.happenings.specs.Truths.{andThen, holdAll};
 ghost use Rattle.happenings.specs.Happening.{partsFor};
 ghost use Rattle.grounds.specs.Grounded.{objectsIn, groundsIn};
-ghost use Rattle.judgement.specs.Judged.{stateIn, judgedOf, listedOf, ofPart};
+ghost use Rattle.judgement.specs.Judged.{stateIn, judgedOf, listedOf};
 
 // "up to the first that doesn't hold"
 fn and_then(a: Truth, b: Truth) -> Truth
@@ -93,17 +94,7 @@ fn conds_at<'a>(
     }
 }
 
-// A part counts if it is for the time.
-fn part_truth(tag: usize, time: usize, so: Truth, t: Truth) -> Truth
-    ensures { λ r. ⌜ r ≡ ofPart (whenOf tag) (whenOf time) so t ⌝ }
-{
-    if grounds::time_of(tag) == grounds::time_of(time) {
-        return and_then(so, t);
-    }
-    so
-}
-
-// Whether the conditions for a time hold, among the parts from a place on.
+// Whether the conditions for a time hold, among the parts from a place on; a part for another time is passed over.
 pub fn hold<'a>(
     code: &'a [u8],
     firsts: &'a [u16],
@@ -115,6 +106,7 @@ pub fn hold<'a>(
 ) -> Truth
     ensures { λ r. ⌜ r ≡ holdAll (groundsIn (now (firsts .entry))) (stateIn (now (facts .entry)) (now (numbers .entry))) (objectsIn who) (partsFor (whenOf time) (conditionsAt (now (code .entry)) at .tree)) ⌝ }
 {
+    let wanted = grounds::time_of(time);
     let mut truth = Truth::Holds;
     let mut i = at;
     let mut left = code.len();
@@ -126,11 +118,15 @@ pub fn hold<'a>(
         if tag == 0 {
             return truth;
         }
+        left -= 1;
+        if grounds::time_of(tag) != wanted {
+            i = ends::cond_end(code, i + 1, 16);
+            continue;
+        }
         let v = cond_at(code, firsts, facts, numbers, who, i + 1, 16);
         let t = v.truth;
-        truth = part_truth(tag, time, truth, t);
+        truth = and_then(truth, t);
         i = v.next;
-        left -= 1;
     }
     truth
 }

@@ -19,10 +19,8 @@ use Rattle.due.specs.Answers.{answerOf}
 use Rattle.due.specs.declared.Answer.{Answer}
 use Rattle.due.specs.declared.Answer.the-variants.{Done, Refused}
 use Rattle.due.proofs.Dues.{not-word, not-number, not-open, not-end}
-use Rattle.terms.specs.declared.scope.Counts.{Counts}
 use Rattle.plans.specs.Lines.{onMark, mark, opening, name, lineEnd, startAt}
-use Rattle.lines.specs.Knowing.{objectsIn}
-use Rattle.lines.specs.Reading.{amountAnswer, namedAction, givenObject}
+use Rattle.lines.specs.Reading.{amountAnswer, namedAction, namedBy}
 
 pub not-mark : {A : Type 0} (t : Token) (f : ℕ → ℕ → A) (a : A) → OneOf (0 ∷ 1 ∷ 2 ∷ 3 ∷ 5 ∷ 6 ∷ []) (tagOf token-type.the-type t) → onMark t f a ≡ a
 not-mark (T.Word k p e) f a h = refl
@@ -69,23 +67,24 @@ module _ (s : List ℕ) (at : ℕ) where
 
 -- ---- names
 
-module _ (s : List ℕ) (names : Table) (at : ℕ) where
-  pub named-else : (t : Token) (r : Answer) → t ≡ planTokenAt s at → OneOf (1 ∷ 2 ∷ 3 ∷ 4 ∷ 5 ∷ 6 ∷ []) (tagOf token-type.the-type t)
-      → r ≡ Refused (numberOf 1 t) (placeOf t) → r ≡ answerOf (namedAction s names at)
-  unfolding namedAction name
-  named-else t r e o q = rw (← e, not-word t _ _ o) q
+module _ (s : List ℕ) (names : Table) (t : Token) where
+  -- a name that is read at a place is what the token there names
+  pub named-at : (at : ℕ) → t ≡ planTokenAt s at → namedBy s names t (afterOf t) ≡ namedAction s names at
+  unfolding namedBy namedAction name
+  named-at at e = rw e
 
-  pub named-missing : (k : Word) (p e : ℕ) → planTokenAt s at ≡ T.Word k p e → lookup names (part s p e) ≡ F.Nothing → Refused 8 p ≡ answerOf (namedAction s names at)
-  unfolding namedAction name declared
+  pub named-else : (r : Answer) → OneOf (1 ∷ 2 ∷ 3 ∷ 4 ∷ 5 ∷ 6 ∷ []) (tagOf token-type.the-type t)
+      → r ≡ Refused (numberOf 1 t) (placeOf t) → r ≡ answerOf (namedBy s names t (afterOf t))
+  unfolding namedBy
+  named-else r o q = rw (not-word t _ _ o) q
+
+  pub named-missing : (k : Word) (p e : ℕ) → t ≡ T.Word k p e → lookup names (part s p e) ≡ F.Nothing → Refused 8 p ≡ answerOf (namedBy s names t (afterOf t))
+  unfolding namedBy declared
   named-missing k p e q h = rw (q, h)
 
-  pub named-found : (k : Word) (p e i : ℕ) → planTokenAt s at ≡ T.Word k p e → lookup names (part s p e) ≡ F.At i → Done e i ≡ answerOf (namedAction s names at)
-  unfolding namedAction name declared
+  pub named-found : (k : Word) (p e i : ℕ) → t ≡ T.Word k p e → lookup names (part s p e) ≡ F.At i → Done e i ≡ answerOf (namedBy s names t (afterOf t))
+  unfolding namedBy declared
   named-found k p e i q h = rw (q, h)
-
-pub given-named : (s tables : List ℕ) (c : Counts) (at : ℕ) → namedAction s (objectsIn tables c) at ≡ givenObject s tables c at
-unfolding namedAction givenObject
-given-named s tables c at = refl
 
 -- ---- the start
 

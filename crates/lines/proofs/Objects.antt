@@ -19,7 +19,7 @@ use Rattle.text.specs.declared.tokens.Token.the-variants as T
 use Rattle.text.proofs.tokens.Token as token-type
 use Rattle.grammar.specs.Read.{Read, Reader, got, refused, andThen, give, refuse}
 use Rattle.grammar.specs.Tables.{Table, entryAt, typeOf, lookup, onFound, declared, isBelow}
-use Rattle.grammar.specs.Due.{Name, afterOf, placeOf, onWord}
+use Rattle.grammar.specs.Due.{Name, afterOf, placeOf}
 use Rattle.due.specs.Answers.{answerOf}
 use Rattle.due.specs.declared.Answer.{Answer}
 use Rattle.due.specs.declared.Answer.the-variants.{Done, Refused}
@@ -31,18 +31,14 @@ use Rattle.terms.specs.Cells.{Wrote}
 use Rattle.terms.proofs.Kept.{found-below}
 use Rattle.terms.proofs.Wanted.{wrote-refused}
 use Rattle.entries.specs.Entries.{signedIn}
-use Rattle.plans.specs.Lines.{Known, declarations, Given, misplaced, name, argument, fits, objectsTo}
+use Rattle.plans.specs.Lines.{Known, declarations, Given, name, argument, fits, objectsTo}
 use Rattle.terms.specs.declared.scope.Counts.{Counts}
 use Rattle.lines.specs.Knowing.{typesIn, objectsIn, knownIn}
-use Rattle.lines.specs.Reading.{namedAction, givenObject, Listed}
+use Rattle.lines.specs.Reading.{nameFrom, namedAction, namedBy, Listed}
 use Rattle.lines.proofs.Names.{typed-length, signed-length, declarations-read}
-use Rattle.lines.proofs.Marks.{given-named}
+use Rattle.lines.proofs.Marks.{named-at}
 
 -- ---- a name that was found
-
--- what a word says, of a token
-abbrev nameFrom : List ℕ → Token → Read Name
-nameFrom s t = onWord t (λ k p e. give (record { place = p; word = part s p e })) (misplaced t) (afterOf t)
 
 record Named (x : Read Name) (t : Table) (place a v : ℕ) : Type 0 where
   pub read : Name
@@ -58,8 +54,8 @@ word-named s t p e a v (F.At i) q h =
     record { read = record { place = p; word = part s p e }; is = rw y; at-place = refl; found = rw x at q }
 word-named s t p e a v F.Nothing q h = never-done 8 p a v h
 
-token-named : (s : List ℕ) (names : Table) (t : Token) (a v : ℕ) → answerOf (andThen (nameFrom s t) (λ w. declared names (w .place) (w .word))) ≡ Done a v → Named (nameFrom s t) names (placeOf t) a v
-unfolding declared
+token-named : (s : List ℕ) (names : Table) (t : Token) (a v : ℕ) → answerOf (namedBy s names t (afterOf t)) ≡ Done a v → Named (nameFrom s t (afterOf t)) names (placeOf t) a v
+unfolding namedBy declared
 token-named s names (T.Word k p e) a v h = word-named s names p e a v (lookup names (part s p e)) refl h
 token-named s names (T.Number z p e) a v h = never-done _ _ a v h
 token-named s names (T.Open p n) a v h = never-done _ _ a v h
@@ -69,12 +65,12 @@ token-named s names (T.Refusal k p) a v h = never-done _ _ a v h
 token-named s names (T.End p) a v h = never-done _ _ a v h
 
 named-read : (s : List ℕ) (names : Table) (at a v : ℕ) → answerOf (namedAction s names at) ≡ Done a v → Named (name s at) names (placeOf (planTokenAt s at)) a v
-unfolding namedAction name
-named-read s names at a v h = token-named s names (planTokenAt s at) a v h
+unfolding name
+named-read s names at a v h = token-named s names (planTokenAt s at) a v (rw (named-at s names (planTokenAt s at) at refl) h)
 
 -- a name that was found is one of the table
-pub named-below : (s : List ℕ) (names : Table) (at a v : ℕ) → answerOf (namedAction s names at) ≡ Done a v → v < length names
-named-below s names at a v h = let w = named-read s names at a v h in found-below names (w .read .word) v (w .found)
+pub named-below : (s : List ℕ) (names : Table) (t : Token) (a v : ℕ) → answerOf (namedBy s names t (afterOf t)) ≡ Done a v → v < length names
+named-below s names t a v h = let w = token-named s names t a v h in found-below names (w .read .word) v (w .found)
 
 -- a name is read, looked for, and what comes behind it is read
 pub named-then : {A : Type 0} (s : List ℕ) (names : Table) (f : ℕ → Reader A) (at : ℕ)
@@ -220,10 +216,8 @@ module _ (s : List ℕ) (k : Known) (ws : List ℕ) (from : ℕ) (out₀ out : L
 -- ---- of what the model's numbers say
 
 module _ (tables : List ℕ) (c : Counts) where
-  pub given-below : (s : List ℕ) (at a v : ℕ) → answerOf (givenObject s tables c at) ≡ Done a v → v < c .objects
-  given-below s at a v h =
-      let e = typed-length (part tables 646 3078) (c .objects) in
-      rw e at (named-below s (objectsIn tables c) at a v (rw (given-named s tables c at) h))
+  pub given-below : (s : List ℕ) (t : Token) (a v : ℕ) → answerOf (namedBy s (objectsIn tables c) t (afterOf t)) ≡ Done a v → v < c .objects
+  given-below s t a v h = let e = typed-length (part tables 646 3078) (c .objects) in rw e at (named-below s (objectsIn tables c) t a v h)
 
   module _ (heads : List ℕ) (acting : ℕ) (code starts : List ℕ) where
     -- the action's name is looked for among those of the heads
@@ -231,9 +225,10 @@ module _ (tables : List ℕ) (c : Counts) where
     unfolding knownIn
     known-named = declarations-read code starts 0 (signedIn heads acting)
 
-    pub known-given : (s : List ℕ) (at : ℕ) → givenObject s tables c at ≡ namedAction s (knownIn tables c heads acting code starts .objects) at
-    unfolding knownIn givenObject namedAction
-    known-given s at = refl
+    pub known-given : (s : List ℕ) (t : Token) (at : ℕ) → t ≡ planTokenAt s at
+        → namedBy s (objectsIn tables c) t (afterOf t) ≡ namedAction s (knownIn tables c heads acting code starts .objects) at
+    unfolding knownIn
+    known-given s t at e = named-at s (objectsIn tables c) t at e
 
     pub known-fits : (k : Known) (i want : ℕ) → k ≡ knownIn tables c heads acting code starts
         → isBelow (length (typesIn tables c)) (typesIn tables c) (typeOf (entryAt (objectsIn tables c) i)) want ≡ isBelow (length (k .types)) (k .types) (typeOf (entryAt (k .objects) i)) want
@@ -241,7 +236,9 @@ module _ (tables : List ℕ) (c : Counts) where
     known-fits k i want e = rw e
 
 pub action-below : (s heads : List ℕ) (acting at a v : ℕ) → answerOf (namedAction s (signedIn heads acting) at) ≡ Done a v → v < acting
-action-below s heads acting at a v h = let e = signed-length heads acting in rw e at (named-below s (signedIn heads acting) at a v h)
+action-below s heads acting at a v h =
+    let e = signed-length heads acting in
+    rw e at (named-below s (signedIn heads acting) (planTokenAt s at) a v (rw (named-at s (signedIn heads acting) (planTokenAt s at) at refl) h))
 
 -- at most four objects, stored over zeros
 pub four-padded : (os : List ℕ) → length os ≤ 4 → sets (0 ∷ 0 ∷ 0 ∷ 0 ∷ []) 0 os ≡ padded 4 os

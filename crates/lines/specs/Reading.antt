@@ -8,18 +8,17 @@ use lib.Dec.{eqb}
 use lib.IntN.{ℤ, pos, natAbs}
 use lib.ListN.{length}
 use lib.Seq.{sets}
+use Rattle.text.specs.Runs.{part}
 use Rattle.text.specs.declared.tokens.Token.{Token}
 use Rattle.text.specs.declared.tokens.Token.the-variants as T
 use Rattle.grammar.specs.Read.{_>>=_, Read, Reader, got, refused, give, refuse}
 use Rattle.grammar.specs.Tables.{Table, declared}
-use Rattle.grammar.specs.Due.{onEnd}
+use Rattle.grammar.specs.Due.{Name, onWord, onEnd}
 use Rattle.due.specs.declared.Answer.{Answer}
 use Rattle.due.specs.declared.Answer.the-variants.{Done, Refused}
-use Rattle.terms.specs.declared.scope.Counts.{Counts}
 use Rattle.plans.specs.Plan.{Span, moment}
 use Rattle.plans.specs.Lines.{token, misplaced, onMark, name, durationIn}
 use Rattle.plans.specs.Promised.{durationOf}
-use Rattle.lines.specs.Knowing.{objectsIn}
 
 -- a number without a sign, of at most nine digits and three decimals
 abbrev pub Plain : ℤ → Type 0
@@ -49,10 +48,15 @@ namedAction s t = do
   w ← name s
   declared t (w .place) (w .word)
 
-unfoldable pub givenObject : List ℕ → List ℕ → Counts → Reader ℕ
-givenObject s tables c = do
-  w ← name s
-  declared (objectsIn tables c) (w .place) (w .word)
+-- `name` of the definition, of a token that was read
+abbrev pub nameFrom : List ℕ → Token → Reader Name
+nameFrom s t = onWord t (λ k p e. give (record { place = p; word = part s p e })) (misplaced t)
+
+-- which of a table's names a token is that was read
+unfoldable pub namedBy : List ℕ → Table → Token → Reader ℕ
+namedBy s names t = do
+  w ← nameFrom s t
+  declared names (w .place) (w .word)
 
 abbrev pub endRead : Bool → ℕ → Reader Span
 endRead true p = refuse 17 p

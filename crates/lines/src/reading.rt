@@ -14,8 +14,8 @@ ghost use Rattle.grammar.specs.Due.{afterOf};
 ghost use Rattle.due.specs.Answers.{answerOf};
 ghost use Rattle.entries.specs.Entries.{signedIn};
 ghost use Rattle.plans.specs.Lines.{mark, opening, lineEnd, startAt, durationIn, objectsTo};
-ghost use Rattle.lines.specs.Knowing.{Tabled, Headed, knownIn};
-ghost use Rattle.lines.specs.Reading.{Plain, amountAnswer, spanAnswer, namedAction, givenObject, lastingRead, Listed, Small};
+ghost use Rattle.lines.specs.Knowing.{Tabled, Headed, objectsIn, knownIn};
+ghost use Rattle.lines.specs.Reading.{Plain, amountAnswer, spanAnswer, namedAction, namedBy, lastingRead, Listed, Small};
 
 // A colon or a square bracket.
 pub fn mark_due(text: &[u8], from: usize, b: u8) -> Answer
@@ -69,12 +69,11 @@ pub fn action_at<'a>(text: &'a [u8], from: usize, heads: &'a [u8], acting: usize
     Answer::Done(e, i)
 }
 
-// An object's name: its number.
-fn object_at<'a>(text: &'a [u8], from: usize, tables: &'a [u8], counts: Counts) -> Answer
+// The number of the object that a token names.
+fn object_at<'a>(text: &'a [u8], t: Token, tables: &'a [u8], counts: Counts) -> Answer
     requires { ⌜ Tabled (now tables) counts ⌝ }
-    ensures { λ r. ⌜ r ≡ answerOf (givenObject (now (text .entry)) (now (tables .entry)) counts from) ⌝ }
+    ensures { λ r. ⌜ r ≡ answerOf (namedBy (now (text .entry)) (objectsIn (now (tables .entry)) counts) t (afterOf t)) ⌝ }
 {
-    let t = tokens::plan_token_at(text, from);
     let Token::Word(_, p, e) = t else {
         return due::refusal(t, 1);
     };
@@ -112,7 +111,7 @@ pub fn objects_at<'a>(
             }
             return Answer::Done(next, j);
         }
-        let a = object_at(text, at, tables, counts);
+        let a = object_at(text, t, tables, counts);
         let Answer::Done(after, x) = a else {
             return a;
         };

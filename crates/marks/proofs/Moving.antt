@@ -8,7 +8,7 @@ use lib.ListN.{length}
 use borrow.Author.Tests.{lt-ltb, le-ltb, ne-eqb, eq-eqb, not-true, not-false}
 use Rattle.grammar.specs.Actions.{When}
 use Rattle.rows.specs.Held.{byteAt}
-use Rattle.codes.specs.Decode.{begins, whenOf}
+use Rattle.codes.specs.Decode.{effectAt, begins, whenOf}
 use Rattle.happenings.specs.State.{Grounds}
 use Rattle.happenings.specs.Happening.{order}
 use Rattle.marks.specs.declared.steps.Noted.{Noted}
@@ -58,13 +58,14 @@ module _ (g : Grounds) (os : List ℕ) (x : ℕ) (code : List ℕ) (w : When) (p
       pub step-out : not b ≡ true → bare false 0 (at + 1) at ≡ markedAt g os x code w part at
       step-out f = sym (marked-out g os x code w part at (lt-ltb at (length code) h) (ne-eqb part 0 z) (rw et at (sym eb ∙ not-true b f)))
 
-      module _ (t : not b ≡ false) {e : Noted} (ee : e ≡ notedOf g os x code at tag) {v : ℕ} (ev : v ≡ order w) where
-        pub step-effect : part ≡ v → noted part tag e ≡ markedAt g os x code w part at
-        step-effect s =
+      module _ (t : not b ≡ false) {v : ℕ} (ev : v ≡ order w) where
+        pub step-effect : part ≡ v → {e : Noted} → e ≡ notedOf g os x code at tag → noted part tag e ≡ markedAt g os x code w part at
+        step-effect s ee =
             rw (ee, et)
             (sym (marked-effect g os x code w part at (lt-ltb at (length code) h) (ne-eqb part 0 z) (rw et at (sym eb ∙ not-false b t)) (eq-eqb part (order w) (s ∙ ev))))
 
-        pub step-other : (part ≡ v → ⊥) → bare false part (e .next) at ≡ markedAt g os x code w part at
-        step-other s =
-            rw (ee, et)
+        pub step-other : (part ≡ v → ⊥) → {n : ℕ} → n ≡ effectAt code at tag .next → bare false part n at ≡ markedAt g os x code w part at
+        unfolding notedOf
+        step-other s en =
+            rw (en, et)
             (sym (marked-other g os x code w part at (lt-ltb at (length code) h) (ne-eqb part 0 z) (rw et at (sym eb ∙ not-false b t)) (ne-eqb part (order w) (rw ev at s))))

@@ -1,6 +1,6 @@
 -- What an effect's first cell says, and what is noted of the effect at a place. Assumes nothing.
-use mathlib.Core.Path.{_≡_, refl, sym}
-use mathlib.Core.List.{List}
+use mathlib.Core.Path.{_≡_, refl, sym, ap, _∙_}
+use mathlib.Core.List.{List, []}
 use mathlib.Core.Bool.{Bool, true, false, cond}
 use Prim.Native.Nat.{ℕ, _+_, _-_, _≤_, _<_}
 use native.Mathlib.Omega.{arith}
@@ -160,3 +160,14 @@ module _ (fs os : List ℕ) (x : ℕ) (code : List ℕ) (at tag : ℕ) where
 
     pub note-number : s .numeric ≡ true → {e : Found} → e ≡ exprFound g os x (exprAt 16 code (at + 2 + s .k)) → num s i e ≡ notedOf g os x code at tag
     note-number h ee = rw es (is-num (rw es at h) (rw es at (rw h at ei)) (rw es at ee))
+
+-- ---- the place after it
+
+module _ (code : List ℕ) (at tag : ℕ) {s : Shape} (es : s ≡ shapeOf tag) where
+  pub end-fact : s .numeric ≡ false → at + 2 + s .k ≡ effectAt code at tag .next
+  unfolding notedOf
+  end-fact h = rw es (ap (λ r. r .next) (is-fact [] [] 0 code at tag (rw es at h) refl))
+
+  pub end-number : s .numeric ≡ true → {r : ℕ} → r ≡ exprAt 16 code (at + 2 + s .k) .next → r ≡ effectAt code at tag .next
+  unfolding notedOf exprFound
+  end-number h er = (rw es at er) ∙ ap (λ r. r .next) (is-num [] [] 0 code at tag (rw es at h) refl refl)

@@ -1,4 +1,5 @@
 // The effects of a point in the code, one after the other, and what each writes.
+use evaluation::ends;
 use evaluation::reads;
 use grounds::Who;
 use happenings::Mark;
@@ -6,7 +7,7 @@ ghost use mathlib.Core.Path.{_≡_};
 ghost use mathlib.Core.Bool.{true};
 ghost use Prim.Native.Nat.{_+_, _≤_, _<_};
 ghost use lib.ListN.{length};
-ghost use Rattle.codes.specs.Decode.{begins, whenOf};
+ghost use Rattle.codes.specs.Decode.{effectAt, begins, whenOf};
 ghost use Rattle.grounds.specs.Grounded.{objectsIn, groundsIn};
 ghost use Rattle.marks.specs.Flat.{shapeOf, notedOf, bare, markedAt};
 
@@ -102,6 +103,19 @@ fn note<'a>(code: &'a [u8], firsts: &'a [u16], who: Who, at: usize, tag: usize, 
     }
 }
 
+// The place after the effect at a place.
+fn effect_end(code: &[u8], at: usize, tag: usize) -> usize
+    requires { ⌜ (at < length (now code)) × (begins tag ≡ true) ⌝ }
+    ensures { λ r. ⌜ r ≡ effectAt (now (code .entry)) at tag .next ⌝ }
+{
+    let s = shape_of(tag);
+    let right = at + 2 + s.k;
+    if s.numeric {
+        return ends::expr_end(code, right, 16);
+    }
+    right
+}
+
 fn begins_effect(tag: usize) -> bool
     ensures { λ r. ⌜ r ≡ begins tag ⌝ }
 {
@@ -148,10 +162,10 @@ pub fn mark_at<'a>(
     if !begins_effect(tag) {
         return bare_step(false, 0, at + 1, at);
     }
-    let e = note(code, firsts, who, at, tag, x);
     if part != grounds::time_of(time) {
-        return bare_step(false, part, e.next, at);
+        return bare_step(false, part, effect_end(code, at, tag), at);
     }
+    let e = note(code, firsts, who, at, tag, x);
     let m = e.mark;
     Marked {
         ended: false,

@@ -1,4 +1,4 @@
--- The laws. Bytes and tokens; readers and how they are put together; the readers of the grammar, in its order; the law of the lowest place.
+-- The laws. Bytes and tokens; readers and how they are put together; the readers of the grammar, in its order; the law of the lowest place; texts with the same tokens.
 pub mod Sight
 pub mod Nearness
 pub mod Local
@@ -13,3 +13,4 @@ pub mod Domains
 pub mod Numbers
 pub mod Problems
 pub mod Lowest
+pub mod Alike

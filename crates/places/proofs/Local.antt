@@ -1,5 +1,5 @@
 -- Readers that depend on nothing behind what they reach: how such readers are put together. A text and an edge are given (Edge); another text
--- agrees with it up to the edge. Either both are read to the same, or the first is read on, or refused, behind the edge. Assumes nothing.
+-- has the same tokens up to the edge (Agrees). Either both are read to the same, or the first is read on, or refused, behind the edge. Assumes nothing.
 use mathlib.Core.Path.{_≡_, refl}
 use mathlib.Core.List.{List}
 use mathlib.Core.Bool.{Bool, true, false, cond}
@@ -9,6 +9,7 @@ use native.Mathlib.Omega.{arith}
 use native.Mathlib.Decide.{decLe}
 use lib.ListN.{length, getD, take}
 use lib.IntN.{ℤ}
+use Rattle.words.specs.Bytes.{bytes}
 use Rattle.text.specs.Runs.{part}
 use Rattle.text.specs.Tokens.{tokenAt}
 use Rattle.text.specs.declared.tokens.Word.{Word}
@@ -17,8 +18,9 @@ use Rattle.text.specs.declared.tokens.Token.the-variants as T
 use Rattle.grammar.specs.Read.{_>>=_, andThen, Read, Reader, got, refused, give, refuse}
 use Rattle.grammar.specs.Due.{token, peek, wrong, numberOf, afterOf, placeOf, onWord, onNumber, onOpen, onClose, onRefusal}
 use Rattle.places.specs.Lowest.{seen, nextOf}
+use Rattle.places.specs.Alike.{SameAt}
 use Rattle.places.proofs.Sight.{part-near, byte-near, seen-low, seen-later}
-use Rattle.places.proofs.Nearness.{Fits, token-fits, token-ends, next-on, token-same}
+use Rattle.places.proofs.Nearness.{Fits, token-fits, token-ends, next-on, token-same, either-wordly, duration-wordly, spot-same}
 
 -- a text, how much of it is the same in others, and how far it is looked at for a refusal k at p
 pub record Edge : Type 0 where
@@ -32,11 +34,34 @@ pub record Edge : Type 0 where
 abbrev pub next : Edge → ℕ → ℕ
 next E at = nextOf (E .text) at
 
+-- the tokens that are wholly seen before the edge are the same in another text
 pub record Agrees (E : Edge) (u : List ℕ) : Type 0 where
-  pub same : take (E .edge) (E .text) ≡ take (E .edge) u
+  pub same : (at : ℕ) → seen (E .text) (next E at) ≤ E .edge → SameAt (E .text) u at
+
+pub same-self : (s : List ℕ) (at : ℕ) → SameAt s s at
+same-self s at = record { token = refl; whole = refl; tail = refl; first = refl; either = refl; duration = refl }
 
 pub agrees-self : (E : Edge) → Agrees E (E .text)
-agrees-self E = record { same = refl }
+agrees-self E = record { same = λ at i. same-self (E .text) at }
+
+-- one with the same bytes has the same tokens
+pub agrees-bytes : (E : Edge) (u : List ℕ) → take (E .edge) (E .text) ≡ take (E .edge) u → Agrees E u
+agrees-bytes E u a = record { same = here }
+  where
+    s : List ℕ
+    s = E .text
+
+    here : (at : ℕ) → seen s (next E at) ≤ E .edge → SameAt s u at
+    here at i =
+        let e : afterOf (tokenAt s at) ≤ E .edge = omega (arith, token-ends s (tokenAt s at) (token-fits s at)) in
+        record {
+          token = token-same s u (E .edge) a at i;
+          whole = part-near s u (E .edge) a (next E at) (afterOf (tokenAt s at)) e;
+          tail = part-near s u (E .edge) a (next E at + 1) (afterOf (tokenAt s at)) e;
+          first = byte-near s u (E .edge) a (next E at) (omega (arith, seen-low s (next E at)));
+          either = spot-same s u (E .edge) a (bytes "either") either-wordly at i;
+          duration = spot-same s u (E .edge) a (bytes "?duration") duration-wordly at i;
+        }
 
 -- what was read goes on behind the edge: at a place of which fl says what comes next
 pub record Over (E : Edge) (fl : ℕ → ℕ) (n : ℕ) : Type 0 where
@@ -175,18 +200,11 @@ module _ {A : Type 0} {E : Edge} {F : ℕ → Type 0} where
 
       other : seen s (next E at) ≤ E .edge → Told E u t (by t)
       other i =
-          let e : afterOf t ≤ E .edge = omega (arith, token-ends s t (token-fits s at)) in
-          record {
-            agrees = a;
-            whole = part-near s u (E .edge) (a .same) (placeOf t) (afterOf t) e;
-            tail = part-near s u (E .edge) (a .same) (placeOf t + 1) (afterOf t) e;
-            first = byte-near s u (E .edge) (a .same) (placeOf t) (omega (arith, seen-low s (placeOf t)));
-            fits = token-fits s at;
-            on = h;
-          }
+          let m = a .same at i in
+          record { agrees = a; whole = m .whole; tail = m .tail; first = m .first; fits = token-fits s at; on = h }
 
       go : Dec (seen s (next E at) ≤ E .edge) → Good E (next E at) F (g s t (by t)) (g u (tokenAt u at) (by (tokenAt u at)))
-      go (yes i) = rw (← token-same s u (E .edge) (a .same) at i) (k t refl .good u (other i))
+      go (yes i) = rw (← a .same at i .token) (k t refl .good u (other i))
       go (no i) = far (beyond {f = next E at} (g s t (by t)) (g s t (by t)) (omega arith) (k t refl .good s self))
 
   pub token-then : {g : List ℕ → Token → Reader A} → ((t : Token) → Behind E t (afterOf t) F (λ v. g v t)) → Local E (next E) F (λ v. _>>=_ (token v) (g v))

@@ -7,7 +7,7 @@ use Rattle.grammar.specs.Read.{Read, refused}
 use Rattle.grammar.specs.Domain.{domainText, readDomain}
 use Rattle.grammar.specs.Problem.{problemText, readProblem}
 use Rattle.places.specs.Lowest.{reach, reachInProblem, LowestInDomain, LowestInProblem}
-use Rattle.places.proofs.Local.{Edge, Far, Good, far, near}
+use Rattle.places.proofs.Local.{Edge, Far, Good, far, near, agrees-bytes}
 use Rattle.places.proofs.Suffice.{reach-above, reach-bracket, waits, edgeOf}
 use Rattle.places.proofs.Domains.{domain-local}
 use Rattle.places.proofs.Problems.{problem-local}
@@ -22,7 +22,7 @@ within-edge k p x y h i e (near j d) = sym d ∙ e
 pub lowest-in-domain : LowestInDomain
 unfolding readDomain
 lowest-in-domain s t k p h a e =
-    within-edge {E = E} k p (domainText s 0) (domainText t 0) h (le-refl (reach s k p)) e (domain-local {E = E} .good t (record { same = a }) 0)
+    within-edge {E = E} k p (domainText s 0) (domainText t 0) h (le-refl (reach s k p)) e (domain-local {E = E} .good t (agrees-bytes E t a) 0)
   where
     E : Edge
     E = record { text = s; edge = reach s k p; reaches = reach s; above = reach-above s; bracket = reach-bracket s }
@@ -30,7 +30,7 @@ lowest-in-domain s t k p h a e =
 pub lowest-in-problem : LowestInProblem
 unfolding readProblem reachInProblem
 lowest-in-problem s t d k p h a e =
-    within-edge {E = E} k p (problemText s d 0) (problemText t d 0) h (le-refl (reachInProblem s k p)) e (problem-local {E = E} (waits s) d .good t (record { same = a }) 0)
+    within-edge {E = E} k p (problemText s d 0) (problemText t d 0) h (le-refl (reachInProblem s k p)) e (problem-local {E = E} (waits s) d .good t (agrees-bytes E t a) 0)
   where
     E : Edge
     E = edgeOf s (reachInProblem s k p)

@@ -150,7 +150,7 @@ past-high long g l h = go (leb long 32768) refl (leb 32768 g) refl h
     go false e true d x = let z : _≡_ {A = ℕ} 0 1 = cc in omega arith
     go false e false d x = leb-false 32768 g d
 
-past-is : (long g : ℕ) → 32768 < long → 32768 ≤ g → isPast long g ≡ true
+pub past-is : (long g : ℕ) → 32768 < long → 32768 ≤ g → isPast long g ≡ true
 unfolding isPast
 past-is long g h k = rw (lt-leb long 32768 h, le-leb 32768 g k)
 
@@ -162,6 +162,18 @@ capped-on long g h n lo hi = go (isPast long g) refl (isPast long h) refl lo
     go true e false d l = omega arith
     go false e true d l = omega (arith, past-high long g (past-low long h d .0) e)
     go false e false d l = omega arith
+
+pub not-past : (long g : ℕ) → g < 32768 → isPast long g ≡ false
+unfolding isPast
+not-past long g h = rw (lt-leb 32768 g h) (go (leb long 32768))
+  where
+    go : (t : Bool) → cond t false false ≡ false
+    go true = refl
+    go false = refl
+
+-- below 32,768 a token stands at the end of the gap
+pub next-low : (s : List ℕ) (at : ℕ) → gapEnd s at < 32768 → nextOf s at ≡ gapEnd s at
+next-low s at h = rw (token-shape s at .place, not-past (length s) (gapEnd s at) h)
 
 gap-behind : (s : List ℕ) (p : ℕ) → p ≤ gapEnd s p
 unfolding gapEnd

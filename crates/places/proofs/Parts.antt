@@ -24,7 +24,7 @@ use Rattle.grammar.specs.Terms.{Scope, Counted, counts}
 use Rattle.grammar.specs.Actions.{start, whole, end, Action, startOrEnd, timeOf, partBehind, partAt, partsTo, parts, ruleHead, durationSpot, durationRule, fieldOf, whenField, within, simpleBody, durativeBody, action}
 use Rattle.places.specs.Lowest.{seen, nextOf}
 use Rattle.places.proofs.Sight.{seen-later}
-use Rattle.places.proofs.Nearness.{duration-wordly, spot-same, Spotted, spot-place, next-on}
+use Rattle.places.proofs.Nearness.{Spotted, spot-place, next-on}
 use Rattle.places.proofs.Local.{Edge, next, Agrees, agrees-self, Far, Good, far, near, beyond, Over, Plain, gives, never, then, either-way, bounded, Behind, token-then, peek-then, after, follow, refuses, wrongs, choose, gives-behind, held, worded, on-word, on-close, on-refusal}
 use Rattle.places.proofs.Suffice.{Strict, opens-strict, Enough, enough, fewer, and-same, close-same}
 use Rattle.places.proofs.Heads.{fresh-held, opening-local, closing-local, word-local, new-then}
@@ -124,7 +124,7 @@ spot-local {E} = record { good = λ u a at. go u a at (decLe (seen (E .text) (ne
 
     go : (u : List ℕ) → Agrees E u → (at : ℕ) → Dec (seen (E .text) (next E at) ≤ E .edge)
         → Good E (next E at) (Over E (next E)) (durationSpot (E .text) (spotAt (E .text) at w) at) (durationSpot u (spotAt u at w) at)
-    go u a at (yes i) = rw (← spot-same (E .text) u (E .edge) (a .same) w duration-wordly at i) (one u a at i (spotAt (E .text) at w))
+    go u a at (yes i) = rw (← a .same at i .duration) (one u a at i (spotAt (E .text) at w))
     go u a at (no i) = far (two at (omega arith) (spotAt (E .text) at w) (spot-place (E .text) at w))
 
 rule-local : {E : Edge} (c : Scope) → Plain E (λ v. durationRule v c)

@@ -26,7 +26,7 @@ use Rattle.grammar.specs.Due.{token, wrong, afterOf, onWord, onOpen, onClose, o
 use Rattle.grammar.specs.Lists.{typeNamed, eitherOf, typeOfWord, typeOfOther, typeDue, group, Item, closes, dash, names, itemOf, item, onItem, declare, waiting, typed, namesTo, variablesTo, typesTo, declaration, declarations}
 use Rattle.places.specs.Lowest.{seen, nextOf}
 use Rattle.places.proofs.Sight.{seen-later}
-use Rattle.places.proofs.Nearness.{Fits, either-wordly, spot-same, Spotted, spot-place}
+use Rattle.places.proofs.Nearness.{Fits, Spotted, spot-place}
 use Rattle.places.proofs.Local.{Edge, next, Far, Good, far, refusal, Over, Local, Plain, gives, never, then, bounded, Told, Behind, token-then, peek-then, after, refuses, wrongs, choose-then, Held, stays, stops, gives-behind, held, held-last, worded, tailed, on-word, on-open, on-close}
 use Rattle.places.proofs.Suffice.{off, held-at, Strict, word-strict, opens-strict, Enough, enough, fewer, and-same, close-same}
 use Rattle.places.proofs.Heads.{fresh-held, opening-local, closing-local, new-then}
@@ -91,7 +91,7 @@ bracket-behind {E} {F} p n = record { good = λ u r. go u r (decLe (seen (E .tex
     go : (u : List ℕ) → Told E u (T.Open p n) n → Dec (seen (E .text) (next E (p + 1)) ≤ E .edge)
         → Good E p F (eitherOf p (spotAt (E .text) (p + 1) w) n) (eitherOf p (spotAt u (p + 1) w) n)
     go u r (yes i) =
-        rw (← spot-same (E .text) u (E .edge) (r .agrees .same) w either-wordly (p + 1) i)
+        rw (← r .agrees .same (p + 1) i .either)
         (one (front u r) (spotAt (E .text) (p + 1) w) (spot-place (E .text) (p + 1) w))
     go u r (no i) = far (two r (omega arith) (spotAt (E .text) (p + 1) w) (spot-place (E .text) (p + 1) w))
 

@@ -19,7 +19,7 @@ use Rattle.grammar.specs.Due.{token, placeOf, afterOf, onOpen}
 use Rattle.grammar.specs.Domain.{Opened, opened, other, sectionWord, behindOpen, beginsWith, section}
 use Rattle.places.specs.Lowest.{seen}
 use Rattle.places.proofs.Sight.{seen-later}
-use Rattle.places.proofs.Nearness.{Fits, token-fits, token-ends, next-on, token-same}
+use Rattle.places.proofs.Nearness.{Fits, token-fits, token-ends, next-on}
 use Rattle.places.proofs.Local.{Edge, next, Agrees, agrees-self, Good, far, beyond, widen, Over, Local, gives, Told, Behind, look, token-then, after}
 
 -- what is looked at first where a section may stand: the word behind a bracket, or what stands in the bracket's place
@@ -98,7 +98,7 @@ module _ {A : Type 0} {E : Edge} {F : ℕ → Type 0} (w : List ℕ) (g : List �
       go : (u : List ℕ) → Agrees E u → (at : ℕ) → Dec (seen (E .text) (word E at) ≤ E .edge)
           → Good E (word E at) F (andThen (behindOpen (E .text) at w (tokenAt (E .text) at)) (g (E .text))) (andThen (behindOpen u at w (tokenAt u at)) (g u))
       go u a at (yes i) =
-          rw (← token-same (E .text) u (E .edge) (a .same) at (omega (arith, seen-later (E .text) (next E at) (word E at) (word-later E at))))
+          rw (← a .same at (omega (arith, seen-later (E .text) (next E at) (word E at) (word-later E at))) .token)
           (behind-open u a at (tokenAt (E .text) at) refl)
       go u a at (no i) = far (beyond {f = word E at} _ _ (omega arith) (behind-open (E .text) (agrees-self E) at (tokenAt (E .text) at) refl))
 
@@ -122,7 +122,7 @@ module _ {A : Type 0} {E : Edge} {F : ℕ → Type 0} {g : List ℕ → Token �
       bracket : (u : List ℕ) → Agrees E u → (at p n : ℕ) → tokenAt (E .text) at ≡ T.Open p n → Dec (seen (E .text) (word E at) ≤ E .edge)
           → Good E (word E at) F (_>>=_ (token (E .text)) (g (E .text)) at) (_>>=_ (token u) (g u) at)
       bracket u a at p n e (yes i) =
-          let q : tokenAt u at ≡ T.Open p n = sym (token-same (E .text) u (E .edge) (a .same) at (omega (arith, seen-later (E .text) (next E at) (word E at) (word-later E at)))) ∙ e in
+          let q : tokenAt u at ≡ T.Open p n = sym (a .same at (omega (arith, seen-later (E .text) (next E at) (word E at) (word-later E at))) .token) ∙ e in
           let h : Good E (word E at) F (g (E .text) (T.Open p n) n) (g u (T.Open p n) n) = here u a at p n e in
           rw (e, q) (rw e at h)
       bracket u a at p n e (no i) =

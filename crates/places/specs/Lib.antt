@@ -1,3 +1,4 @@
--- What the law says, and how far it reaches in short texts.
+-- What the laws say, and how far the first reaches in short texts.
 pub mod Lowest
+pub mod Alike
 pub mod Examples

@@ -9,4 +9,5 @@ pub mod Walk
 pub mod Steps
 pub mod Places
 pub mod Rising
+pub mod Bounds
 pub mod Stored

@@ -1,8 +1,8 @@
--- A plan line's refusal: its place lies within the line, and its number is one of the plan's rows. Assumes nothing.
+-- A plan line's refusal: its place lies within the line and at most at 256, and its number is one of the plan's rows. Assumes nothing.
 use mathlib.Core.Path.{_≡_, refl}
 use mathlib.Core.List.{List}
 use mathlib.Core.Option.{Option, some, none}
-use Prim.Native.Nat.{ℕ, _+_, _≤_, _<_}
+use Prim.Native.Nat.{ℕ, _+_, _≤_, _<_, min}
 use native.Mathlib.Omega.{arith}
 use lib.ListN.{length}
 use Rattle.grammar.specs.Read.{Read, got, refused}
@@ -13,8 +13,8 @@ use Rattle.plans.proofs.Given.{given-refused}
 use Rattle.plans.proofs.Walk.{Placed, line-walk}
 
 module _ (s : List ℕ) (k : Known) (n before at : ℕ) where
-  placed : (m : ℕ) → length s ≤ m → at ≤ m → (c p : ℕ) → lineAt s k n before at ≡ refused c p → Placed m c p
-  placed m long h c p e = given-refused (line-walk s m long k n before at h) e
+  placed : (m : ℕ) → min (length s) 256 ≤ m → at ≤ m → (c p : ℕ) → lineAt s k n before at ≡ refused c p → Placed m c p
+  placed m room h c p e = given-refused (line-walk s m room k n before at h) e
 
   pub line-places : at ≤ length s → (c p : ℕ) → lineAt s k n before at ≡ refused c p → p ≤ length s
   line-places h c p e = placed (length s) (omega arith) h c p e .0
@@ -24,13 +24,13 @@ module _ (s : List ℕ) (k : Known) (n before at : ℕ) where
 
 -- ---- what the reader of lines refuses
 
--- a refusal of line n, of the bytes l
+-- a refusal of line n, of the bytes l: "only what ends before column 257 is judged"
 abbrev pub ReadRefusal : ℕ → List ℕ → Refused → Type 0
-ReadRefusal n l e = (e .line ≡ n) × (e .column ≤ length l + 1) × (1 ≤ e .number) × (e .number ≤ 18)
+ReadRefusal n l e = (e .line ≡ n) × (e .column ≤ min (length l) 256 + 1) × (1 ≤ e .number) × (e .number ≤ 18)
 
 module _ (k : Known) (n before : ℕ) (l : List ℕ) where
   refused-read : (c p : ℕ) → lineAt l k n before 0 ≡ refused c p → ReadRefusal n l (refusedAt c n p)
-  refused-read c p e = let h = placed l k n before 0 (length l) (omega arith) (omega arith) c p e in (refl, omega (arith, h .0), h .1, h .2)
+  refused-read c p e = let h = placed l k n before 0 (min (length l) 256) (omega arith) (omega arith) c p e in (refl, omega (arith, h .0), h .1, h .2)
 
   pub reads-places : (e : Refused) → reader k .line n before l ≡ refusal e → ReadRefusal n l e
   reads-places e h = go (lineAt l k n before 0) refl h

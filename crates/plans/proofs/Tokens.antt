@@ -2,13 +2,13 @@
 use mathlib.Core.Path.{_≡_, refl}
 use mathlib.Core.List.{List}
 use mathlib.Core.Bool.{Bool, true, false, cond}
-use Prim.Native.Nat.{ℕ, _+_, _≤_, _<_}
+use Prim.Native.Nat.{ℕ, _+_, _≤_, _<_, min}
 use native.Mathlib.Omega.{arith}
 use native.Mathlib.Decide.{decLe}
 use lib.Dec.{eqb, leb, ltb}
 use lib.IntN.{natAbs}
 use lib.ListN.{length, getD, drop}
-use borrow.Author.Tests.{ltb-true, leb-false}
+use borrow.Author.Tests.{ltb-true, ltb-false, leb-false}
 use Rattle.words.specs.Bytes.{kindOf, onStart}
 use Rattle.words.specs.declared.bytes.Kind.{Kind}
 use Rattle.words.specs.declared.bytes.Kind.the-variants as K
@@ -97,60 +97,53 @@ module _ (m p e : ℕ) (lo : p ≤ m) (hi : e ≤ m) where
 abbrev startOf : List ℕ → ℕ → Kind → Token
 startOf s p k = onStart k (planRun s p (endOf s 58 p)) (judgedOf (p + 1) (squareOf (getD s p 0) p)) (judgedOf (p + 1) (T.Refusal 2 p))
 
-judged-told : (m end : ℕ) (t : Token) → end ≤ m → Told m t → Told m (judgedOf end t)
+judged-told : (m end : ℕ) (t : Token) → (256 < end → 256 ≤ m) → (end ≤ 256 → Told m t) → Told m (judgedOf end t)
 unfolding judgedOf
-judged-told m end t h i = go (ltb 256 end) refl
+judged-told m end t full i = go (ltb 256 end) refl
   where
     go : (b : Bool) → ltb 256 end ≡ b → Told m (cond b (T.Refusal 14 256) t)
-    go true e = refusal-told m 14 256 (omega (arith, ltb-true 256 end e)) (omega arith) (omega arith)
-    go false e = i
+    go true e = refusal-told m 14 256 (full (ltb-true 256 end e)) (omega arith) (omega arith)
+    go false e = i (ltb-false 256 end e)
 
-module _ (s : List ℕ) (p : ℕ) (h : p < length s) where
-  mark-told : (b : ℕ) → Told (length s) (T.Mark b p (p + 1))
-  mark-told b = plain-told (length s) (T.Mark b p (p + 1)) (omega arith) (omega arith) refl refl
+-- m is not below the line's end, or not below 256: what ends past 256 is refused there
+module _ (s : List ℕ) (m p : ℕ) (room : min (length s) 256 ≤ m) (h : p < length s) where
+  mark-told : (b : ℕ) → p + 1 ≤ m → Told m (T.Mark b p (p + 1))
+  mark-told b l = plain-told m (T.Mark b p (p + 1)) (omega arith) l refl refl
 
-  square-told : (b : ℕ) → Told (length s) (squareOf b p)
+  square-told : (b : ℕ) → p + 1 ≤ m → Told m (squareOf b p)
   unfolding squareOf
-  square-told b = go (eqb b 40) (eqb b 41)
+  square-told b l = go (eqb b 40) (eqb b 41)
     where
-      go : (x y : Bool) → Told (length s) (cond x (T.Open p (p + 1)) (cond y (T.Close p (p + 1)) (T.Mark b p (p + 1))))
-      go true y = plain-told (length s) (T.Open p (p + 1)) (omega arith) (omega arith) refl refl
-      go false true = plain-told (length s) (T.Close p (p + 1)) (omega arith) (omega arith) refl refl
-      go false false = mark-told b
+      go : (x y : Bool) → Told m (cond x (T.Open p (p + 1)) (cond y (T.Close p (p + 1)) (T.Mark b p (p + 1))))
+      go true y = plain-told m (T.Open p (p + 1)) (omega arith) l refl refl
+      go false true = plain-told m (T.Close p (p + 1)) (omega arith) l refl refl
+      go false false = mark-told b l
 
-  run-told : Told (length s) (planRun s p (endOf s 58 p))
+  -- one byte
+  byte-told : (t : Token) → (p + 1 ≤ m → Told m t) → Told m (judgedOf (p + 1) t)
+  byte-told t f = judged-told m (p + 1) t (λ l. omega (arith, l)) (λ l. f (omega (arith, l)))
+
+  run-told : Told m (planRun s p (endOf s 58 p))
   unfolding planWord
   run-told =
+      let lo = run-within s 58 (p + 1) (omega arith) .0 in
       let hi = run-within s 58 (p + 1) (omega arith) .1 in
       let w = part s p (endOf s 58 p) in
-      judged-told (length s) (endOf s 58 p) _ hi (class-told (length s) p (endOf s 58 p) (omega arith) hi (classOf w) w)
+      judged-told m (endOf s 58 p) _ (λ l. omega (arith, hi, l)) (λ l. class-told m p (endOf s 58 p) (omega (arith, lo, hi, l)) (omega (arith, hi, l)) (classOf w) w)
 
-  start-told : (k : Kind) → Told (length s) (startOf s p k)
+  start-told : (k : Kind) → Told m (startOf s p k)
   start-told K.Digit = run-told
   start-told K.Letter = run-told
-  start-told K.Bracket = judged-told (length s) (p + 1) _ (omega arith) (square-told (getD s p 0))
+  start-told K.Bracket = byte-told _ (square-told (getD s p 0))
   start-told K.White = run-told
   start-told K.Mark = run-told
-  start-told K.Refused = judged-told (length s) (p + 1) _ (omega arith) (refusal-told (length s) 2 p (omega arith) (omega arith) (omega arith))
+  start-told K.Refused = byte-told _ (λ l. refusal-told m 2 p (omega (arith, l)) (omega arith) (omega arith))
 
-  inside-told : (b : Bool) → Told (length s) (cond b (judgedOf (p + 1) (T.Mark 58 p (p + 1))) (startOf s p (kindOf (getD s p 0))))
-  inside-told true = judged-told (length s) (p + 1) _ (omega arith) (mark-told 58)
+  inside-told : (b : Bool) → Told m (cond b (judgedOf (p + 1) (T.Mark 58 p (p + 1))) (startOf s p (kindOf (getD s p 0))))
+  inside-told true = byte-told _ (mark-told 58)
   inside-told false = start-told (kindOf (getD s p 0))
 
--- ---- the token at or after a place: m is not below the place and the line's end
-
-farther : (m n : ℕ) (t : Token) → n ≤ m → Told n t → Told m t
-farther m n t h i = record { place = omega (arith, i .place); after = omega (arith, i .after); least = i .least; most = i .most; small = i .small }
-
-from-told : (s : List ℕ) (m p : ℕ) → length s ≤ m → p ≤ m → Told m (planFrom s p)
-from-told s m p long h = go (leb (length s) p) refl
-  where
-    rest : Token
-    rest = cond (eqb (getD s p 0) 58) (judgedOf (p + 1) (T.Mark 58 p (p + 1))) (startOf s p (kindOf (getD s p 0)))
-
-    go : (b : Bool) → leb (length s) p ≡ b → Told m (cond b (judgedOf (length s) (T.End p)) rest)
-    go true e = judged-told m (length s) _ long (record { place = h; after = h; least = omega arith; most = omega arith; small = omega arith })
-    go false e = farther m (length s) _ long (inside-told s p (leb-false (length s) p e) (eqb (getD s p 0) 58))
+-- ---- the token at or after a place: m is not below the place
 
 gap-told : (s : List ℕ) (m at : ℕ) → length s ≤ m → at ≤ m → gapEnd s at ≤ m
 gap-told s m at long h = elim (decLe at (length s)) [
@@ -158,6 +151,19 @@ gap-told s m at long h = elim (decLe at (length s)) [
   | no i ↦ rw (gap-start s at, gap-over s false at (omega arith)) h
 ]
 
-pub token-told : (s : List ℕ) (m at : ℕ) → length s ≤ m → at ≤ m → Told m (planTokenAt s at)
+from-told : (s : List ℕ) (m p : ℕ) → min (length s) 256 ≤ m → (length s ≤ m → p ≤ m) → Told m (planFrom s p)
+from-told s m p room h = go (leb (length s) p) refl
+  where
+    rest : Token
+    rest = cond (eqb (getD s p 0) 58) (judgedOf (p + 1) (T.Mark 58 p (p + 1))) (startOf s p (kindOf (getD s p 0)))
+
+    end-told : p ≤ m → Told m (T.End p)
+    end-told l = record { place = l; after = l; least = omega arith; most = omega arith; small = omega arith }
+
+    go : (b : Bool) → leb (length s) p ≡ b → Told m (cond b (judgedOf (length s) (T.End p)) rest)
+    go true e = judged-told m (length s) _ (λ l. omega (arith, l)) (λ l. end-told (h (omega (arith, l))))
+    go false e = inside-told s m p room (leb-false (length s) p e) (eqb (getD s p 0) 58)
+
+pub token-told : (s : List ℕ) (m at : ℕ) → min (length s) 256 ≤ m → at ≤ m → Told m (planTokenAt s at)
 unfolding planTokenAt
-token-told s m at long h = from-told s m (gapEnd s at) long (gap-told s m at long h)
+token-told s m at room h = from-told s m (gapEnd s at) room (λ long. gap-told s m at long h)

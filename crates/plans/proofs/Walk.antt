@@ -2,7 +2,7 @@
 use mathlib.Core.Path.{_≡_, refl}
 use mathlib.Core.List.{List, [], _∷_}
 use mathlib.Core.Option.{Option, some, none}
-use Prim.Native.Nat.{ℕ, _≤_, _<_}
+use Prim.Native.Nat.{ℕ, _≤_, _<_, min}
 use native.Mathlib.Omega.{arith}
 use lib.Dec.{eqb, ltb}
 use lib.IntN.{natAbs}
@@ -59,10 +59,10 @@ lasting-timed : (d : ℕ) → 0 < d → d < 1000000000000 → Timed (lasting d)
 unfolding spanIn
 lasting-timed d lo hi = record { small = hi; is = rw (ne-eqb d 0 (λ e. let y : ⊥ = omega (arith, e) in y)) }
 
--- m is not below the line's end
-module _ (s : List ℕ) (m : ℕ) (long : length s ≤ m) where
+-- m is not below the line's end, or not below 256
+module _ (s : List ℕ) (m : ℕ) (room : min (length s) 256 ≤ m) where
   told : (at : ℕ) → at ≤ m → Told m (planTokenAt s at)
-  told at h = token-told s m at long h
+  told at h = token-told s m at room h
 
   -- row c at p
   row : {A : Type 0} {P : A → ℕ → Type 0} {p : ℕ} (c : ℕ) → p ≤ m → 1 ≤ c → c ≤ 18 → Given P (Placed m) (refused c p)

@@ -1,14 +1,15 @@
 // Which facts and numbers the conditions at a place of the code read: number x if `numeric`, else fact x. Every part of a condition counts.
+use evaluation::ends;
 use evaluation::reads;
 use evaluation::reads::Found;
 use grounds::Who;
 ghost use mathlib.Core.Path.{_≡_};
-ghost use mathlib.Core.Bool.{_||_, cond};
+ghost use mathlib.Core.Bool.{_||_};
 ghost use Prim.Native.Nat.{_+_, _≤_, _<_};
 ghost use lib.ListN.{length};
 ghost use Rattle.codes.specs.Decode.{atomAt, compareAt, singleAt, condsAt, condAt, conditionsAt, whenOf};
 ghost use Rattle.happenings.specs.Writes.{some, condReads};
-ghost use Rattle.happenings.specs.Happening.{partsFor, sameTime};
+ghost use Rattle.happenings.specs.Happening.{partsFor};
 ghost use Rattle.grounds.specs.Grounded.{objectsIn, groundsIn};
 ghost use Rattle.readings.specs.Read.{condFound, condsFound};
 
@@ -184,17 +185,7 @@ fn conds_read<'a>(
     }
 }
 
-// With one part more: it counts if the time that its first cell says is the wanted one.
-fn with_part(found: bool, tag: usize, time: usize, part: bool) -> bool
-    ensures { λ r. ⌜ r ≡ cond (sameTime (whenOf tag) (whenOf time)) (found || part) found ⌝ }
-{
-    if grounds::time_of(tag) == grounds::time_of(time) {
-        return either(found, part);
-    }
-    found
-}
-
-// Whether the conditions for a time, among the parts from a place on, read fact or number x.
+// Whether the conditions for a time, among the parts from a place on, read fact or number x; a part for another time is passed over.
 pub fn read<'a>(
     code: &'a [u8],
     firsts: &'a [u16],
@@ -206,6 +197,7 @@ pub fn read<'a>(
 ) -> bool
     ensures { λ r. ⌜ r ≡ some (condReads (groundsIn (now (firsts .entry))) (objectsIn who) numeric x) (partsFor (whenOf time) (conditionsAt (now (code .entry)) at .tree)) ⌝ }
 {
+    let wanted = grounds::time_of(time);
     let mut found = false;
     let mut i = at;
     let mut left = code.len();
@@ -217,10 +209,14 @@ pub fn read<'a>(
         if tag == 0 {
             return found;
         }
-        let v = cond_reads(code, firsts, who, i + 1, 16, numeric, x);
-        found = with_part(found, tag, time, v.found);
-        i = v.next;
         left -= 1;
+        if grounds::time_of(tag) != wanted {
+            i = ends::cond_end(code, i + 1, 16);
+            continue;
+        }
+        let v = cond_reads(code, firsts, who, i + 1, 16, numeric, x);
+        found = either(found, v.found);
+        i = v.next;
     }
     found
 }

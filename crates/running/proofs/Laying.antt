@@ -24,38 +24,31 @@ rowsFrom f w l = map (rowAt w) (keep f l)
 -- the first i slots of l are gone through, and those that passed lie in the first j rows
 pub record Laying (f : Slot → Bool) (w : Slot → ℕ) (l : List Slot) (rows objects : List ℕ) (i j : ℕ) : Type 0 where
   pub behind : j ≤ i
-  pub long : length rows ≡ 256
-  pub wide : length objects ≡ 256
   pub counted : length (rowsFrom f w (take i l)) ≡ j
   pub laid : Laid rows objects 0 (rowsFrom f w (take i l))
 
-pub lay-none : (f : Slot → Bool) (w : Slot → ℕ) (l : List Slot) (rows objects : List ℕ) → length rows ≡ 256 → length objects ≡ 256 → Laying f w l rows objects 0 0
+pub lay-none : (f : Slot → Bool) (w : Slot → ℕ) (l : List Slot) (rows objects : List ℕ) → Laying f w l rows objects 0 0
 unfolding Laid
-lay-none f w l rows objects h k = record { behind = omega arith; long = h; wide = k; counted = refl; laid = tt }
+lay-none f w l rows objects = record { behind = omega arith; counted = refl; laid = tt }
 
-module _ {f : Slot → Bool} {w : Slot → ℕ} {l : List Slot} {rows objects : List ℕ} {i j : ℕ} (k : Laying f w l rows objects i j) (h : i < length l) where
-  abbrev s : Slot
-  s = getD l i noSlot
-
+-- s is the next slot
+module _ {f : Slot → Bool} {w : Slot → ℕ} {l : List Slot} {rows objects : List ℕ} {i j : ℕ} (k : Laying f w l rows objects i j) (h : i < length l) {s : Slot} (there : getD l i noSlot ≡ s) where
   more : rowsFrom f w (take (i + 1) l) ≡ rowsFrom f w (take i l) ++ rowsFrom f w (s ∷ [])
   more =
-      rw (add-one, take-suc l i noSlot h, keep-append f (take i l) (s ∷ [])) (map-append (rowAt w) (keep f (take i l)) (keep f (s ∷ [])))
+      rw (add-one, take-suc l i noSlot h, keep-append f (take i l) (getD l i noSlot ∷ []), there) (map-append (rowAt w) (keep f (take i l)) (keep f (s ∷ [])))
 
   -- a slot that passes is laid behind
-  pub lay-yes : {rows′ objects′ : List ℕ} → f s ≡ true
-      → ((r : List Row) → length r ≡ j → Laid rows objects 0 r → Laid rows′ objects′ 0 (r ++ rowAt w s ∷ [])) × (length rows′ ≡ 256) × (length objects′ ≡ 256)
+  pub lay-yes : {rows′ objects′ : List ℕ} → f s ≡ true → ((r : List Row) → length r ≡ j → Laid rows objects 0 r → Laid rows′ objects′ 0 (r ++ rowAt w s ∷ []))
       → Laying f w l rows′ objects′ (i + 1) (j + 1)
   lay-yes {rows′} {objects′} t e =
       let m : rowsFrom f w (take (i + 1) l) ≡ rowsFrom f w (take i l) ++ rowAt w s ∷ [] = rw t at more in
       record {
         behind = omega (arith, k .behind);
-        long = e .1;
-        wide = e .2;
         counted = rw m (omega (arith, length-append (rowsFrom f w (take i l)) (rowAt w s ∷ []), k .counted));
-        laid = rw m (e .0 (rowsFrom f w (take i l)) (k .counted) (k .laid));
+        laid = rw m (e (rowsFrom f w (take i l)) (k .counted) (k .laid));
       }
 
   pub lay-no : f s ≡ false → Laying f w l rows objects (i + 1) j
   lay-no t =
       let m : rowsFrom f w (take (i + 1) l) ≡ rowsFrom f w (take i l) = (rw t at more) ∙ append-nil (rowsFrom f w (take i l)) in
-      record { behind = omega (arith, k .behind); long = k .long; wide = k .wide; counted = rw m (k .counted); laid = rw m (k .laid) }
+      record { behind = omega (arith, k .behind); counted = rw m (k .counted); laid = rw m (k .laid) }

@@ -3,4 +3,5 @@ pub mod Fuel
 pub mod Instant
 pub mod Laying
 pub mod Rows
+pub mod Slots
 pub mod Underway

@@ -26,8 +26,9 @@ use Rattle.plans.specs.declared.Step.{Step}
 use Rattle.plans.specs.declared.Slot.{Slot}
 use Rattle.plans.proofs.Stored.{duration-back}
 use Rattle.waiting.specs.Waiting.{soundStep, soundAll}
+use Rattle.waiting.specs.Lent.{whenIn}
 use Rattle.waiting.proofs.Soundness.{sound-action, sound-keep}
-use Rattle.running.specs.Laid.{whenIn, whoOf, Laid}
+use Rattle.running.specs.Laid.{whoOf, Laid}
 use Rattle.rows.proofs.Rows.{byte-is}
 use Rattle.running.proofs.Laying.{rowAt, Laying}
 

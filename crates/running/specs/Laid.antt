@@ -2,7 +2,6 @@
 use mathlib.Core.Path.{_≡_}
 use Prim.Native.Nat.{ℕ, _+_, _*_}
 use mathlib.Core.List.{List, [], _∷_}
-use mathlib.Core.Bool.{Bool, cond}
 use lib.ListN.{getD}
 use Rattle.grounds.specs.declared.Who.{Who}
 use Rattle.instants.specs.Given.{whoIn}
@@ -12,9 +11,6 @@ use Rattle.plans.specs.declared.Step.{Step}
 pub record Row : Type 0 where
   pub step : Step
   pub when : ℕ
-
-abbrev pub whenIn : Bool → ℕ
-whenIn ends = cond ends 3 1
 
 abbrev pub whoOf : Step → Who
 whoOf x = record { a = x .a; b = x .b; c = x .c; d = x .d }

@@ -2,7 +2,7 @@
 pub mod layout;
 
 use happenings::Outcome;
-use waiting::Queue;
+use waiting::lent;
 ghost use mathlib.Core.Path.{_≡_};
 ghost use Prim.Native.Nat.{ℕ, _≤_, _<_};
 ghost use mathlib.Core.List.{List};
@@ -15,6 +15,7 @@ ghost use Rattle.happenings.specs.State.{State};
 ghost use Rattle.plans.specs.Plan.{at, instant, judged};
 ghost use Rattle.plans.specs.Machine.{underWay, drain};
 ghost use Rattle.waiting.specs.Waiting.{waiting, Sound, Timed};
+ghost use Rattle.waiting.specs.Lent.{queueIn};
 ghost use Rattle.running.specs.Running.{runIn, rulesIn};
 
 // The first failure and its time; or none, and the time of the last happening.
@@ -23,12 +24,13 @@ pub struct Past {
     pub time: usize,
 }
 
+// How many points still wait, and the run so far.
 pub struct Drained {
-    pub queue: Queue,
+    pub count: usize,
     pub past: Past,
 }
 
-// The happening at t, at which a point waits, and what spans it; after a failure nothing happens any more.
+// The happening at t, at which a point waits, and what spans it; after a failure nothing happens any more. The last four arrays are lent to be written in: the rows of points and of lines under way.
 fn happen_at<'a>(
     code: &'a [u8],
     starts: &'a [usize],
@@ -36,23 +38,25 @@ fn happen_at<'a>(
     facts: &mut [u8],
     numbers: &mut [i64],
     fresh: &mut [i64],
-    queue: Queue,
+    words: &'a [usize; 384],
+    objects: &'a [u8; 256],
+    count: usize,
     t: usize,
     past: Past,
+    points: &mut [usize; 256],
+    whos: &mut [u8; 256],
+    lines: &mut [usize; 256],
+    others: &mut [u8; 256],
 ) -> Past
-    requires { ⌜ Timed queue × (0 < length (at t (waiting queue))) × (length (now code) ≤ 32768) × (now fresh ≡ now numbers) ⌝ }
-    ensures { λ r. ⌜ ((c : Cond) (es : Table) (s : State) → Sound (length es) queue → length es ≤ 32 → runIn r (stateIn (now (facts .exit)) (now (numbers .exit))) ≡ instant (rulesIn (now (code .entry)) (now (starts .entry)) (now (firsts .entry)) c es s) t (at t (waiting queue)) (underWay t (waiting queue)) (runIn past (stateIn (now (facts .entry)) (now (numbers .entry))))) × (now (fresh .exit) ≡ now (numbers .exit)) ⌝ }
+    requires { ⌜ Timed (queueIn (now words) (now objects) count) × (0 < length (at t (waiting (queueIn (now words) (now objects) count)))) × (length (now code) ≤ 32768) × (now fresh ≡ now numbers) ⌝ }
+    ensures { λ r. ⌜ ((c : Cond) (es : Table) (s : State) → Sound (length es) (queueIn (now (words .entry)) (now (objects .entry)) count) → length es ≤ 32 → runIn r (stateIn (now (facts .exit)) (now (numbers .exit))) ≡ instant (rulesIn (now (code .entry)) (now (starts .entry)) (now (firsts .entry)) c es s) t (at t (waiting (queueIn (now (words .entry)) (now (objects .entry)) count))) (underWay t (waiting (queueIn (now (words .entry)) (now (objects .entry)) count))) (runIn past (stateIn (now (facts .entry)) (now (numbers .entry))))) × (now (fresh .exit) ≡ now (numbers .exit)) ⌝ }
 {
     let before = past.outcome;
     let Outcome::Done = before else {
         return past;
     };
-    let mut points = [0usize; 256];
-    let mut objects = [0u8; 256];
-    let mut lines = [0usize; 256];
-    let mut others = [0u8; 256];
-    let n = layout::lay_points(queue, t, &mut points, &mut objects);
-    let m = layout::lay_lines(queue, t, &mut lines, &mut others);
+    let n = layout::lay_points(words, objects, count, t, points, whos);
+    let m = layout::lay_lines(words, objects, count, t, lines, others);
     let outcome = instants::instant(
         code,
         starts,
@@ -60,11 +64,11 @@ fn happen_at<'a>(
         facts,
         numbers,
         fresh,
-        &points,
-        &objects,
+        points,
+        whos,
         n,
-        &lines,
-        &others,
+        lines,
+        others,
         m,
     );
     Past { outcome, time: t }
@@ -78,22 +82,44 @@ pub fn drain_below<'a>(
     facts: &mut [u8],
     numbers: &mut [i64],
     fresh: &mut [i64],
-    queue: Queue,
+    words: &mut [usize; 384],
+    objects: &mut [u8; 256],
+    count: usize,
     b: usize,
     past: Past,
+    points: &mut [usize; 256],
+    whos: &mut [u8; 256],
+    lines: &mut [usize; 256],
+    others: &mut [u8; 256],
 ) -> Drained
-    requires { ⌜ Timed queue × (length (now code) ≤ 32768) × (now fresh ≡ now numbers) ⌝ }
-    ensures { λ r. ⌜ ((c : Cond) (es : Table) (s : State) → Sound (length es) queue → length es ≤ 32 → (runIn (r .past) (stateIn (now (facts .exit)) (now (numbers .exit))), waiting (r .queue)) ≡ drain (rulesIn (now (code .entry)) (now (starts .entry)) (now (firsts .entry)) c es s) (length (waiting queue)) b (runIn past (stateIn (now (facts .entry)) (now (numbers .entry)))) (waiting queue)) × ((n : ℕ) → Sound n queue → Sound n (r .queue)) × (now (fresh .exit) ≡ now (numbers .exit)) ⌝ }
+    requires { ⌜ Timed (queueIn (now words) (now objects) count) × (length (now code) ≤ 32768) × (now fresh ≡ now numbers) ⌝ }
+    ensures { λ r. ⌜ ((c : Cond) (es : Table) (s : State) → Sound (length es) (queueIn (now (words .entry)) (now (objects .entry)) count) → length es ≤ 32 → (runIn (r .past) (stateIn (now (facts .exit)) (now (numbers .exit))), waiting (queueIn (now (words .exit)) (now (objects .exit)) (r .count))) ≡ drain (rulesIn (now (code .entry)) (now (starts .entry)) (now (firsts .entry)) c es s) (length (waiting (queueIn (now (words .entry)) (now (objects .entry)) count))) b (runIn past (stateIn (now (facts .entry)) (now (numbers .entry)))) (waiting (queueIn (now (words .entry)) (now (objects .entry)) count))) × ((n : ℕ) → Sound n (queueIn (now (words .entry)) (now (objects .entry)) count) → Sound n (queueIn (now (words .exit)) (now (objects .exit)) (r .count))) × (now (fresh .exit) ≡ now (numbers .exit)) ⌝ }
 {
-    let mut q = queue;
+    let mut n = count;
     let mut p = past;
-    let mut t = waiting::soonest_of(q, b);
+    let mut t = lent::soonest(words, n, b);
     while t < b {
-        p = happen_at(code, starts, firsts, facts, numbers, fresh, q, t, p);
-        q = waiting::later(q, t);
-        t = waiting::soonest_of(q, b);
+        p = happen_at(
+            code,
+            starts,
+            firsts,
+            facts,
+            numbers,
+            fresh,
+            words,
+            objects,
+            n,
+            t,
+            p,
+            points,
+            whos,
+            lines,
+            others,
+        );
+        n = lent::later(words, objects, n, t);
+        t = lent::soonest(words, n, b);
     }
-    Drained { queue: q, past: p }
+    Drained { count: n, past: p }
 }
 
 // "The last state of all meets the goal."

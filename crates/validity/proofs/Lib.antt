@@ -1,4 +1,4 @@
--- `valid` is answered exactly where a plan is valid. Assumes nothing.
+-- `valid` is answered exactly where a plan is valid, and what a verdict tells lies in the plan. Assumes nothing.
 pub mod Lists
 pub mod Deciding
 pub mod Satisfied
@@ -12,3 +12,5 @@ pub mod Instant
 pub mod Times
 pub mod Exactly
 pub mod Answers
+pub mod Naming
+pub mod Verdicts

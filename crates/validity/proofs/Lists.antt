@@ -1,11 +1,12 @@
--- Laws of every element and of membership, and of the tests that find some element. Assumes nothing.
+-- Laws of every element, of membership and of a first failure, and of the tests that find some element. Assumes nothing.
 use mathlib.Core.Bool.{Bool, true, false, _||_}
-use mathlib.Core.List.{List, [], _∷_, _++_}
+use mathlib.Core.List.{List, [], _∷_, _++_, map}
 use mathlib.Core.Logic.{inl, inr}
 use mathlib.Core.Path.{_≡_, refl, sym, subst}
 use Rattle.happenings.specs.Writes.{some}
+use Rattle.plans.specs.Lists.{keep}
 use Rattle.plans.proofs.Lists.{all-append}
-use Rattle.validity.specs.Lists.{All, Pairwise, _∈_}
+use Rattle.validity.specs.Lists.{All, Pairwise, First, FirstPair, _∈_}
 
 pub or-left : (s t : Bool) → (s || t) ≡ false → s ≡ false
 or-left true t e = e
@@ -37,6 +38,29 @@ module _ {A : Type 0} where
   pub in-right : (x : A) (xs ys : List A) → x ∈ ys → x ∈ (xs ++ ys)
   in-right x [] ys i = i
   in-right x (y ∷ xs) ys i = inr (in-right x xs ys i)
+
+  pub all-kept : (P : A → Type 0) (f : A → Bool) (xs : List A) → All P xs → All P (keep f xs)
+  all-kept P f [] a = tt
+  all-kept P f (x ∷ xs) a = go (f x) refl (all-kept P f xs (a .1))
+    where
+      go : (b : Bool) → f x ≡ b → All P (keep f xs) → All P (keep f (x ∷ xs))
+      go true e ih = rw e (a .0, ih)
+      go false e ih = rw e ih
+
+  pub all-mapped : {B : Type 0} (P : B → Type 0) (f : A → B) (xs : List A) → All (λ x. P (f x)) xs → All P (map f xs)
+  all-mapped P f [] a = tt
+  all-mapped P f (x ∷ xs) a = (a .0, all-mapped P f xs (a .1))
+
+  -- what follows from the failure of some element, or of some two
+  pub first-in : {B : Type 0} {F : A → Type 0} (P : A → Type 0) (xs : List A) → ((x : A) → x ∈ xs → F x → B) → First P F xs → B
+  first-in P [] f h = absurd h
+  first-in P (x ∷ xs) f (inl h) = f x (inl refl) h
+  first-in P (x ∷ xs) f (inr h) = first-in P xs (λ y i. f y (inr i)) (h .1)
+
+  pub pair-in : {B : Type 0} {F : A → A → Type 0} (R : A → A → Type 0) (xs : List A) → ((x y : A) → x ∈ xs → y ∈ xs → F x y → B) → FirstPair R F xs → B
+  pair-in R [] f h = absurd h
+  pair-in R (x ∷ xs) f (inl h) = first-in (R x) xs (λ y i. f x y (inl refl) (inr i)) h
+  pair-in R (x ∷ xs) f (inr h) = pair-in R xs (λ y z i j. f y z (inr i) (inr j)) (h .1)
 
   -- two lists whose elements go together, each by itself and one with the other
   pub pairwise-append : (R : A → A → Type 0) (xs ys : List A) → Pairwise R xs → Pairwise R ys → All (λ x. All (R x) ys) xs → Pairwise R (xs ++ ys)

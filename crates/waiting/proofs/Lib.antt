@@ -3,3 +3,4 @@ pub mod Soundness
 pub mod Points
 pub mod Sifting
 pub mod Places
+pub mod LentPlaces

@@ -33,6 +33,10 @@ sound-queue n l h k = rw (queue-waits l k, queue-count l) (k, h)
 pub push-place : (l : List Slot) (n : ℕ) (s : Slot) → n < length l → take (n + 1) (set l n s) ≡ take n l ++ s ∷ []
 push-place l n s h = rw add-one (take-suc-set l n s h)
 
+-- a place filled from another list, with which it agrees before it
+pub push-same : (l k : List Slot) (i : ℕ) {m : List Slot} → i < length l → i < length k → m ≡ set l i (getD k i noSlot) → take i l ≡ take i k → take (i + 1) m ≡ take (i + 1) k
+push-same l k i hl hk there same = rw (there, push-place l i (getD k i noSlot) hl, same, add-one, take-suc k i noSlot hk)
+
 -- the first i places of l, and zeros behind
 abbrev pub cleaned : List Slot → ℕ → List Slot
 cleaned l i = take i l ++ replicate (64 - i) noSlot

@@ -1,8 +1,8 @@
 -- The definitions over a list of bytes, a step at a place of it. Assumes nothing.
 use mathlib.Core.Path.{_≡_, refl, sym, ap, ap₂, _∙_}
 use mathlib.Core.List.{List, [], _∷_}
-use mathlib.Core.Bool.{Bool, true, false, cond, _&&_}
-use Prim.Native.Nat.{ℕ, suc, _+_, _-_, _≤_, _<_, min}
+use mathlib.Core.Bool.{Bool, true, false, cond, _&&_, and-false}
+use Prim.Native.Nat.{ℕ, zero, suc, _+_, _-_, _≤_, _<_, min}
 use native.Mathlib.Nat.{add-zero, le-refl}
 use native.Mathlib.Numerals.{add-one}
 use native.Mathlib.Omega.{arith}
@@ -23,21 +23,42 @@ at-cons s p h = rw (add-one, drop-cons s p 0)
 
 -- ---- sameWord
 
-pub same-both : (a b : List ℕ) (i : ℕ) → i < length a → i < length b
+same-both : (a b : List ℕ) (i : ℕ) → i < length a → i < length b
     → sameWord (drop i a) (drop i b) ≡ (eqb (lowerOf (getD a i 0)) (lowerOf (getD b i 0)) && sameWord (drop (i + 1) a) (drop (i + 1) b))
 unfolding sameWord
 same-both a b i h k = ap₂ (λ (l m : List ℕ). sameWord l m) (at-cons a i h) (at-cons b i k)
 
-pub same-short : (a b : List ℕ) (i : ℕ) → i < length a → length b ≤ i → sameWord (drop i a) (drop i b) ≡ false
+pub same-over : (a b : List ℕ) (i : ℕ) → length a ≤ i → length b ≤ i → sameWord (drop i a) (drop i b) ≡ true
 unfolding sameWord
-same-short a b i h k = ap₂ (λ (l m : List ℕ). sameWord l m) (at-cons a i h) (drop-of-length-le b k)
+same-over a b i h k = ap₂ (λ (l m : List ℕ). sameWord l m) (drop-of-length-le a h) (drop-of-length-le b k)
 
-pub same-over : (a b : List ℕ) (i : ℕ) → length a ≤ i → sameWord (drop i a) (drop i b) ≡ leb (length b) i
+-- words of other lengths are other words
+pub same-length : (a b : List ℕ) → (length a ≡ length b → ⊥) → sameWord a b ≡ false
 unfolding sameWord
-same-over a b i h = elim (decLe (length b) i) [
-  | yes k ↦ ap₂ (λ (l m : List ℕ). sameWord l m) (drop-of-length-le a h) (drop-of-length-le b k) ∙ sym (le-leb (length b) i k)
-  | no k ↦ ap₂ (λ (l m : List ℕ). sameWord l m) (drop-of-length-le a h) (at-cons b i (omega arith)) ∙ sym (lt-leb (length b) i (omega arith))
-]
+same-length [] [] h = absurd (h refl)
+same-length [] (y ∷ ys) h = refl
+same-length (x ∷ xs) [] h = refl
+same-length (x ∷ xs) (y ∷ ys) h = rw (same-length xs ys (λ e. h (ap suc e))) (and-false (eqb (lowerOf x) (lowerOf y)))
+
+-- words that differ from a place on are other words
+same-differ : (a b : List ℕ) (i : ℕ) → sameWord (drop i a) (drop i b) ≡ false → sameWord a b ≡ false
+unfolding sameWord
+same-differ a b zero h = h
+same-differ [] [] (suc i) h = h
+same-differ [] (y ∷ ys) (suc i) h = refl
+same-differ (x ∷ xs) [] (suc i) h = refl
+same-differ (x ∷ xs) (y ∷ ys) (suc i) h = rw (same-differ xs ys i h) (and-false (eqb (lowerOf x) (lowerOf y)))
+
+-- words that are the same from i on, and the byte before
+module _ (a b : List ℕ) (i : ℕ) (some : 0 < i) (h : i ≤ length a) (k : i ≤ length b) where
+  before : sameWord (drop (i - 1) a) (drop (i - 1) b) ≡ (eqb (lowerOf (getD a (i - 1) 0)) (lowerOf (getD b (i - 1) 0)) && sameWord (drop i a) (drop i b))
+  before = let e : i - 1 + 1 ≡ i = omega arith in rw e at (same-both a b (i - 1) (omega arith) (omega arith))
+
+  pub same-before : lowerOf (getD a (i - 1) 0) ≡ lowerOf (getD b (i - 1) 0) → sameWord (drop i a) (drop i b) ≡ true → sameWord (drop (i - 1) a) (drop (i - 1) b) ≡ true
+  same-before q t = before ∙ simp (eq-eqb _ _ q, t)
+
+  pub other-before : (lowerOf (getD a (i - 1) 0) ≡ lowerOf (getD b (i - 1) 0) → ⊥) → sameWord a b ≡ false
+  other-before q = same-differ a b (i - 1) (before ∙ simp (ne-eqb _ _ q))
 
 -- ---- names
 
@@ -196,6 +217,13 @@ module _ (rows w : List ℕ) (n i at : ℕ) where
     pub find-other : sameWord (take (at + 6 + k - (at + 6)) (drop (at + 6) rows)) w ≡ false
         → placeFrom i (namesOf (n - i) (drop at rows)) w ≡ placeFrom (i + 1) (namesOf (n - (i + 1)) (drop (at + 38) rows)) w
     find-other t = rw rows-at (word-other i _ w _ t)
+
+    -- a name of another length is another name
+    pub find-other-length : (k ≡ length w → ⊥) → placeFrom i (namesOf (n - i) (drop at rows)) w ≡ placeFrom (i + 1) (namesOf (n - (i + 1)) (drop (at + 38) rows)) w
+    find-other-length d =
+        let v = take (at + 6 + k - (at + 6)) (drop (at + 6) rows) in
+        let size : length v ≡ k = simp (length-take, length-drop) (omega arith) in
+        find-other (same-length v w (λ q. d (sym size ∙ q)))
 
 -- ---- a place behind the last word that is asked for
 

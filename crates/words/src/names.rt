@@ -13,7 +13,8 @@ fn length_in(b: u8) -> usize
     if b < 32 { b as usize } else { 32 }
 }
 
-// The number of the first of the table's first n names that is w.
+// The number of the first of the table's first n names that is w. Lengths first: most names of a table have another length,
+// and no byte of theirs is read.
 pub fn find(rows: &[u8], n: usize, w: &[u8]) -> Found
     ensures { λ r. ⌜ r ≡ placeFrom 0 (namesOf n (now (rows .entry))) (now (w .entry)) ⌝ }
 {
@@ -23,10 +24,13 @@ pub fn find(rows: &[u8], n: usize, w: &[u8]) -> Found
         if rows.len() - at < 38 {
             return Found::Nothing;
         }
-        let start = at + 6;
-        let end = start + length_in(rows[at]);
-        if spelling::same_word(&rows[start..end], w) {
-            return Found::At(i);
+        let size = length_in(rows[at]);
+        if size == w.len() {
+            let start = at + 6;
+            let end = start + size;
+            if spelling::same_word(&rows[start..end], w) {
+                return Found::At(i);
+            }
         }
         at += 38;
         i += 1;

@@ -21,20 +21,22 @@ pub fn is_at(f: Found) -> bool
     }
 }
 
+// Whether two words are the same. From the last byte to the first: names of a domain often begin alike, as `pump-1` and
+// `pump-2`, and the last byte tells them apart.
 pub fn same_word(a: &[u8], b: &[u8]) -> bool
     ensures { λ r. ⌜ r ≡ sameWord (now (a .entry)) (now (b .entry)) ⌝ }
 {
-    let mut i = 0;
-    while i < a.len() {
-        if b.len() <= i {
-            return false;
-        }
+    if a.len() != b.len() {
+        return false;
+    }
+    let mut i = a.len();
+    while 0 < i {
+        i -= 1;
         if bytes::lower(a[i]) != bytes::lower(b[i]) {
             return false;
         }
-        i += 1;
     }
-    b.len() <= i
+    true
 }
 
 // Whether a byte may stand in a name, behind its first letter.

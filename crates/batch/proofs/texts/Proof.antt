@@ -7,17 +7,23 @@ use Rattle.batch.proofs.texts.Tie as tie
 returns : tie.Need-returns
 returns c = search needs
 
-slice-aggregate-read-text : tie.Need-slice-aggregate-read-text
-slice-aggregate-read-text c = search needs
+slice-aggregate-read : tie.Need-slice-aggregate-read
+slice-aggregate-read c = search needs
 
-read-text-requires : tie.Need-read-text-requires
-read-text-requires c κs = search needs
+read-requires : tie.Need-read-requires
+read-requires c κs = search needs
 
-slice-aggregate-read-text-2 : tie.Need-slice-aggregate-read-text-2
-slice-aggregate-read-text-2 c = search needs
+returns-2 : tie.Need-returns-2
+returns-2 c = search needs
 
-read-text-requires-2 : tie.Need-read-text-requires-2
-read-text-requires-2 c κs = search needs
+slice-aggregate-read-2 : tie.Need-slice-aggregate-read-2
+slice-aggregate-read-2 c = search needs
+
+read-requires-2 : tie.Need-read-requires-2
+read-requires-2 c κs = search needs
+
+returns-3 : tie.Need-returns-3
+returns-3 c = search needs
 
 slice-aggregate-part-of : tie.Need-slice-aggregate-part-of
 slice-aggregate-part-of c = search needs
@@ -35,16 +41,10 @@ load-requires : tie.Need-load-requires
 load-requires c κs = search needs
 
 feed-requires : tie.Need-feed-requires
-feed-requires c κs = omega (arith, c .before .before .before .before .before .before .before .before .before .before .before .before .before .if1 .left)
+feed-requires c κs = omega (arith, c .before .before .before .before .before .before .before .before .before .before .before .before .before .before .before .if1 .left)
 
 write-requires : tie.Need-write-requires
 write-requires c κs = search needs
-
-returns-2 : tie.Need-returns-2
-returns-2 c = search needs
-
-returns-3 : tie.Need-returns-3
-returns-3 c = search needs
 
 returns-4 : tie.Need-returns-4
 returns-4 c = search needs
@@ -57,10 +57,12 @@ texts-spec =
     tie.close
     (tie.spec
     returns
-    slice-aggregate-read-text
-    read-text-requires
-    slice-aggregate-read-text-2
-    read-text-requires-2
+    slice-aggregate-read
+    read-requires
+    returns-2
+    slice-aggregate-read-2
+    read-requires-2
+    returns-3
     slice-aggregate-part-of
     part-of-requires
     slice-aggregate-part-of-2
@@ -68,7 +70,5 @@ texts-spec =
     load-requires
     feed-requires
     write-requires
-    returns-2
-    returns-3
     returns-4
     returns-5)

@@ -10,6 +10,7 @@ use Rattle.happenings.specs.State.{State}
 use Rattle.judgement.specs.Judged.{stateIn}
 use Rattle.plans.specs.Machine.{soonest, drain}
 use Rattle.waiting.specs.Waiting.{waiting, Sound, Timed}
+use Rattle.waiting.specs.Lent.{queueIn}
 use Rattle.running.specs.Running.{runIn, rulesIn}
 use Rattle.plans.proofs.Drain.{drain-done}
 use Rattle.running.proofs.Fuel.{some-at, shrinks, round}
@@ -17,7 +18,9 @@ use Rattle.running.proofs.drain_below.Statement.{statement}
 use Rattle.running.proofs.drain_below.Tie as tie
 
 abbrev Inv-loop : tie.InvT-loop
-Inv-loop code starts firsts facts₀ numbers₀ fresh₀ b q₀ p₀ t₀ facts numbers fresh q p t =
+Inv-loop code starts firsts facts₀ numbers₀ fresh₀ words₀ objects₀ count b points₀ whos₀ lines₀ others₀ n₀ p₀ t₀ facts numbers fresh words objects points whos lines others n p t =
+    let q₀ = queueIn words₀ objects₀ n₀ in
+    let q = queueIn words objects n in
     Timed q
     × (t ≡ soonest b (waiting q))
     × ((c : Cond) (es : Table) (s : State) → Sound (length es) q₀ → length es ≤ 32
@@ -30,46 +33,54 @@ Inv-loop code starts firsts facts₀ numbers₀ fresh₀ b q₀ p₀ t₀ facts 
     × (length fresh ≡ length fresh₀)
 
 abbrev μ-loop : tie.MeasureT-loop
-μ-loop code starts firsts facts₀ numbers₀ fresh₀ b q₀ p₀ t₀ facts numbers fresh q p t = length (waiting q)
+μ-loop code starts firsts facts₀ numbers₀ fresh₀ words₀ objects₀ count b points₀ whos₀ lines₀ others₀ n₀ p₀ t₀ facts numbers fresh words objects points whos lines others n p t = length (waiting (queueIn words objects n))
 
-soonest-of-requires : tie.Need-soonest-of-requires Inv-loop μ-loop
-soonest-of-requires c κs = c .before .before .before .before .pre .0
+soonest-requires : tie.Need-soonest-requires Inv-loop μ-loop
+soonest-requires c κs =
+    let start = c .before .before .before .before .before in
+    (now (start .args .objects), start .pre .0)
 
 loop-holds : tie.Need-loop-holds Inv-loop μ-loop
-loop-holds c = (c .before .before .before .before .before .pre .0, c .soonest-of .ensures, λ _ _ _ _ _. refl, λ n h. h, c .before .before .before .before .before .pre .2, refl, refl, refl)
+loop-holds c =
+    let start = c .before .before .before .before .before .before in
+    (start .pre .0, c .soonest .ensures (now (start .args .objects)), λ _ _ _ _ _. refl, λ n h. h, start .pre .2, refl, refl, refl)
 
 happen-at-requires : tie.Need-happen-at-requires Inv-loop μ-loop
 happen-at-requires c κs =
-    let k = c .before .before .before .before .loop in
-    (k .inv .0, some-at (k .t) (c .before .before .before .before .before .before .before .before .before .before .args .b) (waiting (k .q)) (k .inv .1) (c .before .before .before .loop-test .taken), c .before .before .before .before .before .before .before .before .before .before .pre .1, k .inv .4)
+    let k = c .before .before .before .before .before .before .before .before .before .before .loop in
+    let start = c .before .before .before .before .before .before .before .before .before .before .before .before .before .before .before .before .before in
+    (k .inv .0, some-at (k .t) (start .args .b) (waiting (queueIn (k .words) (k .objects) (k .n))) (k .inv .1) (c .before .before .before .before .before .before .before .before .before .loop-test .taken), start .pre .1, k .inv .4)
 
 later-requires : tie.Need-later-requires Inv-loop μ-loop
-later-requires c κs = c .before .before .before .before .before .before .before .before .before .loop .inv .0
+later-requires c κs = c .before .before .before .before .before .before .before .before .before .before .before .before .before .before .before .before .before .loop .inv .0
 
-soonest-of-requires-2 : tie.Need-soonest-of-requires-2 Inv-loop μ-loop
-soonest-of-requires-2 c κs =
-    let timed = c .before .before .before .before .before .before .before .before .before .before .loop .inv .0 in
-    (timed .0, c .later .ensures .1 (timed .0) (timed .1))
+soonest-requires-2 : tie.Need-soonest-requires-2 Inv-loop μ-loop
+soonest-requires-2 c κs =
+    let timed = c .before .before .before .before .before .before .before .before .before .before .before .before .before .before .before .before .before .before .before .loop .inv .0 in
+    let gone = c .before .later in
+    (gone .last .1 .0, (timed .0, gone .ensures .1 (timed .0) (timed .1)))
 
 loop-less : tie.Need-loop-less Inv-loop μ-loop
 loop-less c =
-    let k = c .before .before .before .before .before .before .before .before .before .before .before .loop in
-    shrinks (c .before .before .before .before .before .before .before .before .before .before .before .before .before .before .before .before .before .args .b) (waiting (k .q)) (k .inv .1) (c .before .before .before .before .before .before .before .before .before .before .loop-test .taken) (c .before .later .ensures .0)
+    let k = c .before .before .before .before .before .before .before .before .before .before .before .before .before .before .before .before .before .before .before .before .loop in
+    shrinks (c .before .before .before .before .before .before .before .before .before .before .before .before .before .before .before .before .before .before .before .before .before .before .before .before .before .before .before .args .b) (waiting (queueIn (k .words) (k .objects) (k .n))) (k .inv .1) (c .before .before .before .before .before .before .before .before .before .before .before .before .before .before .before .before .before .before .before .loop-test .taken) (c .before .before .later .ensures .0)
 
 loop-again : tie.Need-loop-again Inv-loop μ-loop
 loop-again c =
-    let a = c .before .before .before .before .before .before .before .before .before .before .before .before .before .before .before .before .before .args in
-    let k = c .before .before .before .before .before .before .before .before .before .before .before .loop in
-    let v = k .inv in (
-      (v .0 .0, c .before .later .ensures .1 (v .0 .0) (v .0 .1)),
-      c .soonest-of2 .ensures,
-      λ goal es s sound few. round (a .b) (waiting (k .q)) (v .1) (c .before .before .before .before .before .before .before .before .before .before .loop-test .taken) (c .before .later .ensures .0)
-          (rulesIn (now (a .code)) (now (a .starts)) (now (a .firsts)) goal es s) (runIn (k .p) (stateIn (k .facts) (k .numbers))) (c .before .before .before .before .before .before .happen-at .ensures .0 goal es s (v .3 (length es) sound) few) (v .2 goal es s sound few),
-      λ n h. c .before .later .ensures .1 n (v .3 n h),
-      c .before .before .before .before .before .before .happen-at .ensures .1,
-      c .before .before .before .before .before .facts .given ∙ v .5,
-      c .before .before .before .numbers .given ∙ v .6,
-      c .before .before .fresh .given ∙ v .7,
+    let a = c .before .before .before .before .before .before .before .before .before .before .before .before .before .before .before .before .before .before .before .before .before .before .before .before .before .before .before .args in
+    let k = c .before .before .before .before .before .before .before .before .before .before .before .before .before .before .before .before .before .before .before .before .loop in
+    let v = k .inv in
+    let happened = c .before .before .before .before .before .before .before .before .before .happen-at .ensures in
+    let gone = c .before .before .later in (
+      (v .0 .0, gone .ensures .1 (v .0 .0) (v .0 .1)),
+      c .soonest2 .ensures (gone .last .1 .0),
+      λ goal es s sound few. round (a .b) (waiting (queueIn (k .words) (k .objects) (k .n))) (v .1) (c .before .before .before .before .before .before .before .before .before .before .before .before .before .before .before .before .before .before .before .loop-test .taken) (gone .ensures .0)
+          (rulesIn (now (a .code)) (now (a .starts)) (now (a .firsts)) goal es s) (runIn (k .p) (stateIn (k .facts) (k .numbers))) (happened .0 goal es s (v .3 (length es) sound) few) (v .2 goal es s sound few),
+      λ n h. gone .ensures .1 n (v .3 n h),
+      happened .1,
+      c .before .before .before .before .before .before .before .before .facts .given ∙ v .5,
+      c .before .before .before .before .before .before .numbers .given ∙ v .6,
+      c .before .before .before .before .before .fresh .given ∙ v .7,
     )
 
 same-length : tie.Need-same-length Inv-loop μ-loop
@@ -83,11 +94,12 @@ same-length-3 c = c .before .loop .inv .7
 
 returns : tie.Need-returns Inv-loop μ-loop
 returns c =
-    let a = c .before .before .before .before .before .before .before .args in
+    let a = c .before .before .before .before .before .before .before .before .args in
     let k = c .before .loop in
+    let waits = waiting (queueIn (k .words) (k .objects) (k .n)) in
     let v = k .inv in
-    let l : a .b ≤ soonest (a .b) (waiting (k .q)) = omega (arith, v .1) in (
-      λ goal es s sound few. sym (drain-done (rulesIn (now (a .code)) (now (a .starts)) (now (a .firsts)) goal es s) (a .b) (length (waiting (k .q))) (runIn (k .p) (stateIn (k .facts) (k .numbers))) (waiting (k .q)) l) ∙ v .2 goal es s sound few,
+    let l : a .b ≤ soonest (a .b) waits = omega (arith, v .1) in (
+      λ goal es s sound few. sym (drain-done (rulesIn (now (a .code)) (now (a .starts)) (now (a .firsts)) goal es s) (a .b) (length waits) (runIn (k .p) (stateIn (k .facts) (k .numbers))) waits l) ∙ v .2 goal es s sound few,
       v .3,
       v .4,
     )
@@ -98,11 +110,11 @@ drain-below-spec =
     (tie.spec
     Inv-loop
     μ-loop
-    soonest-of-requires
+    soonest-requires
     loop-holds
     happen-at-requires
     later-requires
-    soonest-of-requires-2
+    soonest-requires-2
     loop-less
     loop-again
     same-length

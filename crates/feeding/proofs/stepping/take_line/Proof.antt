@@ -20,6 +20,8 @@ use Rattle.plans.specs.Lines.{Known, lineAt}
 use Rattle.lines.specs.Knowing.{knownIn}
 use Rattle.lines.specs.Steps.{Lined}
 use Rattle.running.specs.Running.{rulesIn}
+use Rattle.waiting.specs.Lent.{queueIn}
+use Rattle.waiting.specs.declared.Queue.{Queue}
 use Rattle.waiting.proofs.Soundness.{sound-step-of}
 use Rattle.feeding.specs.declared.Progress.{Progress}
 use Rattle.feeding.specs.Feeding.{checkIn}
@@ -44,6 +46,9 @@ rules c g s = rulesIn (now (c .args .code)) (now (c .args .starts)) (now (c .arg
 
 abbrev first : tie.Start → State
 first c = stateIn (now (c .args .facts)) (now (c .args .numbers))
+
+abbrev before : tie.Start → Queue
+before c = queueIn (now (c .args .words)) (now (c .args .objects)) (c .args .count)
 
 -- the line's bytes, and what the definition reads in them
 abbrev text : tie.Start → List ℕ
@@ -92,10 +97,10 @@ enum-known-l-2 c = search needs
 
 take-step-requires : tie.Need-take-step-requires
 take-step-requires c κs =
-    let v = c .before .before .before .before .before .before in
+    let v = c .before .before .before .before .before .before .before .before .before .before .before .before in
     let a = start v .args in
     let pre = start v .pre in
-    let l = c .before .before .before .before .l2 .given in
+    let l = c .before .before .before .before .before .before .before .before .before .before .l2 .given in
     let y = l .0 .0 in
     let g = lined-read (a .acting) (v .line-at .result) y (found (start v)) (l .1) (lined v) in
     let n = read-line (text (start v)) (known (start v)) (a .p .number) (a .p .start) (a .acting) y g in
@@ -107,7 +112,7 @@ returns c =
     let v = c .before .before in
     let a = start v .args in
     let pre = start v .pre in (
-      λ g s. taken-blank (rules (start v) g s) (first (start v)) (a .queue) (a .p) (pre .3) (a .acting) (v .line-at .result)
+      λ g s. taken-blank (rules (start v) g s) (first (start v)) (before (start v)) (a .p) (pre .3) (a .acting) (v .line-at .result)
           (found (start v)) (lined v) (c .enum-told .given .1),
       pre .2,
       refl,
@@ -121,7 +126,7 @@ returns-2 c =
     let pre = start v .pre in
     let e = c .before .before .l .given in
     let r = c .refuse in (
-      λ g s. taken-refusal (rules (start v) g s) (first (start v)) (a .queue) (a .p) (pre .3) (a .acting) (v .line-at .result)
+      λ g s. taken-refusal (rules (start v) g s) (first (start v)) (before (start v)) (a .p) (pre .3) (a .acting) (v .line-at .result)
           (found (start v)) (lined v) (r .result) (e .0 .0) (e .0 .1 .0) (e .1) (r .ensures),
       rw (r .ensures) (pre .2),
       ap (λ (w : Progress). w .number) (r .ensures),
@@ -139,16 +144,17 @@ same-length-3 c = search needs
 
 returns-3 : tie.Need-returns-3
 returns-3 c =
-    let v = c .before .before .before .before .before .before .before .before .before .before .before in
+    let v = c .before .before .before .before .before .before .before .before .before .before .before .before .before .before .before .before .before in
     let a = start v .args in
     let pre = start v .pre in
-    let l = c .before .before .before .before .before .before .before .before .before .l2 .given in
+    let l = c .before .before .before .before .before .before .before .before .before .before .before .before .before .before .before .l2 .given in
     let y = l .0 .0 in
     let t = c .before .before .before .before .take-step in
     let i = lined-read (a .acting) (v .line-at .result) y (found (start v)) (l .1) (lined v) .within in
     let n = signed-length (now (a .heads)) (a .acting) in
-    let new = checkIn (stateIn (t .last .1 .1 .1 .0) (t .last .1 .1 .1 .1 .0)) (t .result .queue) (t .result .progress) in (
-      λ g s. taken-step (rules (start v) g s) (first (start v)) (a .queue) (a .p) (pre .3) (a .acting) (v .line-at .result)
+    let left = queueIn (t .last .1 .1 .1 .1 .1 .1 .0) (t .last .1 .1 .1 .1 .1 .1 .1 .0) (t .result .count) in
+    let new = checkIn (stateIn (t .last .1 .1 .1 .0) (t .last .1 .1 .1 .1 .0)) left (t .result .progress) in (
+      λ g s. taken-step (rules (start v) g s) (first (start v)) (before (start v)) (a .p) (pre .3) (a .acting) (v .line-at .result)
           (found (start v)) (lined v) new y (l .1)
           (t .ensures .0 g (heads (start v)) s (rw n (pre .2 .0)) (rw n (pre .1 .1))),
       (

@@ -12,7 +12,9 @@ use Rattle.happenings.specs.declared.Outcome.{Outcome}
 use Rattle.plans.specs.Plan.{Rules}
 use Rattle.plans.specs.Promised.{Act}
 use Rattle.running.specs.Running.{rulesIn}
-use Rattle.waiting.proofs.Places.{length-mapped}
+use Rattle.waiting.specs.Lent.{queueIn}
+use Rattle.waiting.specs.declared.Queue.{Queue}
+use Rattle.waiting.proofs.LentPlaces.{slots-long}
 use Rattle.feeding.specs.declared.Progress.{Progress}
 use Rattle.feeding.proofs.Taking.{points-few, crowded, admitted}
 use borrow.Author.Needs.{needs}
@@ -20,7 +22,7 @@ use Rattle.feeding.proofs.stepping.take_step.Statement.{statement}
 use Rattle.feeding.proofs.stepping.take_step.Tie as tie
 
 abbrev start : tie.After-drain-below → tie.Start
-start c = c .before .before .before .before .before .before .before .before
+start c = c .before .before .before .before .before .before .before .before .before .before .before .before .before .before
 
 abbrev rules : tie.Start → Cond → Table → State → Rules State Act Outcome
 rules c g es s = rulesIn (now (c .args .code)) (now (c .args .starts)) (now (c .args .firsts)) g es s
@@ -32,24 +34,33 @@ there c = stateIn (c .drain-below .last .1 .1 .1 .0) (c .drain-below .last .1 .1
 abbrev first : tie.Start → State
 first c = stateIn (now (c .args .facts)) (now (c .args .numbers))
 
--- the queue that is left has all its places, and no more points than places
-long : (c : tie.After-drain-below) → length (c .drain-below .result .queue .slots) ≡ 64
-long c = search (needs, length-mapped)
+-- the points that wait before, and those that are left
+abbrev before : tie.Start → Queue
+before c = queueIn (now (c .args .words)) (now (c .args .objects)) (c .args .count)
 
-few : (c : tie.After-drain-below) → c .drain-below .result .queue .count ≤ 64
+abbrev left : tie.After-drain-below → Queue
+left c = let d = c .drain-below in queueIn (d .last .1 .1 .1 .1 .1 .1 .0) (d .last .1 .1 .1 .1 .1 .1 .1 .0) (d .result .count)
+
+-- they have all their places, and are no more than places
+long : (c : tie.After-drain-below) → length (left c .slots) ≡ 64
+long c = let d = c .drain-below in slots-long (d .last .1 .1 .1 .1 .1 .1 .0) (d .last .1 .1 .1 .1 .1 .1 .1 .0)
+
+few : (c : tie.After-drain-below) → c .drain-below .result .count ≤ 64
 few c = let t = start c .pre .0 in c .drain-below .ensures .1 (t .0) (t .1) .0
 
 drain-below-requires : tie.Need-drain-below-requires
-drain-below-requires c κs = search needs
+drain-below-requires c κs =
+    let s = c .before .before .before .before .before .before .before .before .before .before .before .before .before in
+    (s .pre .0, s .pre .5, s .pre .6)
 
 points-of-requires : tie.Need-points-of-requires
 points-of-requires c κs = search needs
 
 add-if1 : tie.Need-add-if1
 add-if1 c =
-    let v = c .before .before .before .before .before .before .before in
+    let v = c .before .before .before .before .before in
     let k = few v in
-    let e : c .before .points-of .result ≤ 2 = rw (c .before .points-of .ensures) (points-few (start v .args .x)) in
+    let e : c .points-of .result ≤ 2 = rw (c .points-of .ensures) (points-few (start v .args .x)) in
     search needs
 
 add-refuse : tie.Need-add-refuse
@@ -69,13 +80,13 @@ same-length-3 c = search needs
 
 returns : tie.Need-returns
 returns c =
-    let v = c .before .before .before .before .before .before .before .before .before .before in
+    let v = c .before .before .before .before .before .before .before .before in
     let a = start v .args in
     let d = v .drain-below in
     let r = c .refuse in (
-      λ g es s h k. crowded (d .result .queue) (a .x) (rules (start v) g es s) (a .queue) (first (start v)) (there v) (d .result .past) (a .p) (r .result)
+      λ g es s h k. crowded (left v) (a .x) (rules (start v) g es s) (before (start v)) (first (start v)) (there v) (d .result .past) (a .p) (r .result)
           (d .ensures .0 g es s h k) (long v) (few v) (r .ensures)
-          (omega (arith, c .before .before .if1 .taken, c .before .before .before .before .points-of .ensures)) (start v .pre .2),
+          (omega (arith, c .before .before .if1 .taken, c .before .before .before .points-of .ensures)) (start v .pre .2),
       λ n h k. d .ensures .1 n h,
       ap (λ (w : Progress). w .used) (r .ensures),
       ap (λ (w : Progress). w .number) (r .ensures),
@@ -84,7 +95,7 @@ returns c =
     )
 
 enter-requires : tie.Need-enter-requires
-enter-requires c κs = search needs
+enter-requires c κs = omega (arith, c .before .before .if1 .left, c .before .before .before .points-of .ensures)
 
 begun-requires : tie.Need-begun-requires
 begun-requires c κs = search needs
@@ -105,9 +116,9 @@ returns-2 c =
     let d = v .drain-below in
     let r = c .begun in
     let e = c .before .enter in (
-      λ g es s h k. admitted (d .result .queue) (a .x) (rules (start v) g es s) (a .queue) (first (start v)) (there v) (d .result .past) (a .p) (r .result)
-          (d .ensures .0 g es s h k) (long v) (few v) (e .result) (r .ensures)
-          (omega (arith, c .before .before .if1 .left, c .before .before .before .before .points-of .ensures)) (e .ensures .0) (start v .pre .1),
+      λ g es s h k. admitted (left v) (a .x) (rules (start v) g es s) (before (start v)) (first (start v)) (there v) (d .result .past) (a .p) (r .result)
+          (d .ensures .0 g es s h k) (long v) (few v) (queueIn (e .last .0) (e .last .1 .0) (e .result)) (r .ensures)
+          (omega (arith, c .before .before .before .before .if1 .left, c .before .before .before .before .before .points-of .ensures)) (e .ensures .0) (start v .pre .1),
       λ n h k. e .ensures .1 n (d .ensures .1 n h) k,
       ap (λ (w : Progress). w .used) (r .ensures),
       ap (λ (w : Progress). w .number) (r .ensures),

@@ -1,6 +1,7 @@
 -- `instants::applying::write_points` meets its contract. Assumes nothing.
 use denote.Ref.{now}
 use mathlib.Core.Path.{_≡_, refl, ap, _∙_}
+use mathlib.Core.Bool.{_||_}
 use native.Mathlib.Omega.{arith}
 use Prim.Native.Nat.{_-_}
 use lib.ListN.{length}
@@ -8,20 +9,21 @@ use borrow.Author.Needs.{needs}
 use Rattle.grounds.specs.Grounded.{groundsIn}
 use Rattle.instants.specs.Given.{pointsIn}
 use Rattle.instants.proofs.Places.{points-all}
+use Rattle.happenings.specs.Writes.{some}
 use Rattle.happenings.specs.Happening.{eachMark, allMarks}
-use Rattle.changes.specs.Changing.{writeFact}
-use Rattle.instants.proofs.Applied.{write-end, write-turn}
+use Rattle.changes.specs.Changing.{writeFact, adds}
+use Rattle.instants.proofs.Applied.{write-end, write-turn, adds-end, adds-turn}
 use Rattle.instants.proofs.applying.write_points.Statement.{statement}
 use Rattle.instants.proofs.applying.write_points.Tie as tie
 
 abbrev Inv-loop : tie.InvT-loop
-Inv-loop code starts firsts facts₀ points objects n add j₀ facts j = (eachMark (writeFact add) facts (allMarks (groundsIn firsts) (pointsIn code starts points objects (n - j) j)) ≡ eachMark (writeFact add) facts₀ (allMarks (groundsIn firsts) (pointsIn code starts points objects n 0))) × (length facts ≡ length facts₀)
+Inv-loop code starts firsts facts₀ points objects n add any₀ j₀ facts any j = (eachMark (writeFact add) facts (allMarks (groundsIn firsts) (pointsIn code starts points objects (n - j) j)) ≡ eachMark (writeFact add) facts₀ (allMarks (groundsIn firsts) (pointsIn code starts points objects n 0))) × (length facts ≡ length facts₀) × ((any || some adds (allMarks (groundsIn firsts) (pointsIn code starts points objects (n - j) j))) ≡ some adds (allMarks (groundsIn firsts) (pointsIn code starts points objects n 0)))
 
 abbrev μ-loop : tie.MeasureT-loop
-μ-loop code starts firsts facts₀ points objects n add j₀ facts j = n - j
+μ-loop code starts firsts facts₀ points objects n add any₀ j₀ facts any j = n - j
 
 loop-holds : tie.Need-loop-holds Inv-loop μ-loop
-loop-holds c = (ap (λ x. eachMark (writeFact (c .before .before .before .before .before .before .args .add)) (now (c .before .before .before .before .before .before .args .facts)) (allMarks (groundsIn (now (c .before .before .before .before .before .before .args .firsts))) x)) (points-all (now (c .before .before .before .before .before .before .args .code)) (now (c .before .before .before .before .before .before .args .starts)) (now (c .before .before .before .before .before .before .args .points)) (now (c .before .before .before .before .before .before .args .objects)) (c .before .before .before .before .before .before .args .n)), refl)
+loop-holds c = (ap (λ x. eachMark (writeFact (c .before .before .before .before .before .before .args .add)) (now (c .before .before .before .before .before .before .args .facts)) (allMarks (groundsIn (now (c .before .before .before .before .before .before .args .firsts))) x)) (points-all (now (c .before .before .before .before .before .before .args .code)) (now (c .before .before .before .before .before .before .args .starts)) (now (c .before .before .before .before .before .before .args .points)) (now (c .before .before .before .before .before .before .args .objects)) (c .before .before .before .before .before .before .args .n)), refl, ap (λ x. some adds (allMarks (groundsIn (now (c .before .before .before .before .before .before .args .firsts))) x)) (points-all (now (c .before .before .before .before .before .before .args .code)) (now (c .before .before .before .before .before .before .args .starts)) (now (c .before .before .before .before .before .before .args .points)) (now (c .before .before .before .before .before .before .args .objects)) (c .before .before .before .before .before .before .args .n)))
 
 point-at-requires : tie.Need-point-at-requires Inv-loop μ-loop
 point-at-requires c κs = omega arith
@@ -36,13 +38,13 @@ loop-less : tie.Need-loop-less Inv-loop μ-loop
 loop-less c = omega arith
 
 loop-again : tie.Need-loop-again Inv-loop μ-loop
-loop-again c = (write-turn (groundsIn (now (c .before .before .before .before .before .before .before .before .before .before .before .before .before .before .args .firsts))) (now (c .before .before .before .before .before .before .before .before .before .before .before .before .before .before .args .code)) (now (c .before .before .before .before .before .before .before .before .before .before .before .before .before .before .args .starts)) (now (c .before .before .before .before .before .before .before .before .before .before .before .before .before .before .args .points)) (now (c .before .before .before .before .before .before .before .before .before .before .before .before .before .before .args .objects)) (c .before .before .before .before .before .before .before .before .before .before .before .before .before .before .args .n) (c .before .before .before .before .before .before .before .loop .j) (c .before .before .before .before .before .before .loop-test .taken) (c .before .before .before .before .before .point-at .ensures) (writeFact (c .before .before .before .before .before .before .before .before .before .before .before .before .before .before .args .add)) (c .before .before .before .before .before .before .before .loop .facts) (c .before .before .write-facts .ensures) ∙ c .before .before .before .before .before .before .before .loop .inv .0, search needs)
+loop-again c = (write-turn (groundsIn (now (c .before .before .before .before .before .before .before .before .before .before .before .before .before .before .args .firsts))) (now (c .before .before .before .before .before .before .before .before .before .before .before .before .before .before .args .code)) (now (c .before .before .before .before .before .before .before .before .before .before .before .before .before .before .args .starts)) (now (c .before .before .before .before .before .before .before .before .before .before .before .before .before .before .args .points)) (now (c .before .before .before .before .before .before .before .before .before .before .before .before .before .before .args .objects)) (c .before .before .before .before .before .before .before .before .before .before .before .before .before .before .args .n) (c .before .before .before .before .before .before .before .loop .j) (c .before .before .before .before .before .before .loop-test .taken) (c .before .before .before .before .before .point-at .ensures) (writeFact (c .before .before .before .before .before .before .before .before .before .before .before .before .before .before .args .add)) (c .before .before .before .before .before .before .before .loop .facts) (c .before .before .write-facts .ensures .0) ∙ c .before .before .before .before .before .before .before .loop .inv .0, search needs, adds-turn (groundsIn (now (c .before .before .before .before .before .before .before .before .before .before .before .before .before .before .args .firsts))) (now (c .before .before .before .before .before .before .before .before .before .before .before .before .before .before .args .code)) (now (c .before .before .before .before .before .before .before .before .before .before .before .before .before .before .args .starts)) (now (c .before .before .before .before .before .before .before .before .before .before .before .before .before .before .args .points)) (now (c .before .before .before .before .before .before .before .before .before .before .before .before .before .before .args .objects)) (c .before .before .before .before .before .before .before .before .before .before .before .before .before .before .args .n) (c .before .before .before .before .before .before .before .loop .j) (c .before .before .before .before .before .before .loop-test .taken) (c .before .before .before .before .before .point-at .ensures) (c .before .before .before .before .before .before .before .loop .any) (c .before .before .write-facts .ensures .1) ∙ c .before .before .before .before .before .before .before .loop .inv .2)
 
 same-length : tie.Need-same-length Inv-loop μ-loop
 same-length c = search needs
 
 returns : tie.Need-returns Inv-loop μ-loop
-returns c = write-end (groundsIn (now (c .before .before .before .before .before .before .before .before .args .firsts))) (now (c .before .before .before .before .before .before .before .before .args .code)) (now (c .before .before .before .before .before .before .before .before .args .starts)) (now (c .before .before .before .before .before .before .before .before .args .points)) (now (c .before .before .before .before .before .before .before .before .args .objects)) (c .before .before .before .before .before .before .before .before .args .n) (c .before .loop .j) (c .loop-test .left) (writeFact (c .before .before .before .before .before .before .before .before .args .add)) (c .before .loop .facts) ∙ c .before .loop .inv .0
+returns c = (write-end (groundsIn (now (c .before .before .before .before .before .before .before .before .args .firsts))) (now (c .before .before .before .before .before .before .before .before .args .code)) (now (c .before .before .before .before .before .before .before .before .args .starts)) (now (c .before .before .before .before .before .before .before .before .args .points)) (now (c .before .before .before .before .before .before .before .before .args .objects)) (c .before .before .before .before .before .before .before .before .args .n) (c .before .loop .j) (c .loop-test .left) (writeFact (c .before .before .before .before .before .before .before .before .args .add)) (c .before .loop .facts) ∙ c .before .loop .inv .0, adds-end (groundsIn (now (c .before .before .before .before .before .before .before .before .args .firsts))) (now (c .before .before .before .before .before .before .before .before .args .code)) (now (c .before .before .before .before .before .before .before .before .args .starts)) (now (c .before .before .before .before .before .before .before .before .args .points)) (now (c .before .before .before .before .before .before .before .before .args .objects)) (c .before .before .before .before .before .before .before .before .args .n) (c .before .loop .j) (c .loop-test .left) (c .before .loop .any) ∙ c .before .loop .inv .2)
 
 pub write-points-spec : {M : Type 1} → statement M
 write-points-spec =

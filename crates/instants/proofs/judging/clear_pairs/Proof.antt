@@ -1,5 +1,5 @@
 -- `instants::judging::clear_pairs` meets its contract. Assumes nothing.
-use mathlib.Core.Path.{_≡_, _∙_, ap}
+use mathlib.Core.Path.{_≡_, _∙_, refl, ap}
 use Prim.Native.Nat.{_-_, _≤_}
 use native.Mathlib.Omega.{arith}
 use Rattle.happenings.specs.Happening.{pairs}
@@ -7,45 +7,59 @@ use Rattle.grounds.specs.Grounded.{groundsIn}
 use Rattle.instants.specs.Given.{pointsIn}
 use Rattle.instants.proofs.Each.{pairs-end, pairs-turn, pairs-fails}
 use Rattle.instants.proofs.Places.{points-end, points-step, points-all}
+use Rattle.instants.proofs.Clearing.{pairs-none}
 use borrow.Author.Needs.{needs}
 use Rattle.instants.proofs.judging.clear_pairs.Statement.{statement}
 use Rattle.instants.proofs.judging.clear_pairs.Tie as tie
 
 abbrev Inv-loop : tie.InvT-loop
-Inv-loop code starts firsts points objects n j₀ j = (j ≤ n) × (pairs (groundsIn firsts) (pointsIn code starts points objects (n - j) j) ≡ pairs (groundsIn firsts) (pointsIn code starts points objects n 0))
+Inv-loop code starts firsts points objects n signs i₀ i = (i ≤ n) × (pairs (groundsIn firsts) (pointsIn code starts points objects (n - i) i) ≡ pairs (groundsIn firsts) (pointsIn code starts points objects n 0))
 
 abbrev μ-loop : tie.MeasureT-loop
-μ-loop code starts firsts points objects n j₀ j = n - j
+μ-loop code starts firsts points objects n signs i₀ i = n - i
+
+returns : tie.Need-returns Inv-loop μ-loop
+returns c =
+    let a = c .before .before .before .before .before .before .args in
+    pairs-none (groundsIn (a .firsts .now)) (a .code .now) (a .starts .now) (a .points .now) (a .objects .now) (a .n) (c .if1 .taken)
+
+sign-all-requires : tie.Need-sign-all-requires Inv-loop μ-loop
+sign-all-requires c κs = (c .before .before .before .before .before .before .before .pre, refl)
 
 loop-holds : tie.Need-loop-holds Inv-loop μ-loop
-loop-holds c = (omega arith, ap (pairs (groundsIn (c .before .before .before .before .before .args .firsts .now))) (points-all (c .before .before .before .before .before .args .code .now) (c .before .before .before .before .before .args .starts .now) (c .before .before .before .before .before .args .points .now) (c .before .before .before .before .before .args .objects .now) (c .before .before .before .before .before .args .n)))
-
-point-at-requires : tie.Need-point-at-requires Inv-loop μ-loop
-point-at-requires c κs = search needs
-
-add-clear-all : tie.Need-add-clear-all Inv-loop μ-loop
-add-clear-all c = omega arith
+loop-holds c =
+    let a = c .before .before .before .before .before .before .before .before .args in
+    (omega arith, ap (pairs (groundsIn (a .firsts .now))) (points-all (a .code .now) (a .starts .now) (a .points .now) (a .objects .now) (a .n)))
 
 clear-all-requires : tie.Need-clear-all-requires Inv-loop μ-loop
-clear-all-requires c κs = search needs
+clear-all-requires c κs = (c .before .before .before .before .before .before .before .before .before .before .before .pre, c .before .loop-test .taken, c .before .before .before .sign-all .ensures)
 
 enum-told : tie.Need-enum-told Inv-loop μ-loop
 enum-told c = search needs
 
-returns : tie.Need-returns Inv-loop μ-loop
-returns c = pairs-fails (groundsIn (c .before .before .before .before .before .before .before .before .before .before .args .firsts .now)) (points-step (c .before .before .before .before .before .before .before .before .before .before .args .code .now) (c .before .before .before .before .before .before .before .before .before .before .args .starts .now) (c .before .before .before .before .before .before .before .before .before .before .args .points .now) (c .before .before .before .before .before .before .before .before .before .before .args .objects .now) (c .before .before .before .before .before .before .before .before .before .before .args .n) (c .before .before .before .before .loop .j) (c .before .before .before .loop-test .taken) (c .before .before .point-at .ensures)) (c .before .clear-all .ensures) (c .match .keys2) ∙ c .before .before .before .before .loop .inv .1
+returns-2 : tie.Need-returns-2 Inv-loop μ-loop
+returns-2 c =
+    let a = c .before .before .before .before .before .before .before .before .before .before .before .before .before .args in
+    pairs-fails (groundsIn (a .firsts .now)) (points-step (a .code .now) (a .starts .now) (a .points .now) (a .objects .now) (a .n) (c .before .before .before .before .loop .i) (c .before .before .before .loop-test .taken) refl) (c .before .clear-all .ensures) (c .match .keys2) ∙ c .before .before .before .before .loop .inv .1
 
-add-j : tie.Need-add-j Inv-loop μ-loop
-add-j c = omega arith
+add-i : tie.Need-add-i Inv-loop μ-loop
+add-i c = omega (arith, c .before .before .before .before .loop-test .taken, c .before .before .before .before .before .before .before .before .before .before .before .before .before .before .pre)
 
 loop-less : tie.Need-loop-less Inv-loop μ-loop
-loop-less c = omega arith
+loop-less c = omega (arith, c .before .before .before .before .loop-test .taken)
 
 loop-again : tie.Need-loop-again Inv-loop μ-loop
-loop-again c = (omega arith, pairs-turn (groundsIn (c .before .before .before .before .before .before .before .before .before .before .before .args .firsts .now)) (points-step (c .before .before .before .before .before .before .before .before .before .before .before .args .code .now) (c .before .before .before .before .before .before .before .before .before .before .before .args .starts .now) (c .before .before .before .before .before .before .before .before .before .before .before .args .points .now) (c .before .before .before .before .before .before .before .before .before .before .before .args .objects .now) (c .before .before .before .before .before .before .before .before .before .before .before .args .n) (c .before .before .before .before .before .loop .j) (c .before .before .before .before .loop-test .taken) (c .before .before .before .point-at .ensures)) (c .before .before .clear-all .ensures) (c .enum-told .given .1) ∙ c .before .before .before .before .before .loop .inv .1)
+loop-again c =
+    let a = c .before .before .before .before .before .before .before .before .before .before .before .before .before .before .args in
+    let h = c .before .before .before .before .loop-test .taken in (
+      omega (arith, h),
+      pairs-turn (groundsIn (a .firsts .now)) (points-step (a .code .now) (a .starts .now) (a .points .now) (a .objects .now) (a .n) (c .before .before .before .before .before .loop .i) h refl) (c .before .before .clear-all .ensures) (c .enum-told .given .1) ∙ c .before .before .before .before .before .loop .inv .1,
+    )
 
-returns-2 : tie.Need-returns-2 Inv-loop μ-loop
-returns-2 c = pairs-end (groundsIn (c .before .before .before .before .before .before .before .args .firsts .now)) (points-end (c .before .before .before .before .before .before .before .args .code .now) (c .before .before .before .before .before .before .before .args .starts .now) (c .before .before .before .before .before .before .before .args .points .now) (c .before .before .before .before .before .before .before .args .objects .now) (c .before .before .before .before .before .before .before .args .n) (c .before .loop .j) (c .loop-test .left)) ∙ c .before .loop .inv .1
+returns-3 : tie.Need-returns-3 Inv-loop μ-loop
+returns-3 c =
+    let a = c .before .before .before .before .before .before .before .before .before .before .args in
+    pairs-end (groundsIn (a .firsts .now)) (points-end (a .code .now) (a .starts .now) (a .points .now) (a .objects .now) (a .n) (c .before .loop .i) (c .loop-test .left)) ∙ c .before .loop .inv .1
 
 pub clear-pairs-spec : {M : Type 1} → statement M
 clear-pairs-spec =
@@ -53,13 +67,13 @@ clear-pairs-spec =
     (tie.spec
     Inv-loop
     μ-loop
+    returns
+    sign-all-requires
     loop-holds
-    point-at-requires
-    add-clear-all
     clear-all-requires
     enum-told
-    returns
-    add-j
+    returns-2
+    add-i
     loop-less
     loop-again
-    returns-2)
+    returns-3)

@@ -1,8 +1,9 @@
 -- `lines::reading::action_at` meets its contract. Assumes nothing.
-use mathlib.Core.Path.{sym, _∙_}
+use mathlib.Core.Path.{sym, ap, _∙_}
 use denote.Ref.{now}
+use Rattle.due.specs.Answers.{answerOf}
 use Rattle.entries.specs.Entries.{signedIn}
-use Rattle.lines.proofs.Marks.{named-else, named-missing, named-found}
+use Rattle.lines.proofs.Marks.{named-at, named-else, named-missing, named-found}
 use borrow.Author.Needs.{needs}
 use Rattle.lines.proofs.reading.action_at.Statement.{statement}
 use Rattle.lines.proofs.reading.action_at.Tie as tie
@@ -17,7 +18,7 @@ refusal-requires : tie.Need-refusal-requires
 refusal-requires c κs = search needs
 
 returns : tie.Need-returns
-returns c = named-else (now (c .before .before .before .before .before .args .text)) (signedIn (now (c .before .before .before .before .before .args .heads)) (c .before .before .before .before .before .args .acting)) (c .before .before .before .before .before .args .from) (c .before .before .plan-token-at .result) (c .refusal .result) (c .before .before .plan-token-at .ensures) (c .before .match .keys2) (c .refusal .ensures)
+returns c = named-else (now (c .before .before .before .before .before .args .text)) (signedIn (now (c .before .before .before .before .before .args .heads)) (c .before .before .before .before .before .args .acting)) (c .before .before .plan-token-at .result) (c .refusal .result) (c .before .match .keys2) (c .refusal .ensures) ∙ ap answerOf (named-at (now (c .before .before .before .before .before .args .text)) (signedIn (now (c .before .before .before .before .before .args .heads)) (c .before .before .before .before .before .args .acting)) (c .before .before .plan-token-at .result) (c .before .before .before .before .before .args .from) (c .before .before .plan-token-at .ensures))
 
 part-of-requires : tie.Need-part-of-requires
 part-of-requires c κs = search needs
@@ -32,10 +33,10 @@ enum-told : tie.Need-enum-told
 enum-told c = search needs
 
 returns-2 : tie.Need-returns-2
-returns-2 c = named-missing (now (c .before .before .before .before .before .before .before .before .before .before .args .text)) (signedIn (now (c .before .before .before .before .before .before .before .before .before .before .args .heads)) (c .before .before .before .before .before .before .before .before .before .before .args .acting)) (c .before .before .before .before .before .before .before .before .before .before .args .from) _ _ _ (sym (c .before .before .before .before .before .before .before .plan-token-at .ensures) ∙ c .before .before .before .before .before .t .given .1) (rw (c .before .before .before .part-of .ensures) at (sym (c .before .before .action-of .ensures) ∙ c .enum-told .given .1))
+returns-2 c = named-missing (now (c .before .before .before .before .before .before .before .before .before .before .args .text)) (signedIn (now (c .before .before .before .before .before .before .before .before .before .before .args .heads)) (c .before .before .before .before .before .before .before .before .before .before .args .acting)) (c .before .before .before .before .before .before .before .plan-token-at .result) _ _ _ (c .before .before .before .before .before .t .given .1) (rw (c .before .before .before .part-of .ensures) at (sym (c .before .before .action-of .ensures) ∙ c .enum-told .given .1)) ∙ ap answerOf (named-at (now (c .before .before .before .before .before .before .before .before .before .before .args .text)) (signedIn (now (c .before .before .before .before .before .before .before .before .before .before .args .heads)) (c .before .before .before .before .before .before .before .before .before .before .args .acting)) (c .before .before .before .before .before .before .before .plan-token-at .result) (c .before .before .before .before .before .before .before .before .before .before .args .from) (c .before .before .before .before .before .before .before .plan-token-at .ensures))
 
 returns-3 : tie.Need-returns-3
-returns-3 c = named-found (now (c .before .before .before .before .before .before .before .before .before .before .before .args .text)) (signedIn (now (c .before .before .before .before .before .before .before .before .before .before .before .args .heads)) (c .before .before .before .before .before .before .before .before .before .before .before .args .acting)) (c .before .before .before .before .before .before .before .before .before .before .before .args .from) _ _ _ _ (sym (c .before .before .before .before .before .before .before .before .plan-token-at .ensures) ∙ c .before .before .before .before .before .before .t .given .1) (rw (c .before .before .before .before .part-of .ensures) at (sym (c .before .before .before .action-of .ensures) ∙ c .before .f .given .1))
+returns-3 c = named-found (now (c .before .before .before .before .before .before .before .before .before .before .before .args .text)) (signedIn (now (c .before .before .before .before .before .before .before .before .before .before .before .args .heads)) (c .before .before .before .before .before .before .before .before .before .before .before .args .acting)) (c .before .before .before .before .before .before .before .before .plan-token-at .result) _ _ _ _ (c .before .before .before .before .before .before .t .given .1) (rw (c .before .before .before .before .part-of .ensures) at (sym (c .before .before .before .action-of .ensures) ∙ c .before .f .given .1)) ∙ ap answerOf (named-at (now (c .before .before .before .before .before .before .before .before .before .before .before .args .text)) (signedIn (now (c .before .before .before .before .before .before .before .before .before .before .before .args .heads)) (c .before .before .before .before .before .before .before .before .before .before .before .args .acting)) (c .before .before .before .before .before .before .before .before .plan-token-at .result) (c .before .before .before .before .before .before .before .before .before .before .before .args .from) (c .before .before .before .before .before .before .before .before .plan-token-at .ensures))
 
 pub action-at-spec : {M : Type 1} → statement M
 action-at-spec =

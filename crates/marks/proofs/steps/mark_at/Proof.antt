@@ -1,4 +1,4 @@
--- `marks::steps::mark_at` is safe and ends. Assumes nothing.
+-- `marks::steps::mark_at` meets its contract. Assumes nothing.
 use mathlib.Core.Path.{_∙_}
 use denote.Ref.{now}
 use Rattle.codes.specs.Decode.{whenOf}
@@ -41,20 +41,23 @@ bare-step-requires-3 c κs = search needs
 returns-3 : tie.Need-returns-3
 returns-3 c = c .bare-step3 .ensures ∙ step-out (groundsIn (now (c .before .before .before .before .before .before .before .before .args .firsts))) (objectsIn (c .before .before .before .before .before .before .before .before .args .who)) (c .before .before .before .before .before .before .before .before .args .x) (now (c .before .before .before .before .before .before .before .before .args .code)) (whenOf (c .before .before .before .before .before .before .before .before .args .time)) (c .before .before .before .before .before .before .before .before .args .part) (c .before .before .before .before .before .before .before .before .args .at) (c .before .before .before .before .before .if1 .left) (c .before .before .before .before .cell .ensures .0) (c .before .before .before .if2 .left) (c .before .before .begins-effect .ensures) (c .before .if3 .taken)
 
-note-requires : tie.Need-note-requires
-note-requires c κs = (c .before .before .before .before .if1 .left, begun (c .before .before .before .cell .result) (c .before .begins-effect .ensures) (c .if3 .left))
-
 time-of-requires-2 : tie.Need-time-of-requires-2
 time-of-requires-2 c κs = search needs
+
+effect-end-requires : tie.Need-effect-end-requires
+effect-end-requires c κs = (c .before .before .before .before .before .before .if1 .left, begun (c .before .before .before .before .before .cell .result) (c .before .before .before .begins-effect .ensures) (c .before .before .if3 .left))
 
 bare-step-requires-4 : tie.Need-bare-step-requires-4
 bare-step-requires-4 c κs = search needs
 
 returns-4 : tie.Need-returns-4
-returns-4 c = c .bare-step4 .ensures ∙ step-other (groundsIn (now (c .before .before .before .before .before .before .before .before .before .before .before .args .firsts))) (objectsIn (c .before .before .before .before .before .before .before .before .before .before .before .args .who)) (c .before .before .before .before .before .before .before .before .before .before .before .args .x) (now (c .before .before .before .before .before .before .before .before .before .before .before .args .code)) (whenOf (c .before .before .before .before .before .before .before .before .before .before .before .args .time)) (c .before .before .before .before .before .before .before .before .before .before .before .args .part) (c .before .before .before .before .before .before .before .before .before .before .before .args .at) (c .before .before .before .before .before .before .before .before .if1 .left) (c .before .before .before .before .before .before .before .cell .ensures .0) (c .before .before .before .before .before .before .if2 .left) (c .before .before .before .before .before .begins-effect .ensures) (c .before .before .before .before .if3 .left) (c .before .before .before .note .ensures) (c .before .before .time-of2 .ensures) (c .before .if4 .taken)
+returns-4 c = c .bare-step4 .ensures ∙ step-other (groundsIn (now (c .before .before .before .before .before .before .before .before .before .before .before .args .firsts))) (objectsIn (c .before .before .before .before .before .before .before .before .before .before .before .args .who)) (c .before .before .before .before .before .before .before .before .before .before .before .args .x) (now (c .before .before .before .before .before .before .before .before .before .before .before .args .code)) (whenOf (c .before .before .before .before .before .before .before .before .before .before .before .args .time)) (c .before .before .before .before .before .before .before .before .before .before .before .args .part) (c .before .before .before .before .before .before .before .before .before .before .before .args .at) (c .before .before .before .before .before .before .before .before .if1 .left) (c .before .before .before .before .before .before .before .cell .ensures .0) (c .before .before .before .before .before .before .if2 .left) (c .before .before .before .before .before .begins-effect .ensures) (c .before .before .before .before .if3 .left) (c .before .before .before .time-of2 .ensures) (c .before .before .if4 .taken) (c .before .effect-end .ensures)
+
+note-requires : tie.Need-note-requires
+note-requires c κs = (c .before .before .before .before .before .before .if1 .left, begun (c .before .before .before .before .before .cell .result) (c .before .before .before .begins-effect .ensures) (c .before .before .if3 .left))
 
 returns-5 : tie.Need-returns-5
-returns-5 c = step-effect (groundsIn (now (c .before .before .before .before .before .before .before .before .before .before .args .firsts))) (objectsIn (c .before .before .before .before .before .before .before .before .before .before .args .who)) (c .before .before .before .before .before .before .before .before .before .before .args .x) (now (c .before .before .before .before .before .before .before .before .before .before .args .code)) (whenOf (c .before .before .before .before .before .before .before .before .before .before .args .time)) (c .before .before .before .before .before .before .before .before .before .before .args .part) (c .before .before .before .before .before .before .before .before .before .before .args .at) (c .before .before .before .before .before .before .before .if1 .left) (c .before .before .before .before .before .before .cell .ensures .0) (c .before .before .before .before .before .if2 .left) (c .before .before .before .before .begins-effect .ensures) (c .before .before .before .if3 .left) (c .before .before .note .ensures) (c .before .time-of2 .ensures) (c .if4 .left)
+returns-5 c = step-effect (groundsIn (now (c .before .before .before .before .before .before .before .before .before .before .args .firsts))) (objectsIn (c .before .before .before .before .before .before .before .before .before .before .args .who)) (c .before .before .before .before .before .before .before .before .before .before .args .x) (now (c .before .before .before .before .before .before .before .before .before .before .args .code)) (whenOf (c .before .before .before .before .before .before .before .before .before .before .args .time)) (c .before .before .before .before .before .before .before .before .before .before .args .part) (c .before .before .before .before .before .before .before .before .before .before .args .at) (c .before .before .before .before .before .before .before .if1 .left) (c .before .before .before .before .before .before .cell .ensures .0) (c .before .before .before .before .before .if2 .left) (c .before .before .before .before .begins-effect .ensures) (c .before .before .before .if3 .left) (c .before .before .time-of2 .ensures) (c .before .if4 .left) (c .note .ensures)
 
 pub mark-at-spec : {M : Type 1} → statement M
 mark-at-spec =
@@ -71,8 +74,9 @@ mark-at-spec =
     add-bare-step-2
     bare-step-requires-3
     returns-3
-    note-requires
     time-of-requires-2
+    effect-end-requires
     bare-step-requires-4
     returns-4
+    note-requires
     returns-5)

@@ -44,26 +44,26 @@ mul-rows-4 c = search needs
 slice-write-rows-4 : tie.Need-slice-write-rows-4
 slice-write-rows-4 c = simp length-set (omega arith)
 
-slice-write-objects : tie.Need-slice-write-objects
-slice-write-objects c = search needs
+slice-write-whos : tie.Need-slice-write-whos
+slice-write-whos c = search needs
 
-add-objects : tie.Need-add-objects
-add-objects c = search needs
+add-whos : tie.Need-add-whos
+add-whos c = search needs
 
-slice-write-objects-2 : tie.Need-slice-write-objects-2
-slice-write-objects-2 c = simp length-set (omega arith)
+slice-write-whos-2 : tie.Need-slice-write-whos-2
+slice-write-whos-2 c = simp length-set (omega arith)
 
-add-objects-2 : tie.Need-add-objects-2
-add-objects-2 c = search needs
+add-whos-2 : tie.Need-add-whos-2
+add-whos-2 c = search needs
 
-slice-write-objects-3 : tie.Need-slice-write-objects-3
-slice-write-objects-3 c = simp length-set (omega arith)
+slice-write-whos-3 : tie.Need-slice-write-whos-3
+slice-write-whos-3 c = simp length-set (omega arith)
 
-add-objects-3 : tie.Need-add-objects-3
-add-objects-3 c = search needs
+add-whos-3 : tie.Need-add-whos-3
+add-whos-3 c = search needs
 
-slice-write-objects-4 : tie.Need-slice-write-objects-4
-slice-write-objects-4 c = simp length-set (omega arith)
+slice-write-whos-4 : tie.Need-slice-write-whos-4
+slice-write-whos-4 c = simp length-set (omega arith)
 
 same-length : tie.Need-same-length
 same-length c = search needs
@@ -75,11 +75,8 @@ returns : tie.Need-returns
 returns c =
     let a = c .args in
     let e : 4 * a .j + 4 ≤ length (now (a .rows)) = omega arith in
-    let d : 4 * a .j + 4 ≤ length (now (a .objects)) = omega arith in (
-      λ l h k. laid-behind (now (a .rows)) (now (a .objects)) (a .j) (record { step = a .x; when = a .when }) e d l 0 (omega (arith, h)) k,
-      simp length-set (omega arith),
-      simp length-set (omega arith),
-    )
+    let d : 4 * a .j + 4 ≤ length (now (a .whos)) = omega arith in
+    λ l h k. laid-behind (now (a .rows)) (now (a .whos)) (a .j) (record { step = a .x; when = a .when }) e d l 0 (omega (arith, h)) k
 
 pub lay-spec : {M : Type 1} → statement M
 lay-spec =
@@ -97,13 +94,13 @@ lay-spec =
     add-rows-3
     mul-rows-4
     slice-write-rows-4
-    slice-write-objects
-    add-objects
-    slice-write-objects-2
-    add-objects-2
-    slice-write-objects-3
-    add-objects-3
-    slice-write-objects-4
+    slice-write-whos
+    add-whos
+    slice-write-whos-2
+    add-whos-2
+    slice-write-whos-3
+    add-whos-3
+    slice-write-whos-4
     same-length
     same-length-2
     returns)

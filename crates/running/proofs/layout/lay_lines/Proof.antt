@@ -1,45 +1,51 @@
 -- `running::layout::lay_lines` meets its contract. Assumes nothing.
-use Prim.Native.Nat.{_≤_, _-_, _<_}
+use Prim.Native.Nat.{_≤_, _-_}
 use mathlib.Core.Logic.{⊎-elim}
-use mathlib.Core.Path.{_≡_, sym, _∙_}
+use mathlib.Core.Path.{_≡_, sym, ap, _∙_}
 use native.Mathlib.Omega.{arith}
-use borrow.Author.Needs.{needs}
 use denote.Ref.{now}
-use lib.ListN.{length, getD}
-use Rattle.waiting.specs.Waiting.{noSlot}
-use Rattle.waiting.proofs.Soundness.{timed-at}
-use Rattle.waiting.proofs.Places.{length-mapped}
+use Rattle.plans.specs.Plan.{time}
+use Rattle.plans.specs.Stored.{pointIn}
+use Rattle.plans.specs.declared.Slot.{Slot}
 use Rattle.running.proofs.Laying.{Laying, lay-none, lay-yes, lay-no}
+use Rattle.running.proofs.Slots.{slots, place-few, place-within, place-there, place-timed}
 use Rattle.running.proofs.Underway.{isOpen, endWhen, open-end, open-no, steps-laid}
 use Rattle.running.proofs.layout.lay_lines.Statement.{statement}
 use Rattle.running.proofs.layout.lay_lines.Tie as tie
 
 abbrev Inv-loop : tie.InvT-loop
-Inv-loop t rows₀ objects₀ queue n i₀ j₀ rows objects i j = (i ≤ n) × Laying (isOpen t) endWhen (queue .slots) rows objects i j
+Inv-loop words objects n t rows₀ whos₀ i₀ j₀ rows whos i j = (i ≤ n) × Laying (isOpen t) endWhen (slots words objects) rows whos i j
 
 abbrev μ-loop : tie.MeasureT-loop
-μ-loop t rows₀ objects₀ queue n i₀ j₀ rows objects i j = n - i
-
-slots-long : (c : tie.Start Inv-loop μ-loop) → length (c .args .t1 .slots) ≡ 64
-slots-long c = search (needs, length-mapped)
+μ-loop words objects n t rows₀ whos₀ i₀ j₀ rows whos i j = n - i
 
 loop-holds : tie.Need-loop-holds Inv-loop μ-loop
-loop-holds c = (omega arith, lay-none (isOpen (c .before .before .args .t)) endWhen (c .before .before .args .t1 .slots) (now (c .before .before .args .rows)) (now (c .before .before .args .objects)) (c .before .before .pre .1) (c .before .before .pre .2))
+loop-holds c = (omega arith, lay-none (isOpen (c .args .t)) endWhen (slots (now (c .args .words)) (now (c .args .objects))) (now (c .args .rows)) (now (c .args .whos)))
 
-mul-s : tie.Need-mul-s Inv-loop μ-loop
-mul-s c = omega arith
+slot-at-requires : tie.Need-slot-at-requires Inv-loop μ-loop
+slot-at-requires c κs =
+    let start = c .before .before in
+    place-few (now (start .args .words)) (now (start .args .objects)) (start .args .n) (c .before .loop .i) (start .pre) (c .loop-test .taken)
 
-element-copy-out-s : tie.Need-element-copy-out-s Inv-loop μ-loop
-element-copy-out-s c = omega arith
-
-time-of-requires : tie.Need-time-of-requires Inv-loop μ-loop
-time-of-requires c κs = timed-at (c .before .before .before .before .before .before .args .t1) (c .before .before .before .loop .i) (slots-long (c .before .before .before .before .before .before)) (c .before .before .before .before .before .before .pre .0) (omega arith)
+time-at-requires : tie.Need-time-at-requires Inv-loop μ-loop
+time-at-requires c κs =
+    let start = c .before .before .before .before in
+    let a = start .args in
+    let w = now (a .words) in
+    let o = now (a .objects) in
+    let i = c .before .before .before .loop .i in
+    (place-few w o (a .n) i (start .pre) (c .before .before .loop-test .taken), place-timed w o (a .n) i (start .pre) (c .before .before .loop-test .taken))
 
 lay-requires : tie.Need-lay-requires Inv-loop μ-loop
-lay-requires c κs = (omega arith, c .before .before .before .before .before .before .before .loop .inv .1 .long, c .before .before .before .before .before .before .before .loop .inv .1 .wide)
+lay-requires c κs =
+    let at = c .before .before .before .before .before .before .before in
+    let few = at .before .pre .1 .0 in
+    (omega (arith, at .loop .inv .1 .behind), c .before .lay-arg .given .0 .1, c .lay-arg2 .given .0 .1)
 
 add-j : tie.Need-add-j Inv-loop μ-loop
-add-j c = omega arith
+add-j c =
+    let at = c .before .before .before .before .before .before .before .before in
+    omega (arith, at .loop .inv .1 .behind)
 
 add-i : tie.Need-add-i Inv-loop μ-loop
 add-i c = omega arith
@@ -50,32 +56,31 @@ loop-less c = omega arith
 loop-again : tie.Need-loop-again Inv-loop μ-loop
 loop-again c =
     let at = c .before .before .before in
-    let start = at .before .before .before in
-    let g : length (start .args .t1 .slots) ≡ 64 = slots-long start in
-    let l : at .loop .i < length (start .args .t1 .slots) = omega arith in
-    let t = start .args .t in
-    let s = getD (start .args .t1 .slots) (at .loop .i) noSlot in (
+    let start = at .before in
+    let a = start .args in
+    let w = now (a .words) in
+    let o = now (a .objects) in
+    let i = at .loop .i in
+    let taken = c .before .before .loop-test .taken in
+    let l = place-within w o (a .n) i (start .pre) taken in
+    let s = c .before .slot-at .result in
+    let same = c .before .slot-at .ensures in
+    let there = place-there w o (a .n) i (start .pre) taken ∙ sym same in
+    let its = ap (λ (x : Slot). time (pointIn x)) (sym same) in (
       omega arith,
       ⊎-elim
-          (λ w. rw (w .10, w .11, w .12) (lay-yes (at .loop .inv .1) l (open-end t s (w .0 .taken) (w .1 .ensures .0) (w .2 .taken)) (w .5 .ensures)))
-          (λ w. rw (w .1, w .2, w .3) (lay-no (at .loop .inv .1) l (⊎-elim (λ u. open-end t s (u .0 .taken) (u .1 .ensures .0) (u .2 .left)) (λ u. open-no t s (u .left)) (w .0 .came))))
+          (λ v. rw (v .6, v .7, v .8) (lay-yes (at .loop .inv .1) l there (open-end (a .t) s (v .0 .taken) (v .1 .ensures .0 o ∙ its) (v .2 .taken)) (v .5 .ensures)))
+          (λ v. rw (v .1, v .2, v .3) (lay-no (at .loop .inv .1) l there (⊎-elim (λ u. open-end (a .t) s (u .0 .taken) (u .1 .ensures .0 o ∙ its) (u .2 .left)) (λ u. open-no (a .t) s (u .left)) (v .0 .came))))
           (c .if1 .came),
     )
-
-same-length : tie.Need-same-length Inv-loop μ-loop
-same-length c = c .before .loop .inv .1 .long ∙ sym (c .before .before .before .before .pre .1)
-
-same-length-2 : tie.Need-same-length-2 Inv-loop μ-loop
-same-length-2 c = c .before .loop .inv .1 .wide ∙ sym (c .before .before .before .before .pre .2)
 
 returns : tie.Need-returns Inv-loop μ-loop
 returns c =
     let at = c .before in
-    let start = at .before .before .before in
-    let q = start .args .t1 in
-    let e : at .loop .i ≡ q .count = omega arith in
+    let start = at .before in
+    let e : at .loop .i ≡ start .args .n = omega arith in
     let k = rw e at (at .loop .inv .1) in
-    (omega arith, λ code starts es h few. steps-laid code starts es few (start .args .t) (h .1) k)
+    (let few = start .pre .1 .0 in omega (arith, k .behind), λ code starts es h few. steps-laid code starts es few (start .args .t) (h .1) k)
 
 pub lay-lines-spec : {M : Type 1} → statement M
 lay-lines-spec =
@@ -84,14 +89,11 @@ lay-lines-spec =
     Inv-loop
     μ-loop
     loop-holds
-    mul-s
-    element-copy-out-s
-    time-of-requires
+    slot-at-requires
+    time-at-requires
     lay-requires
     add-j
     add-i
     loop-less
     loop-again
-    same-length
-    same-length-2
     returns)

@@ -1,5 +1,6 @@
 -- `words::names::find` meets its contract. Assumes nothing.
 use mathlib.Core.Path.{_≡_, sym, _∙_}
+use mathlib.Core.Logic.{⊎-elim}
 use Prim.Native.Nat.{_-_, _≤_}
 use native.Mathlib.Omega.{arith}
 use denote.Ref.{now}
@@ -7,7 +8,7 @@ use lib.ListN.{length, drop}
 use native.Mathlib.Nat.{sub-zero}
 use Rattle.words.specs.Spelling.{placeFrom}
 use Rattle.words.specs.Names.{namesOf}
-use Rattle.words.proofs.Steps.{find-short, find-found, find-other, find-over}
+use Rattle.words.proofs.Steps.{find-short, find-found, find-other, find-other-length, find-over}
 use Rattle.words.proofs.names.find.Statement.{statement}
 use Rattle.words.proofs.names.find.Tie as tie
 
@@ -26,32 +27,32 @@ sub-if1 c = omega arith
 returns : tie.Need-returns Inv-loop μ-loop
 returns c = sym (c .before .before .loop .inv .2 ∙ find-short (now (c .before .before .before .before .before .args .rows)) (now (c .before .before .before .before .before .args .w)) (c .before .before .before .before .before .args .n) (c .before .before .loop .i) (c .before .before .loop .at) (c .before .loop-test .taken) (c .if1 .taken))
 
-add-start : tie.Need-add-start Inv-loop μ-loop
-add-start c = omega arith
-
 shared-slice-read-length-in : tie.Need-shared-slice-read-length-in Inv-loop μ-loop
 shared-slice-read-length-in c = omega arith
 
 length-in-requires : tie.Need-length-in-requires Inv-loop μ-loop
 length-in-requires c κs = tt
 
+add-start : tie.Need-add-start Inv-loop μ-loop
+add-start c = omega arith
+
 add-end : tie.Need-add-end Inv-loop μ-loop
-add-end c = omega (arith, c .length-in .ensures)
+add-end c = omega (arith, c .before .length-in .ensures)
 
 sub-same-word : tie.Need-sub-same-word Inv-loop μ-loop
-sub-same-word c = omega (arith, c .length-in .ensures)
+sub-same-word c = omega (arith, c .before .length-in .ensures)
 
 part-same-word-start : tie.Need-part-same-word-start Inv-loop μ-loop
-part-same-word-start c = omega (arith, c .length-in .ensures)
+part-same-word-start c = omega (arith, c .before .length-in .ensures)
 
 part-same-word-end : tie.Need-part-same-word-end Inv-loop μ-loop
-part-same-word-end c = omega (arith, c .length-in .ensures)
+part-same-word-end c = omega (arith, c .before .length-in .ensures)
 
 same-word-requires : tie.Need-same-word-requires Inv-loop μ-loop
 same-word-requires c κs = tt
 
 returns-2 : tie.Need-returns-2 Inv-loop μ-loop
-returns-2 c = sym (c .before .before .before .before .before .before .before .loop .inv .2 ∙ find-found (now (c .before .before .before .before .before .before .before .before .before .before .args .rows)) (now (c .before .before .before .before .before .before .before .before .before .before .args .w)) (c .before .before .before .before .before .before .before .before .before .before .args .n) (c .before .before .before .before .before .before .before .loop .i) (c .before .before .before .before .before .before .before .loop .at) (c .before .before .before .length-in .result) (c .before .before .before .before .before .before .loop-test .taken) (omega arith) (c .before .before .before .length-in .ensures) (sym (c .before .same-word .ensures) ∙ c .if2 .taken))
+returns-2 c = sym (c .before .before .before .before .before .before .before .before .loop .inv .2 ∙ find-found (now (c .before .before .before .before .before .before .before .before .before .before .before .args .rows)) (now (c .before .before .before .before .before .before .before .before .before .before .before .args .w)) (c .before .before .before .before .before .before .before .before .before .before .before .args .n) (c .before .before .before .before .before .before .before .before .loop .i) (c .before .before .before .before .before .before .before .before .loop .at) (c .before .before .before .before .length-in .result) (c .before .before .before .before .before .before .before .loop-test .taken) (omega arith) (c .before .before .before .before .length-in .ensures) (sym (c .before .same-word .ensures) ∙ c .if3 .taken))
 
 add-at : tie.Need-add-at Inv-loop μ-loop
 add-at c = omega arith
@@ -63,7 +64,7 @@ loop-less : tie.Need-loop-less Inv-loop μ-loop
 loop-less c = omega arith
 
 loop-again : tie.Need-loop-again Inv-loop μ-loop
-loop-again c = (omega arith, omega arith, c .before .before .before .before .before .before .before .loop .inv .2 ∙ find-other (now (c .before .before .before .before .before .before .before .before .before .before .args .rows)) (now (c .before .before .before .before .before .before .before .before .before .before .args .w)) (c .before .before .before .before .before .before .before .before .before .before .args .n) (c .before .before .before .before .before .before .before .loop .i) (c .before .before .before .before .before .before .before .loop .at) (c .before .before .before .length-in .result) (c .before .before .before .before .before .before .loop-test .taken) (omega arith) (c .before .before .before .length-in .ensures) (sym (c .before .same-word .ensures) ∙ c .if2 .left))
+loop-again c = (omega arith, omega arith, c .before .before .before .before .before .loop .inv .2 ∙ ⊎-elim (λ o. find-other (now (c .before .before .before .before .before .before .before .before .args .rows)) (now (c .before .before .before .before .before .before .before .before .args .w)) (c .before .before .before .before .before .before .before .before .args .n) (c .before .before .before .before .before .loop .i) (c .before .before .before .before .before .loop .at) (c .before .length-in .result) (c .before .before .before .before .loop-test .taken) (omega arith) (c .before .length-in .ensures) (sym (o .2 .ensures) ∙ o .3 .left)) (λ o. find-other-length (now (c .before .before .before .before .before .before .before .before .args .rows)) (now (c .before .before .before .before .before .before .before .before .args .w)) (c .before .before .before .before .before .before .before .before .args .n) (c .before .before .before .before .before .loop .i) (c .before .before .before .before .before .loop .at) (c .before .length-in .result) (c .before .before .before .before .loop-test .taken) (omega arith) (c .before .length-in .ensures) (o .left)) (c .if2 .came))
 
 returns-3 : tie.Need-returns-3 Inv-loop μ-loop
 returns-3 c = sym (c .before .loop .inv .2 ∙ find-over (now (c .before .before .before .before .args .rows)) (now (c .before .before .before .before .args .w)) (c .before .before .before .before .args .n) (c .before .loop .i) (c .before .loop .at) (c .loop-test .left))
@@ -77,9 +78,9 @@ find-spec =
     loop-holds
     sub-if1
     returns
-    add-start
     shared-slice-read-length-in
     length-in-requires
+    add-start
     add-end
     sub-same-word
     part-same-word-start

@@ -1,26 +1,29 @@
 -- `words::spelling::same_word` meets its contract. Assumes nothing.
-use mathlib.Core.Path.{_≡_, refl, sym, _∙_}
-use Prim.Native.Nat.{_-_}
+use mathlib.Core.Path.{_≡_, sym, _∙_}
+use mathlib.Core.Bool.{true}
+use Prim.Native.Nat.{_≤_}
 use native.Mathlib.Omega.{arith}
 use denote.Ref.{now}
 use lib.ListN.{length, drop}
-use borrow.Author.Tests.{eq-eqb, ne-eqb}
 use Rattle.words.specs.Spelling.{sameWord}
-use Rattle.words.proofs.Steps.{same-both, same-short, same-over}
+use Rattle.words.proofs.Steps.{same-over, same-length, same-before, other-before}
 use Rattle.words.proofs.spelling.same_word.Statement.{statement}
 use Rattle.words.proofs.spelling.same_word.Tie as tie
 
 abbrev Inv-loop : tie.InvT-loop
-Inv-loop a b i₀ i = sameWord a b ≡ sameWord (drop i a) (drop i b)
+Inv-loop a b i₀ i = (i ≤ length a) × (sameWord (drop i a) (drop i b) ≡ true)
 
 abbrev μ-loop : tie.MeasureT-loop
-μ-loop a b i₀ i = length a - i
-
-loop-holds : tie.Need-loop-holds Inv-loop μ-loop
-loop-holds c = refl
+μ-loop a b i₀ i = i
 
 returns : tie.Need-returns Inv-loop μ-loop
-returns c = sym (c .before .before .loop .inv ∙ same-short (now (c .before .before .before .before .before .args .a)) (now (c .before .before .before .before .before .args .b)) (c .before .before .loop .i) (c .before .loop-test .taken) (c .if1 .taken))
+returns c = sym (same-length (now (c .before .before .before .args .a)) (now (c .before .before .before .args .b)) (c .if1 .taken))
+
+loop-holds : tie.Need-loop-holds Inv-loop μ-loop
+loop-holds c = (omega arith, same-over (now (c .before .before .before .args .a)) (now (c .before .before .before .args .b)) (length (now (c .before .before .before .args .a))) (omega arith) (omega arith))
+
+sub-i : tie.Need-sub-i Inv-loop μ-loop
+sub-i c = omega arith
 
 shared-slice-read-lower : tie.Need-shared-slice-read-lower Inv-loop μ-loop
 shared-slice-read-lower c = omega arith
@@ -35,19 +38,16 @@ lower-requires-2 : tie.Need-lower-requires-2 Inv-loop μ-loop
 lower-requires-2 c κs = tt
 
 returns-2 : tie.Need-returns-2 Inv-loop μ-loop
-returns-2 c = sym (c .before .before .before .before .before .before .before .loop .inv ∙ same-both (now (c .before .before .before .before .before .before .before .before .before .before .args .a)) (now (c .before .before .before .before .before .before .before .before .before .before .args .b)) (c .before .before .before .before .before .before .before .loop .i) (c .before .before .before .before .before .before .loop-test .taken) (c .before .before .before .before .before .if1 .left) ∙ simp (sym (c .before .before .before .lower .ensures), sym (c .before .lower2 .ensures), ne-eqb _ _ (c .if2 .taken)))
-
-add-i : tie.Need-add-i Inv-loop μ-loop
-add-i c = omega arith
+returns-2 c = sym (other-before (now (c .before .before .before .before .before .before .before .before .before .before .args .a)) (now (c .before .before .before .before .before .before .before .before .before .before .args .b)) (c .before .before .before .before .before .before .loop .i) (c .before .before .before .before .before .loop-test .taken) (c .before .before .before .before .before .before .loop .inv .0) (omega arith) (λ e. c .if2 .taken (c .before .before .before .lower .ensures ∙ e ∙ sym (c .before .lower2 .ensures))))
 
 loop-less : tie.Need-loop-less Inv-loop μ-loop
 loop-less c = omega arith
 
 loop-again : tie.Need-loop-again Inv-loop μ-loop
-loop-again c = c .before .before .before .before .before .before .before .loop .inv ∙ same-both (now (c .before .before .before .before .before .before .before .before .before .before .args .a)) (now (c .before .before .before .before .before .before .before .before .before .before .args .b)) (c .before .before .before .before .before .before .before .loop .i) (c .before .before .before .before .before .before .loop-test .taken) (c .before .before .before .before .before .if1 .left) ∙ simp (sym (c .before .before .before .lower .ensures), sym (c .before .lower2 .ensures), eq-eqb _ _ (c .if2 .left))
+loop-again c = (omega arith, same-before (now (c .before .before .before .before .before .before .before .before .before .before .args .a)) (now (c .before .before .before .before .before .before .before .before .before .before .args .b)) (c .before .before .before .before .before .before .loop .i) (c .before .before .before .before .before .loop-test .taken) (c .before .before .before .before .before .before .loop .inv .0) (omega arith) (sym (c .before .before .before .lower .ensures) ∙ c .if2 .left ∙ c .before .lower2 .ensures) (c .before .before .before .before .before .before .loop .inv .1))
 
 returns-3 : tie.Need-returns-3 Inv-loop μ-loop
-returns-3 c = sym (c .before .loop .inv ∙ same-over (now (c .before .before .before .before .args .a)) (now (c .before .before .before .before .args .b)) (c .before .loop .i) (c .loop-test .left))
+returns-3 c = let e : c .before .loop .i ≡ 0 = omega arith in sym (rw e at (c .before .loop .inv .1))
 
 pub same-word-spec : {M : Type 1} → statement M
 same-word-spec =
@@ -55,14 +55,14 @@ same-word-spec =
     (tie.spec
     Inv-loop
     μ-loop
-    loop-holds
     returns
+    loop-holds
+    sub-i
     shared-slice-read-lower
     lower-requires
     shared-slice-read-lower-2
     lower-requires-2
     returns-2
-    add-i
     loop-less
     loop-again
     returns-3)

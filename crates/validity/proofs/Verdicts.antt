@@ -1,0 +1,87 @@
+-- What a verdict on a plan tells: the time of one of its points, 0 if there is none, and lines of its steps. Assumes nothing.
+use mathlib.Core.List.{List, [], _∷_, _++_}
+use mathlib.Core.Logic.{inl, inr}
+use mathlib.Core.Path.{_≡_, refl, subst}
+use Prim.Native.Nat.{ℕ}
+use lib.Dec.{eqb}
+use Rattle.grammar.specs.Conditions.{Cond}
+use Rattle.grammar.specs.Actions.{Action}
+use Rattle.happenings.specs.State.{State, Grounds}
+use Rattle.happenings.specs.Truths.{truthOf}
+use Rattle.happenings.specs.Happening as H
+use Rattle.happenings.specs.Happening.{noObjects}
+use Rattle.happenings.specs.declared.Outcome.{Outcome}
+use Rattle.happenings.specs.declared.Outcome.the-variants.{Goal}
+use Rattle.plans.specs.Lists.{keep}
+use Rattle.plans.specs.Plan.{Span, moment, lasting, Step, Point, time, ending, points, at, under, Run, going, failed, verdict}
+use Rattle.plans.specs.Promised.{Act, stepFor, pointFor}
+use Rattle.plans.proofs.Lists.{all-map}
+use Rattle.validity.specs.Lists.{All, _∈_}
+use Rattle.validity.specs.Happens.{Spans}
+use Rattle.validity.specs.Valid.{lastOf, timesOf, happeningAt, underWay, FailsAt, before, after, Executes, FailsFirst}
+use Rattle.validity.proofs.Lists.{all-in, all-kept, all-mapped, first-in}
+use Rattle.validity.proofs.Naming.{Names, not-so-names, fails-names, broken-names}
+use Rattle.validity.proofs.Instant.{runTime, runWord, rules}
+use Rattle.validity.proofs.Exactly.{exactly-valid, exactly-first}
+
+-- ---- the lines of a plan's points and of its steps under way
+
+module _ (L : ℕ → Type 0) (as′ : List Action) where
+  abbrev Lined : Point Act → Type 0
+  Lined p = L (H.lineOf (pointFor as′ p))
+
+  points-lined : (plan : List (Step Act)) → All (λ x. L (x .line)) plan → All Lined (points plan)
+  points-lined [] a = tt
+  points-lined (x ∷ xs) a = (a .0, go (x .span) (points-lined xs (a .1)))
+    where
+      go : (d : Span) → All Lined (points xs) → All Lined (ending x d ++ points xs)
+      go moment ih = ih
+      go (lasting d) ih = (a .0, ih)
+
+-- ---- L of the plan's lines and of 0, T of its times and of 0
+
+last-so : (T : ℕ → Type 0) (u : ℕ) (ts : List ℕ) → T u → All T ts → T (lastOf u ts)
+last-so T u [] h a = h
+last-so T u (t ∷ ts) h a = last-so T t ts (a .0) (a .1)
+
+module _ (g : Grounds) (goal : Cond) (as′ : List Action) (s0 : State) (plan : List (Step Act)) where
+  module _ (T : ℕ → Type 0) (zero-so : T 0) (times : All T (timesOf plan)) where
+    executed-time : (e : State) (u : ℕ) → Executes g as′ plan s0 e u → T u
+    executed-time e u x = subst T (x .last) (last-so T 0 (x .times) zero-so (all-map (all-in T (timesOf plan) times) (x .times) (x .sequence .only)))
+
+    failure-time : (e : State) (t : ℕ) (w : Outcome) → FailsFirst g as′ plan goal s0 e t w → T t
+    failure-time e t w (inl x) = all-in T (timesOf plan) times t (x .now)
+    failure-time e t w (inr x) = executed-time e t (x .executes)
+
+    pub verdict-time : T (runTime (verdict (rules g goal as′ s0) plan))
+    verdict-time = go (verdict (rules g goal as′ s0) plan) refl
+      where
+        go : (r : Run State Outcome) → verdict (rules g goal as′ s0) plan ≡ r → T (runTime r)
+        go (going e t) q = executed-time e t (exactly-valid g goal as′ s0 plan e t .0 q .executes)
+        go (failed e t w) q = failure-time e t w (exactly-first g goal as′ s0 plan e t w .0 q)
+
+  module _ (L : ℕ → Type 0) (zero-so : L 0) (lines : All (λ x. L (x .line)) plan) where
+    points-at : (t : ℕ) → All (λ p. L (H.lineOf p)) (happeningAt g as′ plan t)
+    points-at t =
+        all-mapped (λ (p : H.Point). L (H.lineOf p)) (pointFor as′) (at t (points plan))
+        (all-kept (Lined L as′) (λ (p : Point Act). eqb (time p) t) (points plan) (points-lined L as′ plan lines))
+
+    steps-under : (t : ℕ) (x : H.Step) → x ∈ underWay g as′ plan t → L (x .line)
+    steps-under t =
+        all-in (λ (x : H.Step). L (x .line)) (underWay g as′ plan t)
+        (all-mapped (λ (x : H.Step). L (x .line)) (stepFor as′) (keep (under t) plan) (all-kept (λ (x : Step Act). L (x .line)) (under t) plan lines))
+
+    instant-names : (t : ℕ) (s e : State) (w : Outcome) → FailsAt g as′ plan t s w e → Names L w
+    instant-names t s e w (before x q) = fails-names L w g s (happeningAt g as′ plan t) (points-at t) x
+    instant-names t s e w (after x r a b) = first-in (Spans g e) (underWay g as′ plan t) (λ y i. broken-names L w g e y (steps-under t y i)) b
+
+    failure-names : (e : State) (t : ℕ) (w : Outcome) → FailsFirst g as′ plan goal s0 e t w → Names L w
+    failure-names e t w (inl x) = instant-names t (x .state) e w (x .fails)
+    failure-names e t w (inr x) = not-so-names L w Goal 0 tt zero-so (truthOf g e noObjects goal) (x .missed)
+
+    pub verdict-names : Names L (runWord (verdict (rules g goal as′ s0) plan))
+    verdict-names = go (verdict (rules g goal as′ s0) plan) refl
+      where
+        go : (r : Run State Outcome) → verdict (rules g goal as′ s0) plan ≡ r → Names L (runWord r)
+        go (going e t) q = tt
+        go (failed e t w) q = failure-names e t w (exactly-first g goal as′ s0 plan e t w .0 q)

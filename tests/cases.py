@@ -1,0 +1,114 @@
+"""Cases for `second --batch` and `batch`, and what the two programs answer to them.
+
+A case is a header `DLEN PLEN QLEN PART` and the bytes of domain, problem and plan; PART is how many bytes of the plan are
+fed at a time. An answer ends with a line `--`. Cases are taken one by one, for a plan may have a million lines."""
+
+import itertools
+import os
+import pathlib
+import platform
+import subprocess
+import sys
+from typing import NamedTuple, Optional
+
+ROOT = pathlib.Path(__file__).resolve().parent.parent
+SECOND = ROOT / "second/target/release/second"
+BATCH = pathlib.Path(os.environ.get("BATCH", ROOT / "target/bin/batch")).absolute()
+LAST_LINE = b"--\n"
+
+
+class Case(NamedTuple):
+    domain: bytes
+    problem: bytes
+    plan: bytes
+    part: int
+
+    def whole(self):
+        """The part that holds the whole plan; 0 is no part."""
+        return max(1, len(self.plan))
+
+
+class Compared(NamedTuple):
+    """A case with both answers; without a case, what a program wrote behind its last answer."""
+
+    case: Optional[Case]
+    second: bytes
+    batch: bytes
+
+    def answered(self):
+        return self.second.endswith(LAST_LINE) and self.batch.endswith(LAST_LINE)
+
+    def differs(self):
+        return self.second != self.batch or not self.answered()
+
+
+def demand_programs():
+    """Ends this run if one of the two programs has not been built."""
+    for program in (SECOND, BATCH):
+        if not os.access(program, os.X_OK):
+            sys.exit(f"{program} is missing: cargo build --release builds second, rt check batch builds batch")
+
+
+def generate(seed, count, path):
+    """Writes generated cases to a file."""
+    with open(path, "wb") as out:
+        subprocess.run([SECOND, "--generate", str(seed), str(count)], stdout=out, check=True)
+
+
+def read_cases(source):
+    while header := source.readline():
+        *lengths, part = map(int, header.split(b" "))
+        yield Case(*(source.read(length) for length in lengths), part)
+
+
+def write_cases(cases, path):
+    with open(path, "wb") as out:
+        for case in cases:
+            out.write(b"%d %d %d %d\n" % (len(case.domain), len(case.problem), len(case.plan), case.part))
+            out.writelines([case.domain, case.problem, case.plan])
+
+
+def read_answers(source):
+    """The answers, each with its last line; behind them what is no whole answer, if there is such."""
+    lines = []
+    for line in source:
+        lines.append(line)
+        if line == LAST_LINE:
+            yield b"".join(lines)
+            lines = []
+    if lines:
+        yield b"".join(lines)
+
+
+def emulator():
+    """What runs a program of rt's: nothing on x86-64, for which they are, elsewhere the kit's emulator."""
+    machine = platform.machine()
+    if machine == "x86_64":
+        return []
+    guide = subprocess.run(["rt", "doc"], stdout=subprocess.PIPE, check=True, text=True).stdout.strip()
+    tools = pathlib.Path(guide).parent.parent / "on" / machine / "toolchain"
+    return [tools / "bin/qemu-x86_64", tools / "lib/ld-linux-x86-64.so.2", "--library-path", tools / "lib"]
+
+
+def run_both(path, folder):
+    """Runs both programs over a file of cases; the folder has what they write. A bad exit status is one more line of it."""
+    running = {}
+    for name, command in {"second": [SECOND, "--batch"], "batch": [*emulator(), BATCH]}.items():
+        with open(path, "rb") as source, open(folder / name, "wb") as out:
+            running[name] = subprocess.Popen(command, stdin=source, stdout=out)
+    for name, program in running.items():
+        if program.wait() != 0:
+            with open(folder / name, "ab") as out:
+                out.write(b"exit status %d\n" % program.returncode)
+
+
+def compare(path, folder):
+    """Gives each case of a file with the answers of both programs, up to the first that lacks an answer."""
+    run_both(path, folder)
+    with open(path, "rb") as cases, open(folder / "second", "rb") as second, open(folder / "batch", "rb") as batch:
+        rows = itertools.zip_longest(read_cases(cases), read_answers(second), read_answers(batch))
+        for case, second_answer, batch_answer in rows:
+            compared = Compared(case, second_answer or b"", batch_answer or b"")
+            yield compared
+            if not compared.answered():
+                return
