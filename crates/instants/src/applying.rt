@@ -89,7 +89,7 @@ fn write_points<'a>(
     any
 }
 
-// "(old without deleted) with added". Most happenings add no fact: the points are gone through again only if one does.
+// "(old without deleted) with added". The points are gone through again only if one of them adds a fact.
 pub fn renew_facts<'a>(
     code: &'a [u8],
     starts: &'a [usize],
