@@ -15,6 +15,7 @@ ROOT = pathlib.Path(__file__).resolve().parent.parent
 SECOND = ROOT / "second/target/release/second"
 BATCH = pathlib.Path(os.environ.get("BATCH", ROOT / "target/bin/batch")).absolute()
 LAST_LINE = b"--\n"
+X86_64 = b"\x3e\x00"  # that processor's number in an ELF file
 
 
 class Case(NamedTuple):
@@ -80,10 +81,17 @@ def read_answers(source):
         yield b"".join(lines)
 
 
-def emulator():
-    """What runs a program of rt's: nothing on x86-64, for which they are, elsewhere the kit's emulator."""
+def is_for_x86_64(program):
+    """Whether a program is an ELF file for x86-64, as rt builds them; bench/native's are for the processor at hand."""
+    with open(program, "rb") as source:
+        head = source.read(20)
+    return head.startswith(b"\x7fELF") and head[18:20] == X86_64
+
+
+def emulator(program):
+    """What runs a program: nothing where it is for the processor at hand, else the kit's emulator."""
     machine = platform.machine()
-    if machine == "x86_64":
+    if machine == "x86_64" or not is_for_x86_64(program):
         return []
     guide = subprocess.run(["rt", "doc"], stdout=subprocess.PIPE, check=True, text=True).stdout.strip()
     tools = pathlib.Path(guide).parent.parent / "on" / machine / "toolchain"
@@ -93,7 +101,7 @@ def emulator():
 def run_both(path, folder):
     """Runs both programs over a file of cases; the folder has what they write. A bad exit status is one more line of it."""
     running = {}
-    for name, command in {"second": [SECOND, "--batch"], "batch": [*emulator(), BATCH]}.items():
+    for name, command in {"second": [SECOND, "--batch"], "batch": [*emulator(BATCH), BATCH]}.items():
         with open(path, "rb") as source, open(folder / name, "wb") as out:
             running[name] = subprocess.Popen(command, stdin=source, stdout=out)
     for name, program in running.items():
