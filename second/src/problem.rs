@@ -24,19 +24,20 @@ pub fn read_problem(domain: &Domain, text: &[u8]) -> Result<Problem, Refusal> {
     let reader = &mut Reader::domain_or_problem(text);
     let mut vocabulary = domain.vocabulary.clone();
     read_definition_head(reader, "problem")?;
-    let head = read_section_head(reader, &vocabulary)?;
+    let head = read_section_head(reader)?;
     due_section(&head, ":domain")?;
     read_domain_name(reader, domain)?;
-    let mut head = read_section_head(reader, &vocabulary)?;
+    let mut head = read_section_head(reader)?;
     if head.is(":objects") {
         read_objects(reader, &domain.vocabulary.types, &mut vocabulary.objects)?;
-        head = read_section_head(reader, &vocabulary)?;
+        head = read_section_head(reader)?;
     }
     let layout = Layout::of(&vocabulary);
+    judge_sums(&head, &layout)?;
     let mut initial = State::nothing_known(&layout);
     if head.is(":init") {
         read_init(reader, &vocabulary, &layout, &mut initial)?;
-        head = read_section_head(reader, &vocabulary)?;
+        head = read_section_head(reader)?;
     }
     due_section(&head, ":goal")?;
     let goal = read_goal(reader, &vocabulary)?;
@@ -53,21 +54,20 @@ pub fn read_problem(domain: &Domain, text: &[u8]) -> Result<Problem, Refusal> {
     })
 }
 
-/// Reads the bracket and the word that open a section. Row 12 judges "for the two sums `:init`,
-/// else `:goal`", before row 3 asks whether that section is due: "12 before 3".
-fn read_section_head<'t>(
-    reader: &mut Reader<'t>,
-    vocabulary: &Vocabulary,
-) -> Result<Token<'t>, Refusal> {
+/// Reads the bracket and the word that open a section.
+fn read_section_head<'t>(reader: &mut Reader<'t>) -> Result<Token<'t>, Refusal> {
     reader.due(Kind::Open)?;
-    let head = reader.token()?;
-    if head.is_one_of(&[":init", ":goal"]) {
-        let layout = Layout::of(vocabulary);
-        if layout.facts > FACTS || layout.numbers > NUMBERS {
-            return Err(head.refused(12));
-        }
+    reader.token()
+}
+
+/// Row 12: "for the two sums `:init`, else `:goal`", where it stands in its turn, which is behind
+/// the objects.
+fn judge_sums(head: &Token, layout: &Layout) -> Result<(), Refusal> {
+    let passed = layout.facts > FACTS || layout.numbers > NUMBERS;
+    if passed && head.is_one_of(&[":init", ":goal"]) {
+        return Err(head.refused(12));
     }
-    Ok(head)
+    Ok(())
 }
 
 fn due_section(head: &Token, section: &str) -> Result<(), Refusal> {

@@ -110,7 +110,7 @@ fn operands_too_many() {
 
 #[test]
 fn sums_at_sections_out_of_order() {
-    let sentence = "12. `:init` or `:goal` out of order where the sums are passed.";
+    let sentence = "12. `:init` or `:goal` where `:domain` is due: 3, also with a sum passed.";
     let constants = times(26, "c# ");
     let large = domain(&format!(
         "(:constants {constants}) (:predicates (p ?x ?y ?z))"
@@ -118,10 +118,14 @@ fn sums_at_sections_out_of_order() {
     let small = domain("(:constants c) (:predicates (p ?x ?y ?z))");
     let early_init = "(define (problem x) (^:init) (:domain d) (:goal (and)))";
     let early_goal = "(define (problem x) (^:goal (and)) (:domain d))";
-    check_problems_of(&large, sentence, &[(12, early_init), (12, early_goal)]);
-    check_problems_of(&small, sentence, &[(3, early_init), (3, early_goal)]);
+    for domain in [&large, &small] {
+        check_problems_of(domain, sentence, &[(3, early_init), (3, early_goal)]);
+    }
     let as_an_object = problem("(:objects ^:init)");
-    check_problems_of(&large, sentence, &[(3, as_an_object)]);
+    let unknown = problem("(^:metric2)");
+    check_problems_of(&large, sentence, &[(3, as_an_object), (3, unknown)]);
+    let in_turn = [problem("(^:init) (:goal (and))"), problem("(^:goal (and))")];
+    check_problems_of(&large, sentence, &in_turn.map(|text| (12, text)));
 }
 
 #[test]

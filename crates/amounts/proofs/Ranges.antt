@@ -6,11 +6,11 @@ use Prim.Native.Nat.{ℕ, zero, suc, _≤_, _<_, _^_}
 use native.Mathlib.Nat.{not-suc-le-zero, le-of-suc-le-suc}
 use native.Mathlib.Omega.{arith}
 use lib.ListN.{length, getD, List·getD-eq-default}
-use lib.IntN.{ℤ, pos, negsuc, _+ℤ_, _-ℤ_}
+use lib.IntN.{ℤ, pos, negsuc, negℤ, _+ℤ_, _-ℤ_}
 use lib.Signed.{mag, leZ}
 use borrow.Author.Tests.{leb-true}
-use Rattle.init.specs.State.{undefined}
-use Rattle.happenings.specs.State.{inside, within, defined, stored, numberAt, plusOf, lessOf}
+use Rattle.grammar.specs.First.{undefined}
+use Rattle.happenings.specs.State.{inside, within, defined, stored, numberAt, plusOf, lessOf, minusOf}
 use Rattle.happenings.specs.declared.Value.{Value}
 use Rattle.happenings.specs.declared.Value.the-variants.{Number, Undefined, Range}
 use Rattle.amounts.specs.Ranged.{Ranged}
@@ -98,6 +98,12 @@ ranged-plus (Number x) Undefined = tt
 ranged-plus (Number x) Range = tt
 ranged-plus Undefined b = tt
 ranged-plus Range b = tt
+
+pub ranged-minus : (a : Value) → Ranged (minusOf a)
+unfolding Ranged
+ranged-minus (Number x) = ranged-within (negℤ x)
+ranged-minus Undefined = tt
+ranged-minus Range = tt
 
 pub ranged-less : (a b : Value) → Ranged (lessOf a b)
 unfolding lessOf Ranged

@@ -1,10 +1,10 @@
--- The sum and the difference of two values: the first that is no number goes out, and two numbers are combined. Assumes nothing.
+-- Minus of a value, the sum and the difference of two values: the first that is no number goes out, and two numbers are combined. Assumes nothing.
 use mathlib.Core.Path.{_≡_, refl}
 use mathlib.Core.List.{[], _∷_}
-use lib.IntN.{ℤ, _+ℤ_, _-ℤ_}
+use lib.IntN.{ℤ, negℤ, _+ℤ_, _-ℤ_}
 use types.Run.{OneOf, miss}
 use denote.Enum.Declared.{tagOf}
-use Rattle.happenings.specs.State.{within, onNumber, plusOf, lessOf}
+use Rattle.happenings.specs.State.{within, onNumber, plusOf, lessOf, minusOf}
 use Rattle.happenings.specs.declared.Value.{Value}
 use Rattle.happenings.specs.declared.Value.the-variants.{Number, Undefined, Range}
 use Rattle.happenings.proofs.Value as value-type
@@ -16,6 +16,13 @@ no-number : (v : Value) (f : ℤ → Value) → NoNumber v → v ≡ onNumber v 
 no-number (Number x) f h = absurd (miss (1 ∷ 2 ∷ []) 0 tt h)
 no-number Undefined f h = refl
 no-number Range f h = refl
+
+module _ (a : Value) where
+  pub minus-none : NoNumber a → a ≡ minusOf a
+  minus-none h = no-number a (λ x. within (negℤ x)) h
+
+  pub minus-number : (x : ℤ) {r : Value} {x₁ s z : ℤ} → a ≡ Number x → x₁ ≡ x → s ≡ negℤ x₁ → z ≡ s → r ≡ within z → r ≡ minusOf a
+  minus-number x e g s z r = simp (r, z, s, g, e)
 
 module _ (a b : Value) where
   pub plus-first : NoNumber a → a ≡ plusOf a b

@@ -2,9 +2,9 @@
 use happenings::Value;
 ghost use mathlib.Core.Path.{_≡_};
 ghost use Prim.Native.Nat.{_<_, _^_};
-ghost use lib.IntN.{_+ℤ_, _-ℤ_};
+ghost use lib.IntN.{negℤ, _+ℤ_, _-ℤ_};
 ghost use lib.Signed.{mag, leZ};
-ghost use Rattle.happenings.specs.State.{inside, within, numberAt, stored, plusOf, lessOf};
+ghost use Rattle.happenings.specs.State.{inside, within, numberAt, stored, plusOf, lessOf, minusOf};
 ghost use Rattle.amounts.specs.Ranged.{Ranged};
 
 pub fn at_most(a: i64, b: i64) -> bool
@@ -25,6 +25,13 @@ pub fn difference(a: i64, b: i64) -> i64
     ensures { λ r. ⌜ r ≡ a -ℤ b ⌝ }
 {
     a - b
+}
+
+pub fn negation(a: i64) -> i64
+    requires { ⌜ mag a < 2 ^ 61 ⌝ }
+    ensures { λ r. ⌜ r ≡ negℤ a ⌝ }
+{
+    -a
 }
 
 pub fn is_inside(z: i64) -> bool
@@ -71,6 +78,16 @@ pub fn less(a: Value, b: Value) -> Value
         return b;
     };
     ranged(difference(x, y))
+}
+
+pub fn minus(a: Value) -> Value
+    requires { ⌜ Ranged a ⌝ }
+    ensures { λ r. ⌜ r ≡ minusOf a ⌝ }
+{
+    let Value::Number(x) = a else {
+        return a;
+    };
+    ranged(negation(x))
 }
 
 // The number at an index, as it is stored; past the end the one that says it is undefined.

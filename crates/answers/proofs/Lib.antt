@@ -1,1 +1,3 @@
--- Nothing beside the definitions.
+-- Worked examples: the starred cases of document 01, and texts that are refused.
+pub mod Starred
+pub mod Refusals

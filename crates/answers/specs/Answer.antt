@@ -9,10 +9,9 @@ use lib.ListN.{length, take}
 use Rattle.words.specs.Bytes.{bytes}
 use Rattle.grammar.specs.Read.{Read, got, refused}
 use Rattle.grammar.specs.Domain.{Domain, readDomain}
-use Rattle.grammar.specs.Problem.{Problem, readProblem, sumOf}
-use Rattle.rows.specs.Held.{padded}
-use Rattle.bases.specs.Bases.{basesOf}
-use Rattle.init.specs.State.{undefined, firstFacts, firstNumbers}
+use Rattle.grammar.specs.Problem.{Problem, readProblem}
+use Rattle.grammar.specs.Indexes.{sumOf, basesOf, padded}
+use Rattle.grammar.specs.First.{undefined, firstFacts, firstNumbers}
 use Rattle.happenings.specs.State.{State, Grounds, inside}
 use Rattle.happenings.specs.Happening.{promises}
 use Rattle.happenings.specs.declared.Outcome.{Outcome}

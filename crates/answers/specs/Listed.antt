@@ -1,15 +1,10 @@
--- Document 01's table of answers: which numbers a text can be refused by and with which places, and what a verdict can name. Tests of numbers.
+-- Document 01's table of answers: which numbers a text can be refused by and with which places, and what a verdict can name; its plan part is that of `plans`. Tests of numbers.
 use Prim.Native.Nat.{ℕ}
-use mathlib.Core.List.{List, [], _∷_}
-use mathlib.Core.Bool.{Bool, true, false, cond, _&&_, _||_}
+use mathlib.Core.Bool.{Bool, true, cond, _&&_}
 use lib.Dec.{eqb, leb, ltb}
+pub use Rattle.plans.specs.Listed.{listedLine, listedInPlan}
 use Rattle.happenings.specs.declared.Outcome.{Outcome}
 use Rattle.happenings.specs.declared.Outcome.the-variants.{Done, Duration, Condition, Undefined, Range, Itself, Conflict, Invariant, Goal}
-
--- a number is one of these
-unfoldable pub among : ℕ → List ℕ → Bool
-among k [] = false
-among k (n ∷ ns) = eqb k n || among k ns
 
 -- ---- domain and problem, of so many bytes: "Places are byte offsets from 0"
 
@@ -23,22 +18,6 @@ listedInDomain size k p = listedInText 12 size k p
 -- "13 problem names another domain"
 abbrev pub listedInProblem : ℕ → ℕ → ℕ → Bool
 listedInProblem size k p = listedInText 13 size k p
-
--- ---- a plan: "in plans, line and column from 1, a line's end being its length plus 1"
-
--- "256 bytes without LF, 1,000,000 lines"
-unfoldable pub listedLine : ℕ → Bool
-listedLine l = leb 1 l && leb l 1000000
-
-unfoldable pub listedColumn : ℕ → Bool
-listedColumn c = leb 1 c && leb c 257
-
--- "14 plan line too long: column 257"; "15 byte after the millionth LF"
-unfoldable pub listedInPlan : ℕ → ℕ → ℕ → Bool
-listedInPlan k l c =
-    cond (eqb k 15) (eqb l 1000001 && eqb c 1)
-    (cond (eqb k 14) (listedLine l && eqb c 257)
-    (among k (2 ∷ 3 ∷ 4 ∷ 5 ∷ 6 ∷ 8 ∷ 9 ∷ 10 ∷ 16 ∷ 17 ∷ 18 ∷ []) && listedLine l && listedColumn c))
 
 -- ---- a verdict: its lines are lines of the plan; "failures at the goal have .. lines 0 0"
 

@@ -1,26 +1,14 @@
--- First indexes stored one by one, and what stands at each place. Assumes nothing.
-use mathlib.Core.Path.{_≡_, sym}
+-- First indexes stored one by one. Assumes nothing.
+use mathlib.Core.Path.{_≡_}
 use mathlib.Core.List.{List, [], _∷_}
-use Prim.Native.Nat.{ℕ, zero, suc, _+_, _^_, _≤_, _<_}
-use native.Mathlib.Nat.{add-zero}
+use Prim.Native.Nat.{ℕ, _+_, _≤_, _<_}
 use native.Mathlib.Numerals.{add-one}
-use native.Mathlib.Omega.{arith}
-use lib.ListN.{length, getD, set, drop, drop-of-length-le}
+use lib.ListN.{length, set, drop, drop-of-length-le}
 use lib.Seq.{sets, drop-cons}
 use Rattle.grammar.specs.Tables.{Table, entry}
-use Rattle.grammar.specs.Problem.{arity, firstOf}
+use Rattle.grammar.specs.Indexes.{basesFrom, basesOf}
+use Rattle.indexes.specs.Firsts.{firstOf}
 use Rattle.indexes.proofs.Sums.{first-zero, first-next}
-use Rattle.bases.specs.Bases.{basesFrom, basesOf}
-
-behind-sum : (n sum : ℕ) (t : Table) (i : ℕ) → i < length t → getD (basesFrom n sum t) i 0 ≡ sum + firstOf n t i
-unfolding basesFrom firstOf
-behind-sum n sum [] i h = absurd (let z : ⊥ = omega arith in z)
-behind-sum n sum (e ∷ t) zero h = sym (add-zero sum)
-behind-sum n sum (e ∷ t) (suc i) h = omega (arith, behind-sum n (sum + n ^ arity e) t i (omega arith))
-
--- at place i stands the first index of number i
-pub base-first : (n : ℕ) (t : Table) (i : ℕ) → i < length t → getD (basesOf n t) i 0 ≡ firstOf n t i
-base-first n t i h = omega (arith, behind-sum n 0 t i h)
 
 pub bases-start : (out : List ℕ) (n : ℕ) (t : Table) → sets out 0 (basesFrom n (firstOf n t 0) (drop 0 t)) ≡ sets out 0 (basesOf n t)
 bases-start out n t = rw (first-zero n t)

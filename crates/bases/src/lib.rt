@@ -7,7 +7,7 @@ ghost use Rattle.text.specs.Runs.{part};
 ghost use Rattle.grammar.specs.Tables.{Table};
 ghost use Rattle.rows.specs.Held.{Holds};
 ghost use Rattle.terms.specs.Scoped.{AllSigned, Signatures};
-ghost use Rattle.bases.specs.Bases.{basesOf};
+ghost use Rattle.grammar.specs.Indexes.{basesOf};
 
 // One number; past the end nothing is stored.
 pub fn put(out: &mut [usize], at: usize, x: usize)

@@ -1,7 +1,6 @@
 // What is written for a record: the line and, unless something is refused, the facts and the numbers; then `--`.
 use checker::Answer;
 use checker::Check;
-use checker::outputs;
 use domain::Verdict;
 use records::listing;
 use records::output;
@@ -17,7 +16,7 @@ pub fn write(verdict: Verdict, check: Check) {
 fn answer(verdict: Verdict, check: Check, out: &mut [u8]) -> usize {
     let mut line = [0u8; 64];
     let Verdict::Loaded = verdict else {
-        let told = outputs::refused_line(verdict, &mut line);
+        let told = checker::refused_line(verdict, &mut line);
         return put_line(told, &line, out, 0);
     };
     let finished = check.finish();

@@ -10,7 +10,7 @@ use lib.ListN.{length, getD, set}
 use lib.Signed.{mag, leZ}
 use borrow.Author.Tests.{leb-true}
 use Rattle.grammar.specs.Effects.{Change, assign, raise, lower, Effect, becomes, changes}
-use Rattle.init.specs.State.{undefined}
+use Rattle.grammar.specs.First.{undefined}
 use Rattle.happenings.specs.State.{Grounds, inside, numberAt, numberOf}
 use Rattle.happenings.specs.Truths.{valueOf}
 use Rattle.happenings.specs.Happening.{Made, made, isDone, onNeeded, needed, newNumber, setNumber, changeOne, changeAll}

@@ -10,7 +10,7 @@ use lib.ListN.{length, getD, set, length-set}
 use lib.Seq.{getD-set-other}
 use borrow.Author.Tests.{eqb-true, eqb-false}
 use Rattle.grammar.specs.Effects.{Change, assign, raise, lower, Effect, becomes, changes}
-use Rattle.init.specs.State.{undefined}
+use Rattle.grammar.specs.First.{undefined}
 use Rattle.happenings.specs.State.{Grounds, numberAt, numberOf}
 use Rattle.happenings.specs.Truths.{valueOf}
 use Rattle.happenings.specs.Writes.{some, markOf, marksOf}

@@ -5,20 +5,23 @@ use mathlib.Core.Bool.{Bool, true, false}
 use Prim.Native.Nat.{ℕ, _≤_}
 use native.Mathlib.Omega.{arith}
 use lib.ListN.{length, take}
-use Rattle.rows.specs.Held.{padded}
+use Rattle.grammar.specs.Indexes.{padded}
 use Rattle.entries.specs.Entries.{signedIn}
 use Rattle.codes.specs.Decode.{conditionAt}
-use Rattle.domain.specs.Decode.{decode}
+use Rattle.domain.proofs.Decoded.{types-in, objects-in, actions-in, goal-in}
 use Rattle.happenings.specs.State.{State}
+use Rattle.happenings.specs.Happening.{promises}
 use Rattle.happenings.specs.declared.Outcome.{Outcome}
+use Rattle.grounds.specs.Grounded.{groundsIn}
 use Rattle.plans.specs.Plan.{Rules, Result}
 use Rattle.plans.specs.Feed.{Feed, feed, close}
-use Rattle.plans.specs.Promised.{Act}
+use Rattle.plans.specs.Promised.{Act, rulesOf}
 use Rattle.plans.specs.Lines.{Known, Refused, reader, limits}
 use Rattle.waiting.specs.Waiting.{used, queueOf}
 use Rattle.waiting.specs.declared.Queue.{Queue}
 use Rattle.running.specs.Running.{rulesIn}
 use Rattle.lines.specs.Knowing.{Tabled, Headed, knownIn}
+use Rattle.lines.proofs.Knowing.{known-in}
 use Rattle.feeding.specs.Feeding.{refusedIn, heldIn, closedIn, Fit}
 use Rattle.feeding.specs.declared.Progress.{Progress}
 use Rattle.checker.specs.declared.Check.{Check}
@@ -26,7 +29,7 @@ use Rattle.checker.specs.declared.Fed.{Fed}
 use Rattle.checker.specs.declared.Answer.{Answer}
 use Rattle.checker.specs.declared.Answer.the-variants as A
 use Rattle.checker.specs.Calls.{wellFormed, anyState, rulesOn, knownOn, heldBy, refusedFrom, settled, endedFrom, emptyLine, stored, ended, fed, standing, answering, withFinish, whileOpen, feedOf, finishOf}
-use Rattle.checker.proofs.Formed.{formed-parts}
+use Rattle.checker.proofs.Formed.{formed-parts, formed-sound}
 use Rattle.checker.proofs.Storing.{stored-held, stored-refused, ended-refused, ended-run}
 
 -- ---- 19 and 21
@@ -59,7 +62,7 @@ ready-for c good h free =
     let g = formed-parts (c .progress) (c .model .counts) (c .model .acting) (c .ground .facts) (c .ground .numbers) (c .queue) good in (
       (omega (arith, h .tables), g .sizes .types, g .sizes .objects),
       (omega (arith, h .heads), g .sizes .actions),
-      (g .sound, g .counters .timely, g .counters .short, g .counters .first, g .counters .lines),
+      (formed-sound g, g .counters .timely, g .counters .short, g .counters .first, g .counters .lines),
       free,
       h .line,
       omega (arith, h .code),
@@ -76,12 +79,14 @@ abbrev pub knownBy : Check → Known
 knownBy c = knownIn (c .model .tables) (c .model .counts) (c .model .actions) (c .model .acting) (c .model .code) (c .model .starts)
 
 pub rules-on : (c : Check) → rulesBy c ≡ rulesOn c
-unfolding rulesOn decode
-rules-on c = refl
+unfolding rulesOn
+rules-on c = λ i. rulesOf (promises (groundsIn (c .ground .firsts)) (goal-in (c .model) i)) (actions-in (c .model) i) anyState
 
 pub known-on : (c : Check) → knownBy c ≡ knownOn c
-unfolding knownOn decode knownIn
-known-on c = refl
+unfolding knownOn
+known-on c =
+    known-in (c .model .tables) (c .model .counts) (c .model .actions) (c .model .acting) (c .model .code) (c .model .starts)
+    ∙ (λ i. record { types = types-in (c .model) i; objects = objects-in (c .model) i; actions = actions-in (c .model) i })
 
 -- ---- a refusal that stood before the call
 

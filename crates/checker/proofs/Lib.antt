@@ -1,5 +1,6 @@
 -- Laws of checks, for this crate's functions and the crates above.
 pub mod Formed
+pub mod TableRows
 pub mod Padding
 pub mod Written
 pub mod Shown

@@ -6,7 +6,7 @@ use mathlib.Core.Path.{_≡_, ap, _∙_}
 use lib.IntN.{ℤ, pos}
 use lib.ListN.{length, take, getD, set}
 use lib.Seq.{sets}
-use Rattle.init.specs.State.{undefined}
+use Rattle.grammar.specs.First.{undefined}
 use Rattle.happenings.specs.State.{inside}
 use Rattle.answers.specs.Answer.{shown}
 use Rattle.checker.proofs.Written.{written-more}

@@ -3,13 +3,13 @@
 use Prim.Native.Nat.{ℕ}
 use mathlib.Core.List.{List, [], map}
 use mathlib.Core.Bool.{Bool, true, false, cond, _&&_}
-use lib.Dec.{ltb, leb}
+use lib.Dec.{ltb, leb, eqb}
 use lib.IntN.{ℤ}
 use lib.ListN.{length, take, replicate}
 use lib.Seq.{sets}
 use Rattle.words.specs.Bytes.{bytes}
-use Rattle.rows.specs.Held.{padded}
-use Rattle.init.specs.State.{noFacts, noNumbers}
+use Rattle.grammar.specs.Indexes.{padded}
+use Rattle.grammar.specs.First.{noFacts, noNumbers}
 use Rattle.domain.specs.Decode.{decode}
 use Rattle.domain.specs.Load.{loadOf}
 use Rattle.domain.specs.declared.Loaded.{Loaded}
@@ -29,7 +29,7 @@ use Rattle.plans.specs.Feed.{Feed, reading, feed, close}
 use Rattle.plans.specs.Promised.{Act, rulesOf}
 use Rattle.plans.specs.Lines.{Known, Refused, reader, limits}
 use Rattle.plans.specs.Stored.{slotOf}
-use Rattle.waiting.specs.Waiting.{used, queueOf, soundAll}
+use Rattle.waiting.specs.Waiting.{used, queueOf, slotsFit}
 use Rattle.waiting.specs.declared.Queue.{Queue}
 use Rattle.running.specs.declared.Past.{Past}
 use Rattle.feeding.specs.Feeding.{heldIn}
@@ -38,42 +38,31 @@ use Rattle.grounding.specs.Grounding.{groundFor}
 use Rattle.grounding.specs.declared.Ground.{Ground}
 use Rattle.wording.specs.Wording.{verdictLine, refusalLine}
 use Rattle.answers.specs.Answer.{bit, shown, lastState}
+use Rattle.answers.specs.Listed.{listedInPlan, listedVerdict, listedTime}
 use Rattle.checker.specs.declared.Check.{Check}
 use Rattle.checker.specs.declared.Answer.{Answer}
 use Rattle.checker.specs.declared.Answer.the-variants as A
 use Rattle.checker.specs.declared.Opened.{Opened}
 use Rattle.checker.specs.declared.Fed.{Fed}
 
--- ---- document 01's number for each answer, 0 for none; and its values: of a plan refusal line and column, else 0 0
-
-abbrev pub numberOf : Answer → ℕ
-numberOf (A.Done n) = 0
-numberOf (A.Refused k l c) = k
-numberOf A.Unformed = 19
-numberOf A.Short = 20
-numberOf A.Late = 21
-numberOf A.Early = 22
-numberOf A.Stateless = 23
-
-abbrev pub placeOf : Answer → ℕ × ℕ
-placeOf (A.Done n) = (0, 0)
-placeOf (A.Refused k l c) = (l, c)
-placeOf A.Unformed = (0, 0)
-placeOf A.Short = (0, 0)
-placeOf A.Late = (0, 0)
-placeOf A.Early = (0, 0)
-placeOf A.Stateless = (0, 0)
-
 -- ---- "Well formed" is a test of the check's numbers
 
+-- where the plan is: past the millionth line no byte is kept
 unfoldable pub countersFit : Progress → Bool
-countersFit p = ltb 0 (p .number) && leb (p .number) 1000001 && leb (p .used) 256 && ltb (p .start) 1000000000000
+countersFit p =
+    ltb 0 (p .number) && leb (p .number) (cond (eqb (p .used) 0) 1000001 1000000) && leb (p .used) 256 && ltb (p .start) 1000000000000
+
+-- what would be answered: a plan refusal that stands, or what came of the plan so far
+unfoldable pub answersFit : Progress → Bool
+answersFit p =
+    cond (p .refused) (listedInPlan (p .refusal) (p .at) (p .column)) true && listedVerdict (p .past .outcome) && listedTime (p .past .time)
 
 unfoldable pub sizesFit : Counts → ℕ → ℕ → ℕ → Bool
 sizesFit counts acting facts numbers = leb (counts .types) 17 && leb (counts .objects) 64 && leb acting 32 && leb facts 16384 && leb numbers 1024
 
 unfoldable pub formed : Progress → Counts → ℕ → ℕ → ℕ → Queue → Bool
-formed p counts acting facts numbers q = countersFit p && sizesFit counts acting facts numbers && leb (q .count) 64 && soundAll acting (used q)
+formed p counts acting facts numbers q =
+    countersFit p && answersFit p && sizesFit counts acting facts numbers && leb (q .count) 64 && slotsFit acting (used q)
 
 abbrev pub wellFormed : Check → Bool
 wellFormed c = formed (c .progress) (c .model .counts) (c .model .acting) (c .ground .facts) (c .ground .numbers) (c .queue)

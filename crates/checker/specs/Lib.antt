@@ -1,2 +1,3 @@
 -- What the calls do.
 pub mod Calls
+pub mod Numbers

@@ -1,5 +1,6 @@
 // "Well formed": the test of a check's numbers; and what is kept of a check between calls.
 use crate::Check;
+use crate::listing;
 use domain::Loaded;
 use domain::Model;
 use feeding::Progress;
@@ -9,17 +10,29 @@ use running::Past;
 use terms::scope::Counts;
 use waiting::Queue;
 ghost use mathlib.Core.Path.{_≡_};
+ghost use mathlib.Core.Bool.{cond};
 ghost use Prim.Native.Nat.{_≤_};
+ghost use lib.Dec.{eqb};
 ghost use lib.ListN.{length, take};
-ghost use Rattle.rows.specs.Held.{padded};
+ghost use Rattle.grammar.specs.Indexes.{padded};
 ghost use Rattle.feeding.specs.Feeding.{refusedIn};
 ghost use Rattle.checker.specs.Calls.{countersFit, sizesFit, formed, ready, settled, noGround, checkFor, refusedFrom, endedFrom};
+
+// The last line that can have so many bytes.
+fn most_lines(used: usize) -> usize
+    ensures { λ r. ⌜ r ≡ cond (eqb used 0) 1000001 1000000 ⌝ }
+{
+    if used == 0 {
+        return 1000001;
+    }
+    1000000
+}
 
 fn counters_fit(p: Progress) -> bool
     ensures { λ r. ⌜ r ≡ countersFit p ⌝ }
 {
     if 0 < p.number {
-        if p.number <= 1000001 {
+        if p.number <= most_lines(p.used) {
             if p.used <= 256 {
                 return p.start < 1000000000000;
             }
@@ -55,9 +68,11 @@ pub fn is_formed(
     ensures { λ r. ⌜ r ≡ formed p counts acting facts numbers queue ⌝ }
 {
     if counters_fit(p) {
-        if sizes_fit(counts, acting, facts, numbers) {
-            if queue.count <= 64 {
-                return waiting::sound(queue, acting);
+        if listing::answers_fit(p) {
+            if sizes_fit(counts, acting, facts, numbers) {
+                if queue.count <= 64 {
+                    return waiting::slots_fit(queue, acting);
+                }
             }
         }
     }

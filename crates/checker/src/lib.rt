@@ -1,6 +1,7 @@
 // The check of a plan: what the caller holds, and the calls on it. No call asks anything of what it is handed.
 mod forming;
-pub mod outputs;
+mod listing;
+mod outputs;
 
 use domain::Model;
 use domain::Verdict;
@@ -11,7 +12,7 @@ use grounding::Ground;
 use waiting::Queue;
 ghost use mathlib.Core.Path.{_≡_};
 ghost use mathlib.Core.Bool.{true, false};
-ghost use Rattle.checker.specs.Calls.{wellFormed, fed, feedOf, finishOf, resultOf, factsOf, numbersOf, openOf};
+ghost use Rattle.checker.specs.Calls.{wellFormed, fed, feedOf, finishOf, resultOf, factsOf, numbersOf, openOf, lineOf};
 
 pub struct Check {
     pub model: Model,
@@ -72,6 +73,17 @@ pub fn load(domain: &[u8], problem: &[u8]) -> Opened
     );
     let check = forming::check_for(loaded, ground, 1);
     Opened { check, answer }
+}
+
+// A refused load's line, from its answer.
+pub fn refused_line(answer: Verdict, line: &mut [u8]) -> Answer
+    ensures { λ r. ⌜ (r, now (line .exit)) ≡ lineOf answer (now (line .entry)) ⌝ }
+{
+    match answer {
+        Verdict::Loaded => Answer::Early,
+        Verdict::Domain(k, p) => outputs::write_refusal(line, b"domain", k, p),
+        Verdict::Problem(k, p) => outputs::write_refusal(line, b"problem", k, p),
+    }
 }
 
 impl Check {

@@ -1,6 +1,5 @@
 // What the calls answer and write.
 use crate::Answer;
-use domain::Verdict;
 use feeding::Progress;
 ghost use mathlib.Core.Path.{_≡_};
 ghost use mathlib.Core.List.{map};
@@ -9,7 +8,7 @@ ghost use lib.ListN.{length, take};
 ghost use lib.Seq.{sets};
 ghost use Rattle.answers.specs.Answer.{bit, shown};
 ghost use Rattle.wording.specs.Wording.{refusalLine};
-ghost use Rattle.checker.specs.Calls.{standing, lineIn, writingLine, lineOf};
+ghost use Rattle.checker.specs.Calls.{standing, lineIn, writingLine};
 
 // A plan refusal that stands, or that all is done.
 pub fn standing_answer(p: Progress) -> Answer
@@ -80,7 +79,7 @@ pub fn write_numbers<'a>(numbers: &'a [i64], n: usize, out: &mut [i64])
 }
 
 // A refusal of a text, if there is room.
-fn write_refusal(line: &mut [u8], word: &[u8], k: u8, p: usize) -> Answer
+pub fn write_refusal(line: &mut [u8], word: &[u8], k: u8, p: usize) -> Answer
     requires { ⌜ length (now word) ≤ 16 ⌝ }
     ensures { λ r. ⌜ (r, now (line .exit)) ≡ writingLine (refusalLine (now (word .entry)) k p 0) (now (line .entry)) ⌝ }
 {
@@ -88,15 +87,4 @@ fn write_refusal(line: &mut [u8], word: &[u8], k: u8, p: usize) -> Answer
         return Answer::Short;
     }
     Answer::Done(wording::refusal_line(line, word, k as usize, p, 0))
-}
-
-// A refused load's line, from its answer.
-pub fn refused_line(answer: Verdict, line: &mut [u8]) -> Answer
-    ensures { λ r. ⌜ (r, now (line .exit)) ≡ lineOf answer (now (line .entry)) ⌝ }
-{
-    match answer {
-        Verdict::Loaded => Answer::Early,
-        Verdict::Domain(k, p) => write_refusal(line, b"domain", k, p),
-        Verdict::Problem(k, p) => write_refusal(line, b"problem", k, p),
-    }
 }

@@ -5,7 +5,7 @@ use Prim.Native.Nat.{ℕ, zero, suc, _+_, _-_}
 use native.Mathlib.Omega.{arith}
 use lib.ListN.{length, length-append}
 use borrow.Author.Tests.{lt-ltb, le-ltb, ne-eqb}
-use Rattle.grammar.specs.Terms.{Arg, object, variable, Ref, Expr, number, value, minus, less, plus}
+use Rattle.grammar.specs.Terms.{Arg, object, variable, Ref, Expr, number, value, minus, difference, plus}
 use Rattle.terms.specs.Cells.{cellOf, argCells}
 use Rattle.expressions.specs.Codes.{refCells, cellsOf}
 use Rattle.codes.specs.Decode.{decoded, argOf, argsAt, refAt, leafAt, exprNode, exprAt}
@@ -58,7 +58,7 @@ module _ (code : List ℕ) (at d : ℕ) where
       rw (below s, head-is s, e, n)
 
   less-read : {a b : Expr} (xs ys : List ℕ) → Stands code at (1 ∷ (xs ++ ys)) → exprAt d code (at + 1) ≡ decoded a (at + 1 + length xs)
-      → exprAt d code (at + 1 + length xs) ≡ decoded b (at + 1 + length xs + length ys) → exprAt (suc d) code at ≡ decoded (less a b) (at + length (1 ∷ (xs ++ ys)))
+      → exprAt d code (at + 1 + length xs) ≡ decoded b (at + 1 + length xs + length ys) → exprAt (suc d) code at ≡ decoded (difference a b) (at + length (1 ∷ (xs ++ ys)))
   unfolding exprAt exprNode
   less-read xs ys s e f =
       let n : at + 1 + length xs + length ys ≡ at + length (1 ∷ (xs ++ ys)) = omega (arith, length-append xs ys) in
@@ -78,7 +78,7 @@ expr-read x code at zero g s = absurd g
 expr-read (number z) code at (suc d) g s = number-read z code at d g s
 expr-read (value r) code at (suc d) g s = value-read r code at d g s
 expr-read (minus a) code at (suc d) g s = one-read code at d s (expr-read a code (at + 1) d g (behind s))
-expr-read (less a b) code at (suc d) g s =
+expr-read (difference a b) code at (suc d) g s =
     let t = behind s in
     less-read code at d (cellsOf a) (cellsOf b) s
     (expr-read a code (at + 1) d (g .0) (front (cellsOf a) (cellsOf b) t))

@@ -90,7 +90,7 @@ module _ (s : List ℕ) (ts : Table) (max most : ℕ) where
   declaration-gives : (t : Table) (at : ℕ) → AllFew most t → Gives (AllFew most) (declaration s ts max most t at)
   unfolding declaration
   declaration-gives t at h =
-      behind-gives (newName s 1 at) _
+      behind-gives (newName s 13 at) _
       (λ n a. behind-gives (fresh max t (n .place) (n .word) a) _
       (λ p b. then-gives _ (variables-gives s ts most b) (λ vs i l. gives (few-join most t (signature (n .word) vs) h (omega (arith, length-map vs typeOf))))))
 
@@ -98,8 +98,8 @@ module _ (s : List ℕ) (ts : Table) (max most : ℕ) where
   unfolding declarations
   declarations-gives zero t at h = refuses
   declarations-gives (suc k) t at h =
-      close-gives (tokenAt s at) _ _ at (λ p. behind-gives (closing s 1 at) _ (λ q i. gives h))
-      (behind-gives (opening s 1 at) _ (λ q a. then-gives _ (declaration-gives t a h) (λ u b g. declarations-gives k u b g)))
+      close-gives (tokenAt s at) _ _ at (λ p. behind-gives (closing s 14 at) _ (λ q i. gives h))
+      (behind-gives (opening s 14 at) _ (λ q a. then-gives _ (declaration-gives t a h) (λ u b g. declarations-gives k u b g)))
 
 -- ---- sections
 
@@ -174,7 +174,7 @@ unfolding initAndGoal
 init-goal-gives s c z at =
     behind-gives (beginsWith s (bytes ":init") at) _
     (λ o a. behind-gives (onOpened o (λ p. initAt s c p) (give nothing) a) _
-    (λ x b. behind-gives (sectionDueOf s c (bytes ":goal") b) _
+    (λ x b. behind-gives (sectionDueOf s (bytes ":goal") b) _
     (λ q i. behind-gives (onOpened o (λ p. give q) (sumsAt c q) i) _ (λ r j. then-gives _ (goal-gives s c z j) (λ g n h. gives h)))))
 
 problem-gives : (s : List ℕ) (d : Domain) → Sized (scopeOf d (d .constants)) → (at : ℕ) → Gives (λ p. GoodCond 16 (p .goal)) (problemText s d at)

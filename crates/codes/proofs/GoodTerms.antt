@@ -22,7 +22,7 @@ use Rattle.text.proofs.Valued.{number-value, number-reads}
 use Rattle.grammar.specs.Read.{Reader, give, refuse}
 use Rattle.grammar.specs.Tables.{Table, entryAt, wantedOf, lookup, onFound, declared, isBelow}
 use Rattle.grammar.specs.Due.{afterOf, closing}
-use Rattle.grammar.specs.Terms.{Scope, Expr, number, value, minus, less, plus, Given, givenBy, argument, fits, arguments, reference, Counted, counted, leaf, operandsEnd, plusOf, minusOf, operation, headed, expr, expression}
+use Rattle.grammar.specs.Terms.{Scope, Expr, number, value, minus, difference, plus, Given, givenBy, argument, fits, arguments, reference, Counted, counted, leaf, operandsEnd, plusOf, minusOf, operation, headed, expr, expression}
 use Rattle.literals.proofs.Cells.{turned-mag}
 use Rattle.terms.proofs.Kept.{found-below}
 use Rattle.codes.specs.Good.{GoodArg, GoodArgs, GoodRef, GoodExpr, AllFew, Sized}
@@ -94,7 +94,7 @@ expr-deeper x (suc d) zero h g = absurd (let y : ⊥ = omega arith in y)
 expr-deeper (number z) (suc d) (suc e) h g = g
 expr-deeper (value r) (suc d) (suc e) h g = g
 expr-deeper (minus a) (suc d) (suc e) h g = expr-deeper a d e (omega arith) g
-expr-deeper (less a b) (suc d) (suc e) h g = (expr-deeper a d e (omega arith) (g .0), expr-deeper b d e (omega arith) (g .1))
+expr-deeper (difference a b) (suc d) (suc e) h g = (expr-deeper a d e (omega arith) (g .0), expr-deeper b d e (omega arith) (g .1))
 expr-deeper (plus a b) (suc d) (suc e) h g = (expr-deeper a d e (omega arith) (g .0), expr-deeper b d e (omega arith) (g .1))
 
 abbrev GoodOf : ℕ → Counted Expr → Type 0

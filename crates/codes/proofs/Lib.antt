@@ -5,6 +5,7 @@ pub mod Expressions
 pub mod Conditions
 pub mod Effects
 pub mod Actions
+pub mod Numbered
 pub mod Giving
 pub mod GoodTerms
 pub mod GoodConditions

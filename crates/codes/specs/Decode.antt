@@ -7,7 +7,7 @@ use lib.Dec.{ltb, eqb}
 use lib.IntN.{ℤ, pos}
 use lib.ListN.{length}
 use Rattle.grammar.specs.Tables.{Entry, Table}
-use Rattle.grammar.specs.Terms.{Arg, object, variable, Ref, Expr, number, value, minus, less, plus}
+use Rattle.grammar.specs.Terms.{Arg, object, variable, Ref, Expr, number, value, minus, difference, plus}
 use Rattle.grammar.specs.Conditions.{Comparison, Cond, Conds, all, atom, same, compare, none, cons}
 use Rattle.grammar.specs.Conditions as C
 use Rattle.grammar.specs.Effects.{Change, assign, raise, lower, Effect, becomes, changes}
@@ -67,7 +67,7 @@ leafAt code at tag =
 unfoldable pub exprNode : (ℕ → Decoded Expr) → List ℕ → ℕ → ℕ → Decoded Expr
 exprNode f code at tag =
     cond (eqb tag 0) (mapped minus (f (at + 1)))
-    (cond (eqb tag 1) (both less (f (at + 1)) f)
+    (cond (eqb tag 1) (both difference (f (at + 1)) f)
     (cond (eqb tag 2) (both plus (f (at + 1)) f) (leafAt code at tag)))
 
 -- at most so many levels deep

@@ -5,7 +5,7 @@ use mathlib.Core.List.{List, [], _∷_}
 use lib.ListN.{length}
 use lib.Signed.{mag}
 use Rattle.grammar.specs.Tables.{Table, wantedOf}
-use Rattle.grammar.specs.Terms.{Scope, Arg, object, variable, Ref, Expr, number, value, minus, less, plus}
+use Rattle.grammar.specs.Terms.{Scope, Arg, object, variable, Ref, Expr, number, value, minus, difference, plus}
 use Rattle.grammar.specs.Conditions.{Cond, Conds, all, atom, same, compare, none, cons}
 use Rattle.grammar.specs.Effects.{Effect, becomes, changes}
 use Rattle.grammar.specs.Actions.{Timed, Lasting, moment, rule, Action}
@@ -29,7 +29,7 @@ GoodExpr zero x = ⊥
 GoodExpr (suc d) (number z) = mag z < 1099511627775
 GoodExpr (suc d) (value r) = GoodRef 2 r
 GoodExpr (suc d) (minus a) = GoodExpr d a
-GoodExpr (suc d) (less a b) = GoodExpr d a × GoodExpr d b
+GoodExpr (suc d) (difference a b) = GoodExpr d a × GoodExpr d b
 GoodExpr (suc d) (plus a b) = GoodExpr d a × GoodExpr d b
 
 -- there is a level, and so many below it

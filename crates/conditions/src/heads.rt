@@ -1,6 +1,5 @@
 // How a condition begins: with a bracket and its head word, a comparison's counted where it stands.
 use due::Answer;
-use text::runs;
 use text::tokens;
 use text::tokens::Token;
 use text::tokens::Word;
@@ -74,8 +73,8 @@ fn head_at(text: &[u8], from: usize, d: usize, left: usize) -> Headed
         return Headed::Other(due::refusal(t, d));
     };
     match k {
-        Word::Name => named_of(fixed::head_of(runs::part_of(text, p, e)), p, e),
-        Word::Operator => operated_of(fixed::head_of(runs::part_of(text, p, e)), p, e, left),
+        Word::Name => named_of(fixed::head_of(tokens::word_of(text, t)), p, e),
+        Word::Operator => operated_of(fixed::head_of(tokens::word_of(text, t)), p, e, left),
         Word::Variable => Headed::Other(Answer::Refused(3, p)),
         Word::Keyword => Headed::Other(Answer::Refused(3, p)),
     }

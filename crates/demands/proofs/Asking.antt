@@ -15,32 +15,35 @@ use Rattle.answers.specs.Answer.{ofPlan}
 use Rattle.checker.specs.Calls as C
 use Rattle.checker.specs.Calls.{wellFormed, resultOf, factsOf, numbersOf}
 use Rattle.checker.specs.declared.Check.{Check}
-use Rattle.demands.specs.Sessions.{Shows}
-use Rattle.demands.proofs.Storing.{fresh-formed}
+use Rattle.demands.proofs.Sessions.{Shows}
+use Rattle.demands.proofs.Keeping.{KeptResult}
+use Rattle.demands.proofs.Storing.{fresh-formed, ended-answers}
+use Rattle.demands.proofs.Session.{refused-formed}
 
+-- x is what the machine can come to
 module _ (c : Check) (f : wellFormed c ≡ true) where
-  pub ended-formed : (x : Result State Why.Outcome Refused) → wellFormed (C.ended c x) ≡ true
+  pub ended-formed : (x : Result State Why.Outcome Refused) → KeptResult x → wellFormed (C.ended c x) ≡ true
   unfolding C.ended
-  ended-formed (refused e) = fresh-formed c f (C.ended c (refused e) .progress) refl refl refl
-  ended-formed (ended r) = fresh-formed c f (C.ended c (ended r) .progress) refl refl refl
+  ended-formed (refused e) k = refused-formed c e true f k
+  ended-formed (ended r) k = fresh-formed c f (C.ended c (ended r) .progress) refl refl refl (ended-answers r k)
 
   -- the line
-  pub asked-line : (x : Result State Why.Outcome Refused) (j k : ℕ) (line : List ℕ) → 64 ≤ length line
+  pub asked-line : (x : Result State Why.Outcome Refused) → KeptResult x → (j k : ℕ) (line : List ℕ) → 64 ≤ length line
       → resultOf (C.ended c x) line .1 ≡ sets line 0 (ofPlan j k x .line)
   unfolding resultOf C.ended ofPlan
-  asked-line (refused e) j k line h = rw (ended-formed (refused e), le-ltb (length line) 64 h)
-  asked-line (ended (going s t)) j k line h = rw (ended-formed (ended (going s t)), le-ltb (length line) 64 h)
-  asked-line (ended (failed s t w)) j k line h = rw (ended-formed (ended (failed s t w)), le-ltb (length line) 64 h)
+  asked-line (refused e) l j k line h = rw (ended-formed (refused e) l, le-ltb (length line) 64 h)
+  asked-line (ended (going s t)) l j k line h = rw (ended-formed (ended (going s t)) l, le-ltb (length line) 64 h)
+  asked-line (ended (failed s t w)) l j k line h = rw (ended-formed (ended (failed s t w)) l, le-ltb (length line) 64 h)
 
   -- the facts and the numbers
-  pub asked-facts : (x : Result State Why.Outcome Refused) (k : ℕ) (out : List ℕ)
+  pub asked-facts : (x : Result State Why.Outcome Refused) → KeptResult x → (k : ℕ) (out : List ℕ)
       → Shows (c .ground .facts) (ofPlan (c .ground .facts) k x .final) (λ y. y .facts) out (factsOf (C.ended c x) out .1)
   unfolding factsOf C.ended ofPlan
-  asked-facts (refused e) k out = rw (ended-formed (refused e)) refl
-  asked-facts (ended r) k out = λ h. rw (ended-formed (ended r), le-ltb (length out) (c .ground .facts) h) refl
+  asked-facts (refused e) l k out = rw (ended-formed (refused e) l) refl
+  asked-facts (ended r) l k out = λ h. rw (ended-formed (ended r) l, le-ltb (length out) (c .ground .facts) h) refl
 
-  pub asked-numbers : (x : Result State Why.Outcome Refused) (j : ℕ) (out : List ℤ)
+  pub asked-numbers : (x : Result State Why.Outcome Refused) → KeptResult x → (j : ℕ) (out : List ℤ)
       → Shows (c .ground .numbers) (ofPlan j (c .ground .numbers) x .final) (λ y. y .numbers) out (numbersOf (C.ended c x) out .1)
   unfolding numbersOf C.ended ofPlan
-  asked-numbers (refused e) j out = rw (ended-formed (refused e)) refl
-  asked-numbers (ended r) j out = λ h. rw (ended-formed (ended r), le-ltb (length out) (c .ground .numbers) h) refl
+  asked-numbers (refused e) l j out = rw (ended-formed (refused e) l) refl
+  asked-numbers (ended r) l j out = λ h. rw (ended-formed (ended r) l, le-ltb (length out) (c .ground .numbers) h) refl

@@ -19,7 +19,7 @@ use Rattle.answers.specs.Answer.{groundsOf, firstState, knownFor}
 use Rattle.validity.specs.Valid.{Valid, FailsFirst}
 use Rattle.validity.proofs.Answers.{said, refusalIn, answers-valid, answers-first}
 use Rattle.checker.specs.Calls as C
-use Rattle.demands.specs.Sessions.{sessionOf}
+use Rattle.demands.proofs.Sessions.{sessionOf}
 use Rattle.demands.proofs.Loaded as L
 use Rattle.demands.proofs.Whole.{means, ended-session}
 

@@ -1,8 +1,8 @@
 -- Demand 1: every call keeps a check well formed, and refusals 19 to 23 return it unchanged and write to no output. Assumes nothing.
 use Prim.Native.Nat.{ℕ}
-use mathlib.Core.Bool.{Bool, true, false, cond}
+use mathlib.Core.Bool.{Bool, true, false, cond, true≢false}
 use mathlib.Core.List.{List, [], map}
-use mathlib.Core.Path.{_≡_, refl, sym, ap, _∙_}
+use mathlib.Core.Path.{_≡_, refl, sym, _∙_}
 use lib.IntN.{ℤ}
 use lib.Dec.{ltb}
 use lib.ListN.{length, take}
@@ -11,6 +11,7 @@ use Rattle.grammar.specs.Domain.{Domain, readDomain}
 use Rattle.grammar.specs.Problem.{Problem, readProblem}
 use Rattle.happenings.specs.State.{State}
 use Rattle.happenings.specs.declared.Outcome as Why
+use Rattle.plans.specs.Plan.{Result}
 use Rattle.plans.specs.Machine.{waits, halted}
 use Rattle.plans.specs.Feed.{Feed, reading, close}
 use Rattle.plans.specs.Promised.{Act}
@@ -20,52 +21,59 @@ use Rattle.domain.specs.declared.Verdict.{Verdict}
 use Rattle.domain.specs.declared.Verdict.the-variants as Is
 use Rattle.answers.specs.Answer.{bit, shown}
 use Rattle.checker.specs.Calls as C
-use Rattle.checker.specs.Calls.{countersFit, formed, wellFormed, rulesOn, knownOn, heldBy, stored, noGround, checkFor, feedOf, finishOf, resultOf, factsOf, numbersOf, openOf}
+use Rattle.checker.specs.Calls.{wellFormed, rulesOn, knownOn, heldBy, stored, noGround, checkFor, feedOf, finishOf, resultOf, factsOf, numbersOf, openOf}
 use Rattle.checker.specs.declared.Check.{Check}
 use Rattle.checker.specs.declared.Fed.{Fed}
 use Rattle.checker.specs.declared.Answer.the-variants as A
-use Rattle.demands.specs.Sessions.{Misused}
+use Rattle.demands.proofs.Sessions.{Misused}
 use Rattle.demands.proofs.Keeping.{KeptFeed}
 use Rattle.demands.proofs.Storing.{stored-formed}
-use Rattle.demands.proofs.Session.{Open, fedBy, feed-open, finish-open, fed-kept, refused-formed}
+use Rattle.demands.proofs.Session.{fedBy, fed-kept, closed-kept, refused-formed}
 use Rattle.demands.proofs.Asking.{ended-formed}
 use Rattle.demands.proofs.Loaded.{loaded-open}
 use Rattle.demands.proofs.Whole.{opened, domain-opened, problem-opened, fixed-unformed}
 
+-- by a test
+pub choose : {X : Type 0} (P : X → Type 0) (b : Bool) {x y : X} → (b ≡ true → P x) → (b ≡ false → P y) → P (cond b x y)
+choose P true h k = h refl
+choose P false h k = k refl
+
 -- ---- well-formedness is kept
 
 module _ (c : Check) (f : wellFormed c ≡ true) where
-  stored-kept : (m : Feed State Act Why.Outcome Refused) → KeptFeed (c .model .acting) m → wellFormed (stored c m) ≡ true
+  pub stored-kept : (m : Feed State Act Why.Outcome Refused) → KeptFeed (c .model .acting) m → wellFormed (stored c m) ≡ true
   unfolding stored
-  stored-kept (reading (halted e) n part) h = refused-formed c e f
+  stored-kept (reading (halted e) n part) h = refused-formed c e false f (h .0)
   stored-kept (reading (waits r s q) n part) h = stored-formed c r s q n part f (h .0) (h .1)
 
+  -- 19 is not answered, 21 changes nothing, and what the call does keeps it
+  open-keeps : (next : Fed) → (c .finished ≡ false → wellFormed (next .check) ≡ true) → wellFormed (C.whileOpen c next .check) ≡ true
+  open-keeps next h =
+      choose (λ (r : Fed). wellFormed (r .check) ≡ true) (wellFormed c)
+      (λ _. choose (λ (r : Fed). wellFormed (r .check) ≡ true) (c .finished) (λ _. f) h)
+      (λ n. absurd (true≢false (sym f ∙ n)))
+
   pub feed-keeps : (p : List ℕ) → wellFormed (feedOf c p .check) ≡ true
-  unfolding feedOf formed countersFit
-  feed-keeps p = by (c .finished) refl (c .progress .refused) refl
-    where
-      by : (b : Bool) → c .finished ≡ b → (d : Bool) → c .progress .refused ≡ d → wellFormed (feedOf c p .check) ≡ true
-      by true e d g = rw (f, e) f
-      by false e true g = rw (f, e, g) f
-      by false e false g =
-          let o : Open c = record { formed = f; unfinished = e; unrefused = g } in
-          ap (λ x. wellFormed x) (feed-open c p o) ∙ stored-kept (fedBy c p) (fed-kept c p o)
+  unfolding feedOf
+  feed-keeps p =
+      open-keeps (cond (c .progress .refused) (C.answering c) (C.answering (stored c (fedBy c p))))
+      (λ e. choose (λ (r : Fed). wellFormed (r .check) ≡ true) (c .progress .refused) (λ _. f)
+      (λ g. stored-kept (fedBy c p) (fed-kept c p (record { formed = f; unfinished = e; unrefused = g }))))
 
   pub finish-keeps : wellFormed (finishOf c .check) ≡ true
-  unfolding finishOf formed countersFit
-  finish-keeps = by (c .finished) refl (c .progress .refused) refl
+  unfolding finishOf
+  finish-keeps =
+      open-keeps (cond (c .progress .refused) (C.answering (C.withFinish c)) (C.answering (C.ended c over)))
+      (λ e. choose (λ (r : Fed). wellFormed (r .check) ≡ true) (c .progress .refused) (λ _. f)
+      (λ g. ended-formed c f over (closed-kept c [] (record { formed = f; unfinished = e; unrefused = g }))))
     where
-      by : (b : Bool) → c .finished ≡ b → (d : Bool) → c .progress .refused ≡ d → wellFormed (finishOf c .check) ≡ true
-      by true e d g = rw (f, e) f
-      by false e true g = rw (f, e, g) f
-      by false e false g =
-          let o : Open c = record { formed = f; unfinished = e; unrefused = g } in
-          ap (λ x. wellFormed x) (finish-open c o) ∙ ended-formed c f (close (rulesOn c) limits (reader (knownOn c)) (heldBy c))
+      over : Result State Why.Outcome Refused
+      over = close (rulesOn c) limits (reader (knownOn c)) (heldBy c)
 
 -- ---- refusals 19 to 23 return the check unchanged and write to no output
 
 -- what holds of both holds of either
-either : {X : Type 0} (P : X → Type 0) (b : Bool) {x y : X} → P x → P y → P (cond b x y)
+pub either : {X : Type 0} (P : X → Type 0) (b : Bool) {x y : X} → P x → P y → P (cond b x y)
 either P true h k = h
 either P false h k = k
 
@@ -147,7 +155,7 @@ Opens Is.Loaded c = wellFormed c ≡ true
 Opens (Is.Domain k p) c = (c ≡ fixedCheck) × (wellFormed c ≡ false)
 Opens (Is.Problem k p) c = (c ≡ fixedCheck) × (wellFormed c ≡ false)
 
-fixed-one : (v : Verdict) → checkFor (fixedOf v) noGround 0 ≡ fixedCheck
+pub fixed-one : (v : Verdict) → checkFor (fixedOf v) noGround 0 ≡ fixedCheck
 unfolding fixedOf
 fixed-one v = refl
 
@@ -161,8 +169,3 @@ load-opens s t = by (readDomain s) refl
     by : (x : Read Domain) → readDomain s ≡ x → Opens (openOf s t .answer) (openOf s t .check)
     by (got d m) e = behind d m e (readProblem t d) refl
     by (refused k q) e = rw (domain-opened s t k q e) (fixed-one (Is.Domain k q), fixed-unformed (Is.Domain k q))
-
--- ---- any two answers that a contract admits are equal: each is one equation
-
-pub one-answer : {X : Type 0} {x y z : X} → x ≡ z → y ≡ z → x ≡ y
-one-answer e f = e ∙ sym f

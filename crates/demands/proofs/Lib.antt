@@ -1,5 +1,7 @@
--- The demands.
+-- A session step by step (Sessions to Exactly), what its calls answer (Replies), and the three demands (First to Demands).
+pub mod Sessions
 pub mod Begun
+pub mod Naming
 pub mod Keeping
 pub mod Storing
 pub mod Session
@@ -9,4 +11,12 @@ pub mod Short
 pub mod Whole
 pub mod Long
 pub mod Kept
+pub mod Listed
 pub mod Exactly
+pub mod Replies
+pub mod Third
+pub mod Second
+pub mod First
+pub mod Once
+pub mod Writing
+pub mod Demands

@@ -1,12 +1,14 @@
 -- The check of two texts that are read: it can be fed, its rules and names are those of the trees, and nothing has happened yet. Assumes nothing.
 use Prim.Native.Nat.{ℕ}
+use mathlib.Core.Bool.{false≢true}
 use mathlib.Core.List.{List, []}
 use mathlib.Core.Path.{_≡_, refl, ap, _∙_}
 use native.Mathlib.Omega.{arith}
 use lib.ListN.{length, length-map}
 use Rattle.grammar.specs.Read.{got}
 use Rattle.grammar.specs.Domain.{Domain, readDomain}
-use Rattle.grammar.specs.Problem.{Problem, readProblem, sumOf}
+use Rattle.grammar.specs.Problem.{Problem, readProblem}
+use Rattle.grammar.specs.Indexes.{sumOf}
 use Rattle.happenings.specs.Happening.{promises}
 use Rattle.plans.specs.Feed.{new}
 use Rattle.plans.specs.Promised.{rulesOf}
@@ -20,13 +22,13 @@ use Rattle.grounding.specs.Grounding.{groundFor}
 use Rattle.grounding.specs.declared.Ground.{Ground}
 use Rattle.grounding.proofs.Grounds.{grounds-loaded, ground-loaded}
 use Rattle.waiting.specs.Waiting.{queueOf}
-use Rattle.waiting.proofs.Places.{sound-queue}
 use Rattle.feeding.specs.Feeding.{checkIn}
 use Rattle.answers.specs.Answer.{groundsOf, rulesFor, knownFor}
 use Rattle.checker.specs.Calls.{anyState, rulesOn, knownOn, heldBy, groundOf, checkFor}
 use Rattle.checker.specs.declared.Check.{Check}
 use Rattle.checker.proofs.Formed.{Sizes, formed-of}
-use Rattle.demands.proofs.Storing.{sound-none}
+use Rattle.demands.proofs.Naming.{done-listed}
+use Rattle.demands.proofs.Storing.{none-fits, fresh-counters}
 use Rattle.demands.proofs.Session.{Open}
 
 objects-counted : (d : Domain) (p : Problem) → modelOf d p .counts .objects ≡ length (p .objects)
@@ -66,9 +68,11 @@ module _ (s t : List ℕ) (d : Domain) (p : Problem) (m n : ℕ) (e : readDomain
       record {
         formed = formed-of (loaded .progress) (loaded .model .counts) (loaded .model .acting) (loaded .ground .facts) (loaded .ground .numbers) (queueOf [])
             (record {
-              counters = record { first = omega arith; lines = omega arith; short = omega arith; timely = omega arith };
+              counters = fresh-counters (loaded .progress) refl refl refl;
+              answers = record { refusal = λ q. absurd (false≢true q); verdict = done-listed; time = omega arith };
               sizes = sizes;
-              sound = sound-queue (loaded .model .acting) [] (sound-none (loaded .model .acting)) (omega arith);
+              few = none-fits (loaded .model .acting) .0;
+              slots = none-fits (loaded .model .acting) .1;
             });
         unfinished = refl;
         unrefused = refl;

@@ -1,8 +1,9 @@
 -- A session: however the plan is cut, the check after finish is the one that the plan's meaning as a whole gives. Assumes nothing.
 use Prim.Native.Nat.{ℕ}
-use mathlib.Core.Bool.{true, false}
+use mathlib.Core.Bool.{Bool, true, false}
 use mathlib.Core.List.{List, [], _∷_}
 use mathlib.Core.Path.{_≡_, refl, sym, ap, subst, _∙_}
+use lib.ListN.{length}
 use Rattle.happenings.specs.State.{State}
 use Rattle.happenings.specs.Happening.{promises}
 use Rattle.grounds.specs.Grounded.{groundsIn}
@@ -13,14 +14,16 @@ use Rattle.plans.specs.Feed.{Feed, reading, feed, feeds, close}
 use Rattle.plans.specs.Text.{Reader}
 use Rattle.plans.specs.Promised.{Act}
 use Rattle.plans.specs.Lines.{Refused, reader, limits}
+use Rattle.plans.proofs.Bounds.{TextRefusal}
 use Rattle.feeding.proofs.Turning.{feed-halted}
 use Rattle.domain.specs.Decode.{decode}
 use Rattle.checker.specs.Calls as C
 use Rattle.checker.specs.Calls.{formed, wellFormed, anyState, rulesOn, knownOn, heldBy, refusedCheck, stored, feedOf, finishOf}
 use Rattle.checker.specs.declared.Check.{Check}
-use Rattle.demands.specs.Sessions.{feedsOf}
-use Rattle.demands.proofs.Keeping.{Kept, Line, KeptFeed, feed-kept}
-use Rattle.demands.proofs.Storing.{held-back, stored-formed, held-kept, acting-known, fresh-formed}
+use Rattle.demands.proofs.Sessions.{feedsOf}
+use Rattle.demands.proofs.Naming.{named}
+use Rattle.demands.proofs.Keeping.{Kept, Line, KeptFeed, KeptResult, feed-kept, feeds-kept, close-kept}
+use Rattle.demands.proofs.Storing.{held-back, stored-formed, held-kept, acting-known, fresh-formed, refused-answers}
 
 -- a check that can be fed
 pub record Open (c : Check) : Type 0 where
@@ -42,12 +45,27 @@ pub finish-open : (c : Check) → Open c → finishOf c .check ≡ closedBy c (h
 unfolding finishOf
 finish-open c o = rw (o .formed, o .unfinished, o .unrefused)
 
+open-kept : (c : Check) → Open c → KeptFeed (length (knownOn c .actions)) (heldBy c)
+open-kept c o = subst (λ (n : ℕ). KeptFeed n (heldBy c)) (sym (acting-known c)) (held-kept c (o .formed) (o .unrefused))
+
 pub fed-kept : (c : Check) (p : List ℕ) → Open c → KeptFeed (c .model .acting) (fedBy c p)
 unfolding rulesOn
 fed-kept c p o =
+    let g = groundsIn (c .ground .firsts) in
+    let goal = decode (c .model) .goal in
     subst (λ (n : ℕ). KeptFeed n (fedBy c p)) (acting-known c)
-    (feed-kept (promises (groundsIn (c .ground .firsts)) (decode (c .model) .goal)) (decode (c .model) .actions) anyState (knownOn c) p (heldBy c)
-    (subst (λ (n : ℕ). KeptFeed n (heldBy c)) (sym (acting-known c)) (held-kept c (o .formed) (o .unrefused))))
+    (feed-kept (promises g goal) (named g goal) (decode (c .model) .actions) anyState (knownOn c) p (heldBy c) (open-kept c o))
+
+-- what comes of more parts and the end is listed
+pub closed-kept : (c : Check) (ps : List (List ℕ)) → Open c
+    → KeptResult (close (rulesOn c) limits (reader (knownOn c)) (feeds (rulesOn c) limits (reader (knownOn c)) (heldBy c) ps))
+unfolding rulesOn
+closed-kept c ps o =
+    let g = groundsIn (c .ground .firsts) in
+    let goal = decode (c .model) .goal in
+    let P = promises g goal in
+    close-kept P (named g goal) (decode (c .model) .actions) anyState (knownOn c) (feeds (rulesOn c) limits (reader (knownOn c)) (heldBy c) ps)
+    (feeds-kept P (named g goal) (decode (c .model) .actions) anyState (knownOn c) ps (heldBy c) (open-kept c o))
 
 -- ---- a check whose plan is refused
 
@@ -57,7 +75,7 @@ module _ (R : Rules State Act Why.Outcome) (D : Reader Act Refused) where
   feeds-halted (p ∷ ps) e n part = ap (λ m. feeds R limits D m ps) (feed-halted R limits D e n part p) ∙ feeds-halted ps e n part
 
 module _ (c : Check) (e : Refused) (f : wellFormed (refusedCheck c e false) ≡ true) where
-  refused-feed : (p : List ℕ) → feedOf (refusedCheck c e false) p .check ≡ refusedCheck c e false
+  pub refused-feed : (p : List ℕ) → feedOf (refusedCheck c e false) p .check ≡ refusedCheck c e false
   unfolding feedOf
   refused-feed p = rw f
 
@@ -74,8 +92,8 @@ module _ (c : Check) (e : Refused) (f : wellFormed (refusedCheck c e false) ≡ 
 
 module _ (c : Check) where
   -- a refused plan leaves a check that is well formed
-  pub refused-formed : (e : Refused) → wellFormed c ≡ true → wellFormed (refusedCheck c e false) ≡ true
-  refused-formed e f = fresh-formed c f (refusedCheck c e false .progress) refl refl refl
+  pub refused-formed : (e : Refused) (done : Bool) → wellFormed c ≡ true → TextRefusal e → wellFormed (refusedCheck c e done) ≡ true
+  refused-formed e done f h = fresh-formed c f (refusedCheck c e done .progress) refl refl refl (refused-answers (refusedCheck c e done .progress) h refl)
 
   abbrev Rc : Rules State Act Why.Outcome
   Rc = rulesOn c
@@ -84,25 +102,25 @@ module _ (c : Check) where
   Dc = reader (knownOn c)
 
   -- what comes of a check whose machine stands at m, once it is fed more and finished
-  halted-end : (ps : List (List ℕ)) (e : Refused) (n : ℕ) (part : List ℕ) → wellFormed c ≡ true
+  halted-end : (ps : List (List ℕ)) (e : Refused) (n : ℕ) (part : List ℕ) → wellFormed c ≡ true → TextRefusal e
       → finishOf (feedsOf (stored c (reading (halted e) n part)) ps) .check ≡ closedBy c (feeds Rc limits Dc (reading (halted e) n part) ps)
   unfolding stored C.ended
-  halted-end ps e n part f =
-      ap (λ x. finishOf x .check) (refused-feeds c e (refused-formed e f) ps)
-      ∙ refused-finish c e (refused-formed e f)
+  halted-end ps e n part f h =
+      ap (λ x. finishOf x .check) (refused-feeds c e (refused-formed e false f h) ps)
+      ∙ refused-finish c e (refused-formed e false f h)
       ∙ ap (λ m. closedBy c m) (sym (feeds-halted Rc Dc ps e n part))
 
-  stored-open : (r : Run State Why.Outcome) (s : ℕ) (q : List (Point Act)) (k : ℕ) (part : List ℕ) → wellFormed c ≡ true → Kept (c .model .acting) r s q → Line k part
+  pub stored-open : (r : Run State Why.Outcome) (s : ℕ) (q : List (Point Act)) (k : ℕ) (part : List ℕ) → wellFormed c ≡ true → Kept (c .model .acting) r s q → Line k part
       → Open (stored c (reading (waits r s q) k part))
   unfolding stored
   stored-open r s q k part f h l = record { formed = stored-formed c r s q k part f h l; unfinished = refl; unrefused = refl }
 
   -- rules, names and the end hang on the model alone
-  rules-kept : (r : Run State Why.Outcome) (s : ℕ) (q : List (Point Act)) (k : ℕ) (part : List ℕ) → rulesOn (stored c (reading (waits r s q) k part)) ≡ rulesOn c
+  pub rules-kept : (r : Run State Why.Outcome) (s : ℕ) (q : List (Point Act)) (k : ℕ) (part : List ℕ) → rulesOn (stored c (reading (waits r s q) k part)) ≡ rulesOn c
   unfolding stored rulesOn
   rules-kept r s q k part = refl
 
-  known-kept : (r : Run State Why.Outcome) (s : ℕ) (q : List (Point Act)) (k : ℕ) (part : List ℕ) → knownOn (stored c (reading (waits r s q) k part)) ≡ knownOn c
+  pub known-kept : (r : Run State Why.Outcome) (s : ℕ) (q : List (Point Act)) (k : ℕ) (part : List ℕ) → knownOn (stored c (reading (waits r s q) k part)) ≡ knownOn c
   unfolding stored knownOn
   known-kept r s q k part = refl
 
@@ -142,6 +160,6 @@ session (p ∷ ps) c o = ap (λ x. finishOf (feedsOf x ps) .check) (feed-open c 
     by : (m : Feed State Act Why.Outcome Refused) → KeptFeed (c .model .acting) m
         → ((d : Check) → Open d → finishOf (feedsOf d ps) .check ≡ closedBy d (feeds (rulesOn d) limits (reader (knownOn d)) (heldBy d) ps))
         → finishOf (feedsOf (stored c m) ps) .check ≡ closedBy c (feeds (rulesOn c) limits (reader (knownOn c)) m ps)
-    by (reading (halted e) n part) h ih = halted-end c ps e n part (o .formed)
+    by (reading (halted e) n part) h ih = halted-end c ps e n part (o .formed) (h .0)
     by (reading (waits r s q) n part) h ih =
         ih (stored c (reading (waits r s q) n part)) (stored-open c r s q n part (o .formed) (h .0) (h .1)) ∙ again c r s q n part ps (c .model .acting) (h .0) (h .1)

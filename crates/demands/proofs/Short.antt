@@ -8,7 +8,8 @@ use lib.ListN.{length}
 use Rattle.words.specs.Bytes.{bytes}
 use Rattle.grammar.specs.Read.{Read, got, refused}
 use Rattle.grammar.specs.Domain.{Domain, readDomain}
-use Rattle.grammar.specs.Problem.{Problem, readProblem, sumOf}
+use Rattle.grammar.specs.Problem.{Problem, readProblem}
+use Rattle.grammar.specs.Indexes.{sumOf}
 use Rattle.happenings.specs.State.{State}
 use Rattle.happenings.specs.declared.Outcome.{Outcome}
 use Rattle.happenings.specs.declared.Outcome.the-variants.{Done, Duration, Condition, Undefined, Range, Itself, Conflict, Invariant, Goal}
@@ -17,6 +18,7 @@ use Rattle.plans.specs.Text.{lines, answers, meaning}
 use Rattle.plans.specs.Promised.{Act}
 use Rattle.plans.specs.Lines.{Refused, reader, limits}
 use Rattle.plans.proofs.Lists.{all-map}
+use Rattle.plans.proofs.Listed.{listed-small}
 use Rattle.plans.proofs.Bounds.{TextRefusal, text-steps, text-refusal, times-small}
 use Rattle.wording.specs.Wording.{lineOf, secondOf, refusalLine}
 use Rattle.wording.proofs.Lengths.{verdict-short, text-refusal-short, plan-refusal-short}
@@ -50,9 +52,10 @@ run-short (failed s t w) h n = let l = written-lines w n in verdict-short w t h 
 
 refused-short : (e : Refused) → TextRefusal e → length (refusalLine (bytes "plan") (e .number) (e .line) (e .column)) ≤ 64
 refused-short e h =
-    let k = h .number in
-    let l = h .line in
-    let c = h .column in
+    let s = listed-small (e .number) (e .line) (e .column) h in
+    let k = s .number in
+    let l = s .line in
+    let c = s .column in
     plan-refusal-short (e .number) (e .line) (e .column) (omega (arith, k)) (omega (arith, l)) (omega (arith, c))
 
 module _ (d : Domain) (p : Problem) (text : List ℕ) where

@@ -1,12 +1,11 @@
 -- What the machine keeps, stored in a check, is there again; a well-formed check keeps what can be kept, and stays well formed. Assumes nothing.
-use Prim.Native.Nat.{ℕ, suc, _+_, _≤_}
-use mathlib.Core.Bool.{Bool, true, false}
+use Prim.Native.Nat.{ℕ, suc, _+_, _≤_, _<_}
+use mathlib.Core.Bool.{Bool, true, false, false≢true}
 use mathlib.Core.List.{List, [], _∷_, map, append-nil}
 use mathlib.Core.Path.{_≡_, refl, sym, ap, _∙_}
 use native.Mathlib.Omega.{arith}
 use lib.ListN.{length, take, length-map, length-take}
-use Rattle.words.proofs.Ranges.{both-0, both-1}
-use Rattle.rows.specs.Held.{padded}
+use Rattle.grammar.specs.Indexes.{padded}
 use Rattle.rows.proofs.Rows.{take-padded}
 use Rattle.grammar.specs.Tables.{Table}
 use Rattle.codes.specs.Decode.{actionsAt}
@@ -23,34 +22,45 @@ use Rattle.plans.specs.Lines.{Refused}
 use Rattle.plans.specs.declared.Slot.{Slot}
 use Rattle.plans.proofs.Lists.{All}
 use Rattle.plans.proofs.Stored.{slot-back}
-use Rattle.waiting.specs.Waiting.{used, waiting, queueOf, soundStep, soundAll}
-use Rattle.waiting.proofs.Places.{queue-waits, sound-queue}
+use Rattle.waiting.specs.Waiting.{used, waiting, queueOf, slotsFit}
+use Rattle.waiting.proofs.Fitting.{fit-none, fit-first, fit-rest, fit-more}
+use Rattle.waiting.proofs.Places.{queue-waits, queue-count}
 use Rattle.running.specs.Running.{runIn}
 use Rattle.running.specs.declared.Past.{Past}
 use Rattle.lines.proofs.Names.{signed-length}
 use Rattle.feeding.specs.Feeding.{checkIn}
 use Rattle.feeding.specs.declared.Progress.{Progress}
 use Rattle.answers.specs.Answer.{lastState}
-use Rattle.checker.specs.Calls.{formed, wellFormed, stateOf, knownOn, heldBy, pastOf, stored}
+use Rattle.answers.specs.Listed.{listedInPlan, listedVerdict}
+use Rattle.checker.specs.Calls.{formed, wellFormed, stateOf, knownOn, heldBy, noPast, pastOf, stored, endedFrom}
 use Rattle.checker.specs.declared.Check.{Check}
-use Rattle.checker.proofs.Formed.{formed-parts, formed-of}
+use Rattle.checker.proofs.Formed.{Counters, Answers, formed-parts, formed-of}
+use Rattle.demands.proofs.Naming.{done-listed}
 use Rattle.demands.proofs.Keeping.{SoundPoint, Told, Kept, Line, KeptFeed}
 
 -- ---- what is stored is there again
 
 run-back : (r : Run State Why.Outcome) → Told r → runIn (pastOf r) (lastState r) ≡ r
 run-back (going s t) h = refl
-run-back (failed s t w) h = rw h
+run-back (failed s t w) h = rw (h .0 .fails)
 
 module _ (n : ℕ) where
   points-back : (q : List (Point Act)) → All (SoundPoint n) q → map pointIn (map slotOf q) ≡ q
   points-back [] h = refl
   points-back (p ∷ q) h = λ i. h .0 .0 i ∷ points-back q (h .1) i
 
-  slots-sound : (q : List (Point Act)) → All (SoundPoint n) q → soundAll n (map slotOf q) ≡ true
-  unfolding soundAll
-  slots-sound [] h = refl
-  slots-sound (p ∷ q) h = rw (h .0 .1, slots-sound q (h .1))
+  slots-fit : (q : List (Point Act)) → All (SoundPoint n) q → slotsFit n (map slotOf q) ≡ true
+  slots-fit [] h = fit-none n
+  slots-fit (p ∷ q) h = fit-more n (slotOf p) (map slotOf q) (h .0 .1) (slots-fit q (h .1))
+
+-- the places of a list's queue
+pub queue-fits : (n : ℕ) (l : List Slot) → length l ≤ 64 → slotsFit n l ≡ true → (queueOf l .count ≤ 64) × (slotsFit n (used (queueOf l)) ≡ true)
+queue-fits n l h f = rw (queue-waits l h, queue-count l) (h, f)
+
+-- what came of a run
+pub told-answers : (r : Run State Why.Outcome) → Told r → (listedVerdict (pastOf r .outcome) ≡ true) × (pastOf r .time < 2000000000000)
+told-answers (going s t) h = (done-listed, h)
+told-answers (failed s t w) h = (h .0 .listed, h .1)
 
 line-back : (m : ℕ) (w : List ℕ) → length w ≤ m → take (length w) (padded m w) ≡ w
 line-back m w h = ap (λ l. take (length w) l) (sym (append-nil (padded m w))) ∙ take-padded m w [] h
@@ -75,25 +85,28 @@ module _ (c : Check) (r : Run State Why.Outcome) (s : ℕ) (q : List (Point Act)
       let g = formed-parts (c .progress) (c .model .counts) (c .model .acting) (c .ground .facts) (c .ground .numbers) (c .queue) f in
       formed-of (stored c m .progress) (c .model .counts) (c .model .acting) (c .ground .facts) (c .ground .numbers) (queueOf (map slotOf q))
       (record {
-        counters = record { first = l .first; lines = l .last; short = l .short; timely = h .start };
+        counters = record { first = l .first; lines = l .last; empty = l .empty; short = l .short; timely = h .start };
+        answers = record { refusal = λ e. absurd (false≢true e); verdict = told-answers r (h .told) .0; time = told-answers r (h .told) .1 };
         sizes = g .sizes;
-        sound = sound-queue (c .model .acting) (map slotOf q) (slots-sound (c .model .acting) q (h .sound)) (omega (arith, length-map q slotOf, h .few));
+        few = places .0;
+        slots = places .1;
       })
+    where
+      places : (queueOf (map slotOf q) .count ≤ 64) × (slotsFit (c .model .acting) (used (queueOf (map slotOf q))) ≡ true)
+      places = queue-fits (c .model .acting) (map slotOf q) (omega (arith, length-map q slotOf, h .few)) (slots-fit (c .model .acting) q (h .sound))
 
 -- ---- a well-formed check keeps what can be kept
 
-past-told : (p : Past) (s : State) → Told (runIn p s)
-past-told p s = go (isDone (p .outcome)) refl
+past-told : (p : Past) (s : State) → listedVerdict (p .outcome) ≡ true → p .time < 2000000000000 → Told (runIn p s)
+past-told p s l h = go (isDone (p .outcome)) refl
   where
     go : (b : Bool) → isDone (p .outcome) ≡ b → Told (runIn p s)
-    go true e = rw e tt
-    go false e = rw e e
+    go true e = rw e h
+    go false e = rw e (record { fails = e; listed = l }, h)
 
-points-sound : (n : ℕ) (l : List Slot) → soundAll n l ≡ true → All (SoundPoint n) (map pointIn l)
-unfolding soundAll
+points-sound : (n : ℕ) (l : List Slot) → slotsFit n l ≡ true → All (SoundPoint n) (map pointIn l)
 points-sound n [] h = tt
-points-sound n (x ∷ l) h =
-    ((ap pointIn (slot-back x), rw (slot-back x) (both-0 (soundStep n (x .step)) (soundAll n l) h)), points-sound n l (both-1 (soundStep n (x .step)) (soundAll n l) h))
+points-sound n (x ∷ l) h = ((ap pointIn (slot-back x), rw (slot-back x) (fit-first n x l h)), points-sound n l (fit-rest n x l h))
 
 pub held-kept : (c : Check) → wellFormed c ≡ true → c .progress .refused ≡ false → KeptFeed (c .model .acting) (heldBy c)
 unfolding checkIn
@@ -101,12 +114,17 @@ held-kept c f e =
     let g = formed-parts (c .progress) (c .model .counts) (c .model .acting) (c .ground .facts) (c .ground .numbers) (c .queue) f in
     rw e (
       record {
-        told = past-told (c .progress .past) (stateOf c);
+        told = past-told (c .progress .past) (stateOf c) (g .answers .verdict) (g .answers .time);
         start = g .counters .timely;
-        few = omega (arith, length-map (used (c .queue)) pointIn, length-take (c .queue .count) (c .queue .slots), g .sound .0);
-        sound = points-sound (c .model .acting) (used (c .queue)) (g .sound .1);
+        few = omega (arith, length-map (used (c .queue)) pointIn, length-take (c .queue .count) (c .queue .slots), g .few);
+        sound = points-sound (c .model .acting) (used (c .queue)) (g .slots);
       },
-      record { short = omega (arith, length-take (c .progress .used) (c .line), g .counters .short); first = g .counters .first; last = g .counters .lines },
+      record {
+        short = omega (arith, length-take (c .progress .used) (c .line), g .counters .short);
+        first = g .counters .first;
+        last = g .counters .lines;
+        empty = λ i. let u = g .counters .empty i in omega (arith, length-take (c .progress .used) (c .line), u);
+      },
     )
 
 -- ---- as many actions as the model counts
@@ -122,18 +140,31 @@ acting-known c = actions-length (c .model .code) (c .model .starts) 0 _ ∙ sign
 
 -- ---- before and after a plan no point waits, and the counters stand at the first line
 
-pub sound-none : (n : ℕ) → soundAll n [] ≡ true
-unfolding soundAll
-sound-none n = refl
+pub none-fits : (n : ℕ) → (queueOf [] .count ≤ 64) × (slotsFit n (used (queueOf [])) ≡ true)
+none-fits n = queue-fits n [] (omega arith) (fit-none n)
+
+pub fresh-counters : (p : Progress) → p .number ≡ 1 → p .used ≡ 0 → p .start ≡ 0 → Counters p
+fresh-counters p n u s =
+    record { first = omega (arith, n); lines = omega (arith, n); empty = λ _. u; short = omega (arith, u); timely = omega (arith, s) }
 
 module _ (c : Check) (f : wellFormed c ≡ true) where
-  pub fresh-formed : (p : Progress) → p .number ≡ 1 → p .used ≡ 0 → p .start ≡ 0
+  pub fresh-formed : (p : Progress) → p .number ≡ 1 → p .used ≡ 0 → p .start ≡ 0 → Answers p
       → formed p (c .model .counts) (c .model .acting) (c .ground .facts) (c .ground .numbers) (queueOf []) ≡ true
-  fresh-formed p n u s =
+  fresh-formed p n u s a =
       let g = formed-parts (c .progress) (c .model .counts) (c .model .acting) (c .ground .facts) (c .ground .numbers) (c .queue) f in
       formed-of p (c .model .counts) (c .model .acting) (c .ground .facts) (c .ground .numbers) (queueOf [])
       (record {
-        counters = record { first = omega (arith, n); lines = omega (arith, n); short = omega (arith, u); timely = omega (arith, s) };
+        counters = fresh-counters p n u s;
+        answers = a;
         sizes = g .sizes;
-        sound = sound-queue (c .model .acting) [] (sound-none (c .model .acting)) (omega arith);
+        few = none-fits (c .model .acting) .0;
+        slots = none-fits (c .model .acting) .1;
       })
+
+-- what is answered of a refused plan, and of one that came to an end
+pub refused-answers : (p : Progress) → listedInPlan (p .refusal) (p .at) (p .column) ≡ true → p .past ≡ noPast → Answers p
+refused-answers p h e =
+    record { refusal = λ _. h; verdict = rw e done-listed; time = let t : p .past .time ≡ 0 = ap (λ (x : Past). x .time) e in omega (arith, t) }
+
+pub ended-answers : (r : Run State Why.Outcome) → Told r → Answers (endedFrom (pastOf r))
+ended-answers r h = record { refusal = λ e. absurd (false≢true e); verdict = told-answers r h .0; time = told-answers r h .1 }

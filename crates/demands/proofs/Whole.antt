@@ -12,7 +12,8 @@ use lib.ListN.{length, drop}
 use lib.Seq.{sets, sets-eq}
 use Rattle.grammar.specs.Read.{Read, got, refused}
 use Rattle.grammar.specs.Domain.{Domain, readDomain}
-use Rattle.grammar.specs.Problem.{Problem, readProblem, sumOf}
+use Rattle.grammar.specs.Problem.{Problem, readProblem}
+use Rattle.grammar.specs.Indexes.{sumOf}
 use Rattle.grammar.specs.Actions.{Action}
 use Rattle.happenings.specs.State.{State}
 use Rattle.happenings.specs.Happening.{Promises, promises}
@@ -33,9 +34,10 @@ use Rattle.domain.specs.declared.Verdict.{Verdict}
 use Rattle.domain.specs.declared.Verdict.the-variants as Is
 use Rattle.checker.specs.declared.Check.{Check}
 use Rattle.checker.specs.declared.Opened.{Opened}
-use Rattle.demands.specs.Sessions.{feedsOf, sessionOf, askedLine, sizesOf, Shows}
+use Rattle.demands.proofs.Sessions.{feedsOf, sessionOf, askedLine, sizesOf, Shows}
 use Rattle.demands.proofs.Begun.{feed-same, close-same}
-use Rattle.demands.proofs.Session.{session}
+use Rattle.demands.proofs.Keeping.{KeptResult}
+use Rattle.demands.proofs.Session.{session, closed-kept}
 use Rattle.demands.proofs.Asking.{asked-line, asked-facts, asked-numbers}
 use Rattle.demands.proofs.Loaded as L
 use Rattle.demands.proofs.Short.{answer-short}
@@ -82,6 +84,10 @@ module _ (s t : List ℕ) (d : Domain) (p : Problem) (m n : ℕ) (e : readDomain
   finished : C.finishOf (feedsOf loaded ps) .check ≡ C.ended loaded means
   finished = session ps loaded (L.loaded-open s t d p m n e f) ∙ ap (λ x. C.ended loaded x) closing
 
+  -- what the plan means is listed
+  pub means-kept : KeptResult means
+  means-kept = subst KeptResult closing (closed-kept loaded ps (L.loaded-open s t d p m n e f))
+
   pub opened : openOf s t ≡ record { check = loaded; answer = Is.Loaded }
   unfolding openOf loadOf loadedOf
   opened = rw (e, f)
@@ -91,7 +97,7 @@ module _ (s t : List ℕ) (d : Domain) (p : Problem) (m n : ℕ) (e : readDomain
   read-line line h =
       ap (λ (o : Opened). askedLine (o .answer) (C.finishOf (feedsOf (o .check) ps) .check) line) opened
       ∙ ap (λ (c : Check). resultOf c line .1) finished
-      ∙ asked-line loaded (L.loaded-open s t d p m n e f .formed) means (sumOf (length (p .objects)) (d .predicates)) (sumOf (length (p .objects)) (d .functions)) line h
+      ∙ asked-line loaded (L.loaded-open s t d p m n e f .formed) means means-kept (sumOf (length (p .objects)) (d .predicates)) (sumOf (length (p .objects)) (d .functions)) line h
       ∙ rw (e, f) refl
 
 -- ---- a text that is refused
@@ -175,7 +181,7 @@ module _ (s t : List ℕ) (d : Domain) (p : Problem) (m n : ℕ) (e : readDomain
   pub ended-session : sessionOf s t ps ≡ C.ended check (means s t d p m n e f ps)
   ended-session = ap (λ (o : Opened). C.finishOf (feedsOf (o .check) ps) .check) (opened s t d p m n e f ps) ∙ finished s t d p m n e f ps
 
-  answered : answer s t (joined ps) ≡ ofPlan facts numbers (means s t d p m n e f ps)
+  pub answered : answer s t (joined ps) ≡ ofPlan facts numbers (means s t d p m n e f ps)
   unfolding answer planAnswer
   answered = rw (e, f)
 
@@ -188,14 +194,14 @@ module _ (s t : List ℕ) (d : Domain) (p : Problem) (m n : ℕ) (e : readDomain
       rw (sized, answered, ended-session)
       (subst (λ (j : ℕ). Shows j (ofPlan j numbers (means s t d p m n e f ps) .final) (λ y. y .facts) out (factsOf (C.ended check (means s t d p m n e f ps)) out .1))
       (L.facts-loaded s t d p m n e f)
-      (asked-facts check (L.loaded-open s t d p m n e f .formed) (means s t d p m n e f ps) numbers out))
+      (asked-facts check (L.loaded-open s t d p m n e f .formed) (means s t d p m n e f ps) (means-kept s t d p m n e f ps) numbers out))
 
   read-numbers : (out : List ℤ) → Shows (sizesOf s t .1) (answer s t (joined ps) .final) (λ y. y .numbers) out (numbersOf (sessionOf s t ps) out .1)
   read-numbers out =
       rw (sized, answered, ended-session)
       (subst (λ (j : ℕ). Shows j (ofPlan facts j (means s t d p m n e f ps) .final) (λ y. y .numbers) out (numbersOf (C.ended check (means s t d p m n e f ps)) out .1))
       (L.numbers-loaded s t d p m n e f)
-      (asked-numbers check (L.loaded-open s t d p m n e f .formed) (means s t d p m n e f ps) facts out))
+      (asked-numbers check (L.loaded-open s t d p m n e f .formed) (means s t d p m n e f ps) (means-kept s t d p m n e f ps) facts out))
 
 -- a check that isn't well formed stays as it is, and shows nothing
 module _ (c : Check) (f : wellFormed c ≡ false) where

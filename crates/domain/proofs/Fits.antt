@@ -113,7 +113,7 @@ module _ (s : List ℕ) (ts : Table) (max most : ℕ) where
   declaration-gives : (t : Table) (at : ℕ) → Fits max t → Gives (Fits max) (declaration s ts max most t at)
   unfolding declaration
   declaration-gives t at h =
-      then-gives _ (new-gives s 1 at)
+      then-gives _ (new-gives s 13 at)
       (λ n a l. then-gives _ (fresh-gives max t (n .place) (n .word) a)
       (λ p b k. behind-gives (variablesTo s ts most b) _ (λ vs i. gives (fits-more max t (signature (n .word) vs) k l h))))
 
@@ -121,5 +121,5 @@ module _ (s : List ℕ) (ts : Table) (max most : ℕ) where
   unfolding declarations
   declarations-gives zero t at h = refuses
   declarations-gives (suc k) t at h =
-      close-gives (tokenAt s at) _ _ at (λ p. behind-gives (closing s 1 at) _ (λ q i. gives h))
-      (behind-gives (opening s 1 at) _ (λ q a. then-gives _ (declaration-gives t a h) (λ u b g. declarations-gives k u b g)))
+      close-gives (tokenAt s at) _ _ at (λ p. behind-gives (closing s 14 at) _ (λ q i. gives h))
+      (behind-gives (opening s 14 at) _ (λ q a. then-gives _ (declaration-gives t a h) (λ u b g. declarations-gives k u b g)))

@@ -129,7 +129,7 @@ unfolding initAndGoal
 init-goal-gives s c at h =
     behind-gives (beginsWith s (bytes ":init") at) _
     (λ o a. behind-gives (onOpened o (λ p. initAt s c p) (give nothing) a) _
-    (λ x b. behind-gives (sectionDueOf s c (bytes ":goal") b) _
+    (λ x b. behind-gives (sectionDueOf s (bytes ":goal") b) _
     (λ q i. behind-gives (onOpened o (λ p. give q) (sumsAt c q) i) _ (λ r j. behind-gives (goalTo s c j) _ (λ g n. gives h)))))
 
 problem-gives : (s : List ℕ) (d : Domain) (at : ℕ) → Fits 64 (d .constants) → Gives (λ p. Fits 64 (p .objects)) (problemText s d at)

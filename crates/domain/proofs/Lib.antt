@@ -1,4 +1,4 @@
--- Laws that the proofs use, and what is said of load: its model is read back.
+-- Laws that the proofs use, and what is said of load: its model is read back; and the bench as numbers.
 pub mod Joined
 pub mod Loading
 pub mod Apart
@@ -6,3 +6,6 @@ pub mod ShortNames
 pub mod Fits
 pub mod Fitting
 pub mod Back
+pub mod Examples
+pub mod Decoded
+pub mod Declaring

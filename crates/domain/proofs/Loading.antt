@@ -14,8 +14,8 @@ use Rattle.rows.specs.Held.{rowsOf}
 use Rattle.terms.specs.Scoped.{Scoped}
 use Rattle.terms.specs.declared.scope.Counts.{Counts}
 use Rattle.codes.specs.Cells.{condCells, actionsCells, startsOf}
-use Rattle.init.specs.State.{firstFacts, firstNumbers}
-use Rattle.bases.specs.Bases.{basesOf}
+use Rattle.grammar.specs.First.{firstFacts, firstNumbers}
+use Rattle.grammar.specs.Indexes.{basesOf}
 use Rattle.premises.specs.Grounded.{withObjects}
 use Rattle.actions.specs.Acted.{declarations}
 use Rattle.domains.specs.Knowing.{countsIn, Knows}

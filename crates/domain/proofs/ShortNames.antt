@@ -137,7 +137,7 @@ ShortItem (dash p) = Unit {0}
 ShortItem (names p w) = length w ≤ 32
 
 module _ (s : List ℕ) where
-  item-of : (t : Token) (n : ℕ) → ShortToken s t → Gives ShortItem (onClose t (λ p. give closes) (onWord t (itemOf s false) (wrong 1 t)) n)
+  item-of : (t : Token) (n : ℕ) → ShortToken s t → Gives ShortItem (onClose t (λ p. give closes) (onWord t (itemOf s false) (wrong 13 t)) n)
   unfolding ShortToken ShortWord ShortItem
   item-of (T.Word W.Name p e) n h = either-gives (false || isReserved (part s p e)) _ _ n refuses (gives h)
   item-of (T.Word W.Variable p e) n h = refuses

@@ -1,4 +1,3 @@
 -- What load gives, and how it is read back.
 pub mod Load
 pub mod Decode
-pub mod Examples

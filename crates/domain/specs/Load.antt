@@ -10,9 +10,9 @@ use Rattle.grammar.specs.Domain.{Domain, readDomain}
 use Rattle.grammar.specs.Problem.{Problem, readProblem}
 use Rattle.rows.specs.Held.{rowsOf}
 use Rattle.codes.specs.Cells.{condCells, actionsCells, startsOf}
-use Rattle.bases.specs.Bases.{basesOf}
+use Rattle.grammar.specs.Indexes.{basesOf}
 use Rattle.premises.specs.Grounded.{withObjects}
-use Rattle.init.specs.State.{noFacts, noNumbers, firstFacts, firstNumbers}
+use Rattle.grammar.specs.First.{noFacts, noNumbers, firstFacts, firstNumbers}
 use Rattle.actions.specs.Acted.{declarations}
 use Rattle.domains.specs.Knowing.{countsIn}
 use Rattle.domains.specs.declared.Known.{Known}

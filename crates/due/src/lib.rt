@@ -74,7 +74,7 @@ pub fn word_due(text: &[u8], from: usize, d: usize, w: &[u8]) -> Answer
     let Token::Word(_, p, e) = t else {
         return refusal(t, d);
     };
-    if spelling::same_word(runs::part_of(text, p, e), w) {
+    if spelling::same_word(tokens::word_of(text, t), w) {
         return Answer::Done(e, p);
     }
     Answer::Refused(3, p)

@@ -2,7 +2,6 @@
 use due::Answer;
 use expressions::trees;
 use terms::scope::Counts;
-use text::runs;
 use text::tokens;
 use text::tokens::Spot;
 use text::tokens::Token;
@@ -33,7 +32,7 @@ fn rule_head(text: &[u8], t: Token) -> Answer
     let Token::Word(_, p, e) = t else {
         return due::refusal(t, 13);
     };
-    if spelling::same_word(runs::part_of(text, p, e), b"=") {
+    if spelling::same_word(tokens::word_of(text, t), b"=") {
         return Answer::Done(e, p);
     }
     Answer::Refused(11, p)

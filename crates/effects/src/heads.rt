@@ -1,6 +1,5 @@
 // How an effect begins: a bracket, and what its head word says.
 use due::Answer;
-use text::runs;
 use text::tokens;
 use text::tokens::Token;
 use text::tokens::Word;
@@ -54,7 +53,7 @@ fn head_at(text: &[u8], from: usize, d: usize) -> Led
     let Word::Name = k else {
         return Led::Other(Answer::Refused(3, p));
     };
-    led_by(fixed::head_of(runs::part_of(text, p, e)), p, e)
+    led_by(fixed::head_of(tokens::word_of(text, t)), p, e)
 }
 
 // How an effect begins, where d levels of brackets are left.

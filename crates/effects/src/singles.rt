@@ -140,7 +140,7 @@ fn deleted_at(
     let Word::Name = k else {
         return Progress::Refused(3, p);
     };
-    if let Head::And = fixed::head_of(runs::part_of(text, p, e)) {
+    if let Head::And = fixed::head_of(tokens::word_of(text, t)) {
         return Progress::Refused(11, p);
     }
     becomes_at(text, p, e, d, tables, counts, 8, code, used, left)

@@ -7,7 +7,8 @@ use native.Mathlib.Omega.{arith}
 use lib.ListN.{length, getD, take, length-append}
 use lib.Seq.{drop-at}
 use Rattle.grammar.specs.Tables.{Entry, entry, nameOf, infoOf, Table}
-use Rattle.rows.specs.Held.{byteAt, padded, rowOf, rowsOf, Short, Holds}
+use Rattle.rows.specs.Held.{byteAt, rowOf, rowsOf, Short, Holds}
+use Rattle.grammar.specs.Indexes.{padded}
 use Rattle.rows.proofs.Rows.{length-padded, take-padded, none, row, short-at}
 use Rattle.terms.specs.Scoped.{AllSigned}
 use Rattle.terms.proofs.Wanted.{signed-at}

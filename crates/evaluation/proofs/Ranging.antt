@@ -1,18 +1,17 @@
 -- The value of any expression is a number of the range, or none. Assumes nothing.
 use mathlib.Core.List.{List}
 use Prim.Native.Nat.{ℕ}
-use lib.IntN.{ℤ, pos}
-use Rattle.grammar.specs.Terms.{Expr, number, value, minus, less, plus}
+use lib.IntN.{ℤ}
+use Rattle.grammar.specs.Terms.{Expr, number, value, minus, difference, plus}
 use Rattle.happenings.specs.State.{Grounds, numberOf}
 use Rattle.happenings.specs.Truths.{valueOf}
-use Rattle.happenings.specs.declared.Value.the-variants.{Number}
 use Rattle.amounts.specs.Ranged.{Ranged}
-use Rattle.amounts.proofs.Ranges.{ranged-within, ranged-stored, ranged-plus, ranged-less}
+use Rattle.amounts.proofs.Ranges.{ranged-within, ranged-stored, ranged-plus, ranged-minus, ranged-less}
 
 pub value-ranged : (g : Grounds) (ns : List ℤ) (os : List ℕ) (e : Expr) → Ranged (valueOf g ns os e)
 unfolding valueOf
 value-ranged g ns os (number z) = ranged-within z
 value-ranged g ns os (value r) = ranged-stored ns (numberOf g os r)
-value-ranged g ns os (minus e) = ranged-less (Number (pos 0)) (valueOf g ns os e)
-value-ranged g ns os (less a b) = ranged-less (valueOf g ns os a) (valueOf g ns os b)
+value-ranged g ns os (minus e) = ranged-minus (valueOf g ns os e)
+value-ranged g ns os (difference a b) = ranged-less (valueOf g ns os a) (valueOf g ns os b)
 value-ranged g ns os (plus a b) = ranged-plus (valueOf g ns os a) (valueOf g ns os b)

@@ -8,13 +8,13 @@ use native.Mathlib.Omega.{arith}
 use lib.Dec.{ltb, eqb}
 use lib.ListN.{length}
 use borrow.Author.Tests.{lt-ltb, le-ltb, ne-eqb, eqb-true, eqb-false}
-use Rattle.grammar.specs.Terms.{Expr, number, value, minus, less, plus}
+use Rattle.grammar.specs.Terms.{Expr, number, value, minus, difference, plus}
 use Rattle.literals.specs.Literal.{sizeIn}
 use Rattle.rows.specs.Held.{byteAt}
 use Rattle.codes.specs.Decode.{Decoded, decoded, mapped, both, noExpr, refAt, numberAt, leafAt, exprNode, exprAt}
 
 abbrev pub twoOf : Bool → Expr → Expr → Expr
-twoOf true a b = less a b
+twoOf true a b = difference a b
 twoOf false a b = plus a b
 
 module _ (code : List ℕ) (at : ℕ) where
@@ -68,7 +68,7 @@ module _ (code : List ℕ) (at : ℕ) where
     unfolding exprNode
     expr-minus z = rw (by-tag, z)
 
-    pub expr-less : tag ≡ 1 → exprAt d code at ≡ both less (exprAt (d - 1) code (at + 1)) (exprAt (d - 1) code)
+    pub expr-less : tag ≡ 1 → exprAt d code at ≡ both difference (exprAt (d - 1) code (at + 1)) (exprAt (d - 1) code)
     unfolding exprNode
     expr-less z = rw (by-tag, z)
 
@@ -101,7 +101,7 @@ node-grows : (f : ℕ → Decoded Expr) → ((i : ℕ) → i ≤ f i .next) → 
 unfolding exprNode
 node-grows f h code at tag =
     pick at (eqb tag 0) (mapped minus (f (at + 1))) _ one
-    (pick at (eqb tag 1) (both less (f (at + 1)) f) _ two (pick at (eqb tag 2) (both plus (f (at + 1)) f) (leafAt code at tag) two (leaf-grows code at tag)))
+    (pick at (eqb tag 1) (both difference (f (at + 1)) f) _ two (pick at (eqb tag 2) (both plus (f (at + 1)) f) (leafAt code at tag) two (leaf-grows code at tag)))
   where
     one : at ≤ f (at + 1) .next
     one = let l : at + 1 ≤ f (at + 1) .next = h (at + 1) in omega arith

@@ -3,9 +3,9 @@ use mathlib.Core.Path.{_≡_, refl}
 use mathlib.Core.List.{List}
 use Prim.Native.Nat.{ℕ}
 use lib.IntN.{ℤ, pos}
-use Rattle.grammar.specs.Terms.{Ref, Expr, number, value, minus, less, plus}
+use Rattle.grammar.specs.Terms.{Ref, Expr, number, value, minus, difference, plus}
 use Rattle.codes.specs.Decode.{Decoded, decoded, mapped, both, noExpr}
-use Rattle.happenings.specs.State.{Grounds, inside, within, stored, plusOf, lessOf, numberOf}
+use Rattle.happenings.specs.State.{Grounds, inside, within, stored, plusOf, lessOf, minusOf, numberOf}
 use Rattle.happenings.specs.Truths.{valueOf}
 use Rattle.happenings.specs.declared.Value.{Value}
 use Rattle.happenings.specs.declared.Value.the-variants.{Number}
@@ -16,10 +16,6 @@ use Rattle.evaluation.proofs.Ranging.{value-ranged}
 
 abbrev valued : Value → ℕ → Valued
 valued v n = record { value = v; next = n }
-
-pub zero-ranged : Ranged (Number (pos 0))
-unfolding Ranged inside
-zero-ranged = refl
 
 module _ (g : Grounds) (ns : List ℤ) (os : List ℕ) where
   pub valued-ranged : (d : Decoded Expr) {a : Valued} → a ≡ valuedOf g ns os d → Ranged (a .value)
@@ -42,13 +38,13 @@ module _ (g : Grounds) (ns : List ℤ) (os : List ℕ) where
     pub value-same : {e : Decoded Expr} {r : Valued} → d ≡ e → r ≡ valuedOf g ns os e → r ≡ valuedOf g ns os d
     value-same e r = rw e r
 
-    pub value-minus : (e : Decoded Expr) {a : Valued} {v : Value} → d ≡ mapped minus e → a ≡ valuedOf g ns os e → v ≡ lessOf (Number (pos 0)) (a .value)
+    pub value-minus : (e : Decoded Expr) {a : Valued} {v : Value} → d ≡ mapped minus e → a ≡ valuedOf g ns os e → v ≡ minusOf (a .value)
         → valued v (a .next) ≡ valuedOf g ns os d
     unfolding valuedOf valueOf
     value-minus e s a v = simp (s, v, a)
 
     module _ (e : Decoded Expr) (f : ℕ → Decoded Expr) {a b : Valued} {v : Value} where
-      pub value-less : d ≡ both less e f → a ≡ valuedOf g ns os e → b ≡ valuedOf g ns os (f (a .next)) → v ≡ lessOf (a .value) (b .value)
+      pub value-less : d ≡ both difference e f → a ≡ valuedOf g ns os e → b ≡ valuedOf g ns os (f (a .next)) → v ≡ lessOf (a .value) (b .value)
           → valued v (b .next) ≡ valuedOf g ns os d
       unfolding valuedOf valueOf
       value-less s a b v = rw (s, v, b, a)

@@ -139,7 +139,7 @@ pub fn expr<'a>(
     let a = expr(code, firsts, numbers, who, at + 1, depth - 1);
     let x = a.value;
     if tag == 0 {
-        let v = amounts::less(Value::Number(0), x);
+        let v = amounts::minus(x);
         return Valued {
             value: v,
             next: a.next,

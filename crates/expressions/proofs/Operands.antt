@@ -13,7 +13,7 @@ use Rattle.text.specs.declared.tokens.Token.{Token}
 use Rattle.text.specs.declared.tokens.Token.the-variants as T
 use Rattle.grammar.specs.Read.{Read, Reader, got, refused, andThen}
 use Rattle.grammar.specs.Due.{afterOf, onClose, closing}
-use Rattle.grammar.specs.Terms.{Expr, minus, less, plus, Counted, counts, operandsEnd}
+use Rattle.grammar.specs.Terms.{Expr, minus, difference, plus, Counted, counts, operandsEnd}
 use Rattle.expressions.specs.Codes.{cellsOf, Written, Spent, Joined, loneEnd}
 use Rattle.expressions.specs.Begins.{operands}
 use Rattle.expressions.specs.declared.leaves.Progress.{Progress}
@@ -103,7 +103,7 @@ open-yet (T.End p) f g h = refl
 
 -- `-` or `+` of two
 abbrev both : Bool → Expr → Expr → Expr
-both true a b = less a b
+both true a b = difference a b
 both false a b = plus a b
 
 module _ (s : List ℕ) (d : ℕ) (f : ℕ → Reader (Counted Expr)) (m e : ℕ) where

@@ -10,7 +10,7 @@ use Rattle.words.specs.declared.spelling.Found.{Found}
 use Rattle.words.specs.declared.spelling.Found.the-variants.{At, Nothing}
 use Rattle.grammar.specs.Read.{Read, got, refused}
 use Rattle.grammar.specs.Due.{onClose, afterOf}
-use Rattle.grammar.specs.Terms.{Ref, Expr, number, value, minus, less, plus, Counted}
+use Rattle.grammar.specs.Terms.{Ref, Expr, number, value, minus, difference, plus, Counted}
 use Rattle.literals.specs.Literal.{numberCells}
 use Rattle.due.specs.declared.Answer.{Answer}
 use Rattle.due.specs.declared.Answer.the-variants as A
@@ -27,7 +27,7 @@ unfoldable pub cellsOf : Expr → List ℕ
 cellsOf (number z) = numberCells z
 cellsOf (value r) = refCells 5 r
 cellsOf (minus a) = 0 ∷ cellsOf a
-cellsOf (less a b) = 1 ∷ (cellsOf a ++ cellsOf b)
+cellsOf (difference a b) = 1 ∷ (cellsOf a ++ cellsOf b)
 cellsOf (plus a b) = 2 ∷ (cellsOf a ++ cellsOf b)
 
 -- a tree was read, and its cells were stored from `used` on: the place after, the first cell that is free, how many may follow

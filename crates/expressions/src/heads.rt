@@ -1,6 +1,5 @@
 // How an expression begins: with a number, or with a bracket and its head word.
 use due::Answer;
-use text::runs;
 use text::tokens;
 use text::tokens::Token;
 use text::tokens::Word;
@@ -57,7 +56,7 @@ fn head_at(text: &[u8], from: usize, d: usize, left: usize) -> Begun
     };
     match k {
         Word::Name => Begun::Function(p, e),
-        Word::Operator => operation_of(fixed::head_of(runs::part_of(text, p, e)), p, e, left),
+        Word::Operator => operation_of(fixed::head_of(tokens::word_of(text, t)), p, e, left),
         Word::Variable => Begun::Other(Answer::Refused(3, p)),
         Word::Keyword => Begun::Other(Answer::Refused(3, p)),
     }

@@ -79,7 +79,7 @@ unfolding initAndGoal
 init-goal-fits s c at =
     behind-fits (beginsWith s (bytes ":init") at) _
     (λ o a. behind-fits (onOpened o (λ p. initAt s c p) (give nothing) a) _
-    (λ x b. behind-fits (sectionDueOf s c (bytes ":goal") b) _
+    (λ x b. behind-fits (sectionDueOf s (bytes ":goal") b) _
     (λ q i. behind-fits (onOpened o (λ p. give q) (sumsAt c q) i) _ (λ r j. then-fits _ (goal-to-fits s c j) (λ g n h k. fits (omega arith) (omega arith))))))
 
 problem-small : (s : List ℕ) (d : Domain) (at : ℕ) → Small goalSize (problemText s d at)

@@ -1,4 +1,5 @@
 -- Typed lists: names, each group of them before its type; and declarations with typed arguments.
+-- In a section's own list 14 levels of brackets are left, in a declaration or behind `:parameters (` 13: a bracket is never too deep there.
 use Prim.Native.Nat.{ℕ, zero, suc, _+_}
 use mathlib.Core.List.{List, [], _∷_, _++_, map}
 use mathlib.Core.Bool.{Bool, true, false, cond, _||_}
@@ -41,7 +42,7 @@ typeOfOther s p = eitherOf p (spotAt s (p + 1) (bytes "either"))
 unfoldable pub typeDue : List ℕ → Table → ℕ → Reader ℕ
 typeDue s ts b = do
   t ← token s
-  onWord t (typeOfWord s ts b) (onOpen t (typeOfOther s) (wrong 1 t))
+  onWord t (typeOfWord s ts b) (onOpen t (typeOfOther s) (wrong 13 t))
 
 -- behind a dash: the type of the names from number g on. A type's parent is a type before the group (`own`); any other name's type is one of ts
 unfoldable pub group : List ℕ → Bool → Table → Table → ℕ → Reader Table
@@ -70,7 +71,7 @@ itemOf s var W.Operator p e = dashOr3 s p e
 unfoldable pub item : List ℕ → Bool → Reader Item
 item s var = do
   t ← token s
-  onClose t (λ p. give closes) (onWord t (itemOf s var) (wrong 1 t))
+  onClose t (λ p. give closes) (onWord t (itemOf s var) (wrong 13 t))
 
 abbrev pub onItem : {A : Type 0} → Item → A → (ℕ → A) → (ℕ → List ℕ → A) → A
 onItem closes c d n = c
@@ -123,7 +124,7 @@ signature w vs = entry w (length vs ∷ map typeOf vs)
 -- behind the opening bracket of one declaration
 unfoldable pub declaration : List ℕ → Table → ℕ → ℕ → Table → Reader Table
 declaration s ts max most t = do
-  n ← newName s 1
+  n ← newName s 13
   _ ← fresh max t (n .place) (n .word)
   vs ← variablesTo s ts most
   give (t ++ signature (n .word) vs ∷ [])
@@ -134,9 +135,9 @@ declarations (suc k) s ts max most t = do
   c ← peek s
   onClose c
       (λ p. do
-        _ ← closing s 1
+        _ ← closing s 14
         give t)
       (do
-        _ ← opening s 1
+        _ ← opening s 14
         u ← declaration s ts max most t
         declarations k s ts max most u)

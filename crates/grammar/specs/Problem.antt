@@ -1,10 +1,10 @@
 -- A problem, and reading its text: "a problem domain, objects, init, goal, the middle two optional".
-use Prim.Native.Nat.{ℕ, zero, suc, _+_, _*_, _^_}
+use Prim.Native.Nat.{ℕ, zero, suc, _+_}
 use mathlib.Core.List.{List, [], _∷_, _++_}
 use mathlib.Core.Bool.{Bool, true, false, cond, _&&_, _||_}
 use Prim.Native.String.{String}
 use lib.IntN.{ℤ}
-use lib.ListN.{length, getD}
+use lib.ListN.{length}
 use lib.Dec.{eqb, leb}
 use Rattle.words.specs.Bytes.{bytes}
 use Rattle.words.specs.Spelling.{sameWord}
@@ -13,42 +13,13 @@ use Rattle.text.specs.declared.tokens.Token.{Token}
 use Rattle.text.specs.declared.tokens.Word.{Word}
 use Rattle.text.specs.declared.tokens.Word.the-variants as W
 use Rattle.grammar.specs.Read.{_>>=_, Read, Reader, give, refuse}
-use Rattle.grammar.specs.Tables.{Entry, Table, infoOf, declared}
-use Rattle.grammar.specs.Due.{token, peek, wrong, onNumber, opening, closing, onClose, onWord, Name, anyName}
+use Rattle.grammar.specs.Tables.{Table, declared}
+use Rattle.grammar.specs.Due.{token, peek, wrong, onNumber, opening, closing, onClose, onWord, wordDue, Name, anyName}
 use Rattle.grammar.specs.Lists.{namesTo}
-use Rattle.grammar.specs.Terms.{Scope, Arg, object, variable, Ref, reference}
+use Rattle.grammar.specs.Terms.{Scope, reference}
+use Rattle.grammar.specs.Indexes.{sumOf, indexOf}
 use Rattle.grammar.specs.Conditions.{Cond, condition}
 use Rattle.grammar.specs.Domain.{Domain, onOpened, begins, section, ending, heading}
-
--- ---- index rules, with n objects
-
--- how many arguments a predicate or function has
-abbrev pub arity : Entry → ℕ
-arity e = getD (infoOf e) 0 0
-
--- "the sum of n^arguments"
-unfoldable pub sumOf : ℕ → Table → ℕ
-sumOf n [] = 0
-sumOf n (e ∷ t) = n ^ arity e + sumOf n t
-
--- the first index of number i of a table
-unfoldable pub firstOf : ℕ → Table → ℕ → ℕ
-firstOf n t zero = 0
-firstOf n [] (suc i) = 0
-firstOf n (e ∷ t) (suc i) = n ^ arity e + firstOf n t i
-
--- "its arguments read as digits in base n, first argument highest", behind those that make acc; no variable stands in init
-abbrev pub objectOf : Arg → ℕ
-objectOf (object i) = i
-objectOf (variable i) = 0
-
-unfoldable pub digits : ℕ → ℕ → List Arg → ℕ
-digits n acc [] = acc
-digits n acc (a ∷ as′) = digits n (acc * n + objectOf a) as′
-
--- "a fact's index is its predicate's first index plus its arguments read as digits in base n ..; a number's likewise"
-unfoldable pub indexOf : ℕ → Table → Ref → ℕ
-indexOf n t r = firstOf n t (r .head) + digits n 0 (r .args)
 
 -- ---- init: "atoms and `(= (f ..) number)`; other facts are false, other numbers undefined"
 
@@ -126,27 +97,14 @@ sumsFit c = leb (sumOf (length (c .objects)) (c .predicates)) 16384 && leb (sumO
 abbrev pub sumsAt : Scope → ℕ → Reader ℕ
 sumsAt c p = cond (sumsFit c) (give p) (refuse 12 p)
 
--- a section's word from p to e that is `:init` or `:goal`
-abbrev pub judgesSums : List ℕ → ℕ → ℕ → Bool
-judgesSums s p e = sameWord (part s p e) (bytes ":init") || sameWord (part s p e) (bytes ":goal")
-
--- the section w is due. Another word is 3, but 12 if it is `:init` or `:goal` and a sum is passed already
-abbrev pub dueWord : List ℕ → Scope → List ℕ → ℕ → ℕ → Reader ℕ
-dueWord s c w p e =
-    cond (sameWord (part s p e) w) (give p)
-    (cond (judgesSums s p e) (do
-      _ ← sumsAt c p
-      refuse 3 p)
-    (refuse 3 p))
-
-unfoldable pub sectionDueOf : List ℕ → Scope → List ℕ → Reader ℕ
-sectionDueOf s c w = do
+-- a section that is due: its bracket, then its word. Any other word is 3, also `:init` and `:goal`: the sums are judged at those in their turn
+unfoldable pub sectionDueOf : List ℕ → List ℕ → Reader ℕ
+sectionDueOf s w = do
   _ ← opening s 15
-  t ← token s
-  onWord t (λ k p e. dueWord s c w p e) (wrong 14 t)
+  wordDue s 14 w
 
-abbrev pub sectionDue : List ℕ → Scope → String → Reader ℕ
-sectionDue s c w = sectionDueOf s c (bytes w)
+abbrev pub sectionDue : List ℕ → String → Reader ℕ
+sectionDue s w = sectionDueOf s (bytes w)
 
 pub record Problem : Type 0 where
   pub objects : Table
@@ -162,7 +120,7 @@ sameDomain d n = cond (sameWord (n .word) (d .name)) (give n) (refuse 13 (n .pla
 
 abbrev pub ofDomain : List ℕ → Domain → Reader ℕ
 ofDomain s d = do
-  _ ← sectionDue s (scopeOf d (d .constants)) ":domain"
+  _ ← sectionDue s ":domain"
   n ← anyName s 14
   _ ← sameDomain d n
   closing s 14
@@ -187,7 +145,7 @@ unfoldable pub initAndGoal : List ℕ → Scope → Reader Problem
 initAndGoal s c = do
   o ← begins s ":init"
   x ← onOpened o (λ p. initAt s c p) (give nothing)
-  q ← sectionDue s c ":goal"
+  q ← sectionDue s ":goal"
   _ ← onOpened o (λ p. give q) (sumsAt c q)
   g ← goalTo s c
   give (record { objects = c .objects; init = x; goal = g })

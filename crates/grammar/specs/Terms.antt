@@ -41,7 +41,7 @@ pub data Expr : Type 0 where
   number : ℤ → Expr
   value : Ref → Expr
   minus : Expr → Expr
-  less : Expr → Expr → Expr
+  difference : Expr → Expr → Expr
   plus : Expr → Expr → Expr
 
 -- ---- arguments
@@ -160,7 +160,7 @@ minusOf s d f n = do
       (do
         b ← f (a .left)
         _ ← operandsEnd s d (b .left)
-        give (counts (less (a .tree) (b .tree)) (b .left)))
+        give (counts (difference (a .tree) (b .tree)) (b .left)))
 
 -- what to do with the heads `and` and `not`, and with any other
 abbrev pub onName : {A : Type 0} → Head → A → A → A → A

@@ -8,10 +8,9 @@ use lib.Seq.{sets, take-at, drop-at, getD-at}
 use Rattle.grammar.specs.Read.{got}
 use Rattle.grammar.specs.Tables.{Table}
 use Rattle.grammar.specs.Domain.{Domain, readDomain}
-use Rattle.grammar.specs.Problem.{Problem, readProblem, arity, sumOf}
-use Rattle.rows.specs.Held.{padded}
+use Rattle.grammar.specs.Problem.{Problem, readProblem}
+use Rattle.grammar.specs.Indexes.{arity, sumOf, basesFrom, basesOf, padded}
 use Rattle.rows.proofs.Rows.{length-padded}
-use Rattle.bases.specs.Bases.{basesFrom, basesOf}
 use Rattle.grounds.specs.Grounded.{firstsIn, groundsIn}
 use Rattle.domain.specs.Load.{zeros, modelOf}
 use Rattle.domain.proofs.Fitting.{Fitting, read-fits}

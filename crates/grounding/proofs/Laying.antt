@@ -8,7 +8,7 @@ use native.Mathlib.Omega.{arith}
 use lib.ListN.{length, getD, set, take, drop, length-replicate, length-append, length-map, drop-of-length-le}
 use lib.Seq.{sets, sets-eq, drop-cons, take-at, drop-append-add, set-at}
 use borrow.Author.Tests.{lt-ltb, le-ltb}
-use Rattle.rows.specs.Held.{padded}
+use Rattle.grammar.specs.Indexes.{padded}
 use Rattle.domain.specs.Load.{zeros}
 use Rattle.grounding.specs.Grounding.{narrowed, firstsOf}
 

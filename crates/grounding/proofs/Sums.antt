@@ -10,7 +10,8 @@ use Rattle.grammar.specs.Read.{Read, got, refused, give, refuse, andThen}
 use Rattle.grammar.specs.Tables.{Table}
 use Rattle.grammar.specs.Terms.{Scope}
 use Rattle.grammar.specs.Domain.{Domain, opened, other, beginsWith, ending}
-use Rattle.grammar.specs.Problem.{Init, Problem, sumOf, sumsFit, sumsAt, scopeOf, nothing, initAt, initTo, sectionDueOf, goalTo, initAndGoal, premises, problemText, readProblem}
+use Rattle.grammar.specs.Problem.{Init, Problem, sumsFit, sumsAt, scopeOf, nothing, initAt, initTo, sectionDueOf, goalTo, initAndGoal, premises, problemText, readProblem}
+use Rattle.grammar.specs.Indexes.{sumOf}
 use Rattle.codes.proofs.Giving.{Gives, gives, refuses, given-by, then-gives, behind-gives}
 use Rattle.problems.proofs.Starting.{never-true}
 
@@ -54,8 +55,8 @@ module _ (s : List ℕ) (d : Domain) (os : Table) where
   init-goal-gives at =
       behind-gives (beginsWith s (bytes ":init") at) _
       (λ o a. elim o [
-        | opened p ↦ then-gives _ (init-gives s c p a) (λ x b h. behind-gives (sectionDueOf s c (bytes ":goal") b) _ (λ q i. goal-gives s d os x i h))
-        | other ↦ behind-gives (sectionDueOf s c (bytes ":goal") a) _ (λ q i. then-gives _ (sums-give c q i) (λ r j h. goal-gives s d os nothing j h))
+        | opened p ↦ then-gives _ (init-gives s c p a) (λ x b h. behind-gives (sectionDueOf s (bytes ":goal") b) _ (λ q i. goal-gives s d os x i h))
+        | other ↦ behind-gives (sectionDueOf s (bytes ":goal") a) _ (λ q i. then-gives _ (sums-give c q i) (λ r j h. goal-gives s d os nothing j h))
       ])
 
 problem-gives : (s : List ℕ) (d : Domain) (at : ℕ) → Gives (Fit d) (problemText s d at)

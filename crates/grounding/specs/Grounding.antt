@@ -4,7 +4,7 @@ use mathlib.Core.List.{List, [], _∷_, _++_, map}
 use mathlib.Core.Bool.{cond}
 use lib.Dec.{ltb}
 use Rattle.grammar.specs.Tables.{Table}
-use Rattle.grammar.specs.Problem.{sumOf}
+use Rattle.grammar.specs.Indexes.{sumOf}
 use Rattle.grounding.specs.declared.Ground.{Ground}
 
 -- 16 bits: no first index of a problem that is taken is as high

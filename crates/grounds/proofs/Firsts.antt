@@ -9,7 +9,7 @@ use lib.ListN.{length, getD, take, drop, length-take, List·getD-eq-default}
 use lib.Seq.{getD-take, getD-drop}
 use borrow.Author.Tests.{lt-ltb, le-ltb}
 use Rattle.codes.specs.Decode.{argOf}
-use Rattle.happenings.specs.State.{objectOf}
+use Rattle.grammar.specs.Indexes.{objectOf}
 use Rattle.grounds.specs.Grounded.{firstsIn}
 
 past-take : (n : ℕ) (l : List ℕ) (i : ℕ) → n ≤ i → 0 ≡ getD (take n l) i 0

@@ -7,7 +7,7 @@ use native.Mathlib.Omega.{arith}
 use lib.ListN.{getD}
 use Rattle.rows.specs.Held.{byteAt}
 use Rattle.codes.specs.Decode.{argOf, argsAt, refAt}
-use Rattle.happenings.specs.State.{objectOf, digits, indexIn}
+use Rattle.grammar.specs.Indexes.{objectOf, digits, indexIn}
 
 -- a digit more keeps the index small
 pub small : (a n : ℕ) → n < 65536 → a * n ≤ a * 65535

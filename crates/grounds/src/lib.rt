@@ -4,7 +4,7 @@ ghost use Prim.Native.Nat.{_+_, _*_, _<_, _≤_};
 ghost use lib.ListN.{length, getD};
 ghost use Rattle.rows.specs.Held.{byteAt};
 ghost use Rattle.codes.specs.Decode.{argOf, refAt, whenOf};
-ghost use Rattle.happenings.specs.State.{objectOf, indexIn};
+ghost use Rattle.grammar.specs.Indexes.{objectOf, indexIn};
 ghost use Rattle.happenings.specs.Happening.{order};
 ghost use Rattle.grounds.specs.Grounded.{objectsIn, firstsIn, countIn};
 

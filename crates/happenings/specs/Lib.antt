@@ -3,4 +3,3 @@ pub mod State
 pub mod Truths
 pub mod Writes
 pub mod Happening
-pub mod Examples

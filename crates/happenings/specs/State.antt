@@ -1,13 +1,14 @@
 -- A state, the numbers in it, and the place of a fact or number in it.
-use Prim.Native.Nat.{ℕ, _+_, _*_}
-use mathlib.Core.List.{List, [], _∷_, map}
+use Prim.Native.Nat.{ℕ}
+use mathlib.Core.List.{List}
 use mathlib.Core.Bool.{Bool, cond, _&&_}
 use lib.Dec.{eqb}
 use lib.ListN.{getD}
-use lib.IntN.{ℤ, pos, negsuc, _+ℤ_, _-ℤ_}
+use lib.IntN.{ℤ, pos, negsuc, negℤ, _+ℤ_, _-ℤ_}
 use lib.Signed.{leZ}
-use Rattle.grammar.specs.Terms.{Arg, object, variable, Ref}
-use Rattle.init.specs.State.{undefined}
+use Rattle.grammar.specs.Terms.{Ref}
+use Rattle.grammar.specs.Indexes.{indexIn}
+use Rattle.grammar.specs.First.{undefined}
 use Rattle.happenings.specs.declared.Value.{Value}
 use Rattle.happenings.specs.declared.Value.the-variants.{Number, Undefined, Range}
 
@@ -53,7 +54,7 @@ lessOf a b = onNumber a (λ x. onNumber b (λ y. within (x -ℤ y)))
 
 -- "Minus of a number is exact over the whole range."
 abbrev pub minusOf : Value → Value
-minusOf a = lessOf (Number (pos 0)) a
+minusOf a = onNumber a (λ x. within (negℤ x))
 
 -- ---- where facts and numbers lie
 
@@ -63,20 +64,7 @@ pub record Grounds : Type 0 where
   pub facts : List ℕ
   pub numbers : List ℕ
 
--- the object that an argument stands for, os being those of the step
-abbrev pub objectOf : List ℕ → Arg → ℕ
-objectOf os (object i) = i
-objectOf os (variable i) = getD os i 0
-
--- numbers read as digits in base n, behind those that make acc
-unfoldable pub digits : ℕ → ℕ → List ℕ → ℕ
-digits n acc [] = acc
-digits n acc (x ∷ xs) = digits n (acc * n + x) xs
-
--- "a fact's index is its predicate's first index plus its arguments read as digits in base n, first argument highest"
-unfoldable pub indexIn : List ℕ → ℕ → List ℕ → Ref → ℕ
-indexIn firsts n os r = getD firsts (r .head) 0 + digits n 0 (map (objectOf os) (r .args))
-
+-- the index of a fact, os being the objects of the step
 abbrev pub factOf : Grounds → List ℕ → Ref → ℕ
 factOf g os r = indexIn (g .facts) (g .objects) os r
 

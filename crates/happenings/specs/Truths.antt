@@ -5,10 +5,11 @@ use mathlib.Core.Bool.{Bool, true, false, not, _&&_}
 use lib.Dec.{eqb}
 use lib.IntN.{ℤ}
 use lib.Signed.{leZ}
-use Rattle.grammar.specs.Terms.{Expr, number, value, minus, less, plus}
+use Rattle.grammar.specs.Terms.{Expr, number, value, minus, difference, plus}
 use Rattle.grammar.specs.Conditions.{Comparison, Cond, Conds, all, atom, same, compare, none, cons}
 use Rattle.grammar.specs.Conditions as C
-use Rattle.happenings.specs.State.{State, Grounds, isTrue, within, stored, plusOf, lessOf, minusOf, objectOf, factOf, numberOf}
+use Rattle.happenings.specs.State.{State, Grounds, isTrue, within, stored, plusOf, lessOf, minusOf, factOf, numberOf}
+use Rattle.grammar.specs.Indexes.{objectOf}
 use Rattle.happenings.specs.declared.Value.{Value}
 use Rattle.happenings.specs.declared.Value.the-variants as Is
 use Rattle.happenings.specs.declared.Truth.{Truth}
@@ -19,7 +20,7 @@ unfoldable pub valueOf : Grounds → List ℤ → List ℕ → Expr → Value
 valueOf g ns os (number z) = within z
 valueOf g ns os (value r) = stored ns (numberOf g os r)
 valueOf g ns os (minus e) = minusOf (valueOf g ns os e)
-valueOf g ns os (less a b) = lessOf (valueOf g ns os a) (valueOf g ns os b)
+valueOf g ns os (difference a b) = lessOf (valueOf g ns os a) (valueOf g ns os b)
 valueOf g ns os (plus a b) = plusOf (valueOf g ns os a) (valueOf g ns os b)
 
 -- ---- conditions

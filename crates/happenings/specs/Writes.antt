@@ -3,7 +3,7 @@ use Prim.Native.Nat.{ℕ}
 use mathlib.Core.List.{List, [], _∷_, map}
 use mathlib.Core.Bool.{Bool, true, false, cond, not, _&&_, _||_}
 use lib.Dec.{eqb}
-use Rattle.grammar.specs.Terms.{Expr, number, value, minus, less, plus}
+use Rattle.grammar.specs.Terms.{Expr, number, value, minus, difference, plus}
 use Rattle.grammar.specs.Conditions.{Cond, Conds, all, atom, same, compare, none, cons}
 use Rattle.grammar.specs.Effects.{assign, raise, lower, Effect, becomes, changes}
 use Rattle.happenings.specs.State.{Grounds, factOf, numberOf}
@@ -21,7 +21,7 @@ module _ (g : Grounds) (os : List ℕ) where
   exprReads x (number z) = false
   exprReads x (value r) = eqb (numberOf g os r) x
   exprReads x (minus e) = exprReads x e
-  exprReads x (less a b) = exprReads x a || exprReads x b
+  exprReads x (difference a b) = exprReads x a || exprReads x b
   exprReads x (plus a b) = exprReads x a || exprReads x b
 
   -- the condition reads number x, or fact x; every part of it counts

@@ -1,6 +1,5 @@
 -- What is held of a text in a block of at least 32,850 bytes is read as the whole text is: each has the same tokens. What begins at or past 32,768 of a
 -- text too long is 1 in both; a run that begins before it and reaches the block's end is refused in both, with the same number. Assumes nothing.
--- One thing is not said: a reading whose steps ran out would give 0, and of that nothing follows here. No text is known to give it.
 use mathlib.Core.Path.{_≡_, refl, sym, ap, _∙_}
 use mathlib.Core.List.{List, [], _∷_, _++_}
 use mathlib.Core.Bool.{Bool, true, false, cond, _||_}
@@ -19,11 +18,10 @@ use Rattle.text.specs.Runs.{part, gapEnd, runEnd}
 use Rattle.text.specs.Tokens.{isPast, bracketOf, domainRun, endOf, tokenAt, spotAt}
 use Rattle.text.specs.declared.tokens.Token.the-variants as T
 use Rattle.text.specs.declared.tokens.Spot.the-variants as P
-use Rattle.grammar.specs.Read.{Read}
 use Rattle.grammar.specs.Domain.{Domain, readDomain}
-use Rattle.grammar.specs.Problem.{Problem, readProblem}
+use Rattle.grammar.specs.Problem.{readProblem}
 use Rattle.places.specs.Lowest.{seen, nextOf}
-use Rattle.places.specs.Alike.{SameAt, Said}
+use Rattle.places.specs.Alike.{SameAt}
 use Rattle.places.proofs.Sight.{gap-near, run-near, byte-near}
 use Rattle.places.proofs.Nearness.{not-past, past-is, next-low}
 use Rattle.places.proofs.Local.{same-self, agrees-bytes}
@@ -194,9 +192,9 @@ held-tokens (suc q) t h at = go (drop q t) refl
         rw w at (same-tokens (take q t) b bs l at)
 
 -- what a held domain says, the whole text says
-pub held-domain : (n : ℕ) (t : List ℕ) → 32850 ≤ n → (r : Read Domain) → Said r → readDomain (heldOf n t) ≡ r → readDomain t ≡ r
-held-domain n t h r d e = alike-in-domain (heldOf n t) t (held-tokens n t h) r d e
+pub held-domain : (n : ℕ) (t : List ℕ) → 32850 ≤ n → readDomain (heldOf n t) ≡ readDomain t
+held-domain n t h = alike-in-domain (heldOf n t) t (held-tokens n t h)
 
 -- and so for a problem
-pub held-problem : (n : ℕ) (t : List ℕ) (d : Domain) → 32850 ≤ n → (r : Read Problem) → Said r → readProblem (heldOf n t) d ≡ r → readProblem t d ≡ r
-held-problem n t d h r s e = alike-in-problem (heldOf n t) t d (held-tokens n t h) r s e
+pub held-problem : (n : ℕ) (t : List ℕ) (d : Domain) → 32850 ≤ n → readProblem (heldOf n t) d ≡ readProblem t d
+held-problem n t d h = alike-in-problem (heldOf n t) t d (held-tokens n t h)

@@ -1,3 +1,2 @@
--- What the contracts name, and what is held of short texts.
+-- What the contracts name.
 pub mod Keeping
-pub mod Examples

@@ -1,13 +1,14 @@
 -- Powers and their sums, a step at a time. Assumes nothing.
-use mathlib.Core.Path.{_≡_, refl, ap}
+use mathlib.Core.Path.{_≡_, refl, sym, ap}
 use mathlib.Core.List.{[], _∷_}
 use Prim.Native.Nat.{ℕ, zero, suc, _+_, _-_, _*_, _^_, _≤_, _<_}
-use native.Mathlib.Nat.{pow-suc, pow-le-pow-left, pow-le-pow-right, le-trans, mul-le-mul}
+use native.Mathlib.Nat.{add-zero, pow-suc, pow-le-pow-left, pow-le-pow-right, le-trans, mul-le-mul}
 use native.Mathlib.Numerals.{add-one}
 use native.Mathlib.Omega.{arith}
-use lib.ListN.{length}
+use lib.ListN.{length, getD}
 use Rattle.grammar.specs.Tables.{Table, entryAt}
-use Rattle.grammar.specs.Problem.{arity, firstOf, sumOf}
+use Rattle.grammar.specs.Indexes.{arity, sumOf, basesFrom, basesOf}
+use Rattle.indexes.specs.Firsts.{firstOf}
 
 pub power-next : (n i p : ℕ) → p ≡ n ^ i → p * n ≡ n ^ (i + 1)
 power-next n i p e = rw (add-one i, pow-suc n i, e)
@@ -37,3 +38,15 @@ pub first-all : (n : ℕ) (t : Table) → firstOf n t (length t) ≡ sumOf n t
 unfolding firstOf sumOf
 first-all n [] = refl
 first-all n (e ∷ t) = ap (λ (k : ℕ). n ^ arity e + k) (first-all n t)
+
+-- ---- the first indexes of all names, as a list
+
+behind-sum : (n sum : ℕ) (t : Table) (i : ℕ) → i < length t → getD (basesFrom n sum t) i 0 ≡ sum + firstOf n t i
+unfolding basesFrom firstOf
+behind-sum n sum [] i h = absurd (let z : ⊥ = omega arith in z)
+behind-sum n sum (e ∷ t) zero h = sym (add-zero sum)
+behind-sum n sum (e ∷ t) (suc i) h = omega (arith, behind-sum n (sum + n ^ arity e) t i (omega arith))
+
+-- at place i stands the first index of number i
+pub base-first : (n : ℕ) (t : Table) (i : ℕ) → i < length t → getD (basesOf n t) i 0 ≡ firstOf n t i
+base-first n t i h = omega (arith, behind-sum n 0 t i h)

@@ -5,7 +5,8 @@ ghost use Prim.Native.Nat.{ℕ, _^_, _*_, _≤_, _<_};
 ghost use lib.ListN.{length};
 ghost use Rattle.text.specs.Runs.{part};
 ghost use Rattle.grammar.specs.Tables.{Table};
-ghost use Rattle.grammar.specs.Problem.{firstOf, sumOf};
+ghost use Rattle.indexes.specs.Firsts.{firstOf};
+ghost use Rattle.grammar.specs.Indexes.{sumOf};
 ghost use Rattle.rows.specs.Held.{Holds};
 ghost use Rattle.terms.specs.Scoped.{AllSigned, Signatures};
 

@@ -18,7 +18,8 @@ use Rattle.grammar.specs.Problem.{Init, nothing, initTo}
 use Rattle.due.specs.declared.Answer.{Answer}
 use Rattle.due.specs.declared.Answer.the-variants.{Done, Refused}
 use Rattle.due.proofs.Dues.{not-close}
-use Rattle.init.specs.State.{noFacts, noNumbers, Begins}
+use Rattle.init.specs.State.{Begins}
+use Rattle.grammar.specs.First.{noFacts, noNumbers}
 use Rattle.init.specs.Parts.{entryOf, Stands, Took}
 use Rattle.init.proofs.States.{stands-first}
 use Rattle.init.proofs.Ways.{then-then}

@@ -12,7 +12,9 @@ use Rattle.text.specs.Runs.{part}
 use Rattle.grammar.specs.Read.{Read, got, refused, andThen, give, refuse}
 use Rattle.grammar.specs.Tables.{Table, entryAt, wantedOf, lookup, onFound, declared}
 use Rattle.grammar.specs.Terms.{Scope, Arg, arguments, reference}
-use Rattle.grammar.specs.Problem.{firstOf, sumOf, indexOf}
+use Rattle.indexes.specs.Firsts.{firstOf}
+use Rattle.indexes.proofs.Sums.{base-first}
+use Rattle.grammar.specs.Indexes.{sumOf, digits, indexIn, indexOf}
 use Rattle.due.specs.Answers.{answerOf}
 use Rattle.due.specs.declared.Answer.{Answer}
 use Rattle.due.specs.declared.Answer.the-variants.{Done, Refused}
@@ -20,8 +22,8 @@ use Rattle.terms.specs.Scoped.{AllSigned}
 use Rattle.terms.specs.Cells.{cellOf, argCells, Wrote}
 use Rattle.terms.proofs.Kept.{found-below}
 use Rattle.terms.proofs.Wanted.{wanted-count}
-use Rattle.init.specs.Parts.{numeral, groundBehind, groundOf}
-use Rattle.init.proofs.Digits.{Objects, digits-numeral, index-below}
+use Rattle.init.specs.Parts.{groundBehind, groundOf}
+use Rattle.init.proofs.Digits.{Objects, objects-cells, index-below}
 use Rattle.init.proofs.Objects.{Every, objects-only, Many, many}
 
 -- ---- what was stored of arguments
@@ -100,14 +102,14 @@ module _ (s : List ℕ) (d : ℕ) (c : Scope) (t : Table) (i at : ℕ) where
     read-objects : (as′ : List Arg) (a : ℕ) → arguments s d c wanted at ≡ got as′ a → Objects (length (c .objects)) as′
     read-objects as′ a e = every-at (Objects (length (c .objects))) _ as′ a e (objects-only s d c out wanted at)
 
-    pub behind-done : (code : List ℕ) (r : Answer) (m : List ℕ) (a v n first low : ℕ) → length code ≡ 4 → length wanted ≤ 4
-        → Wrote argCells code 0 r m (arguments s d c wanted at) → r ≡ Done a v → n ≡ length (c .objects) → first ≡ firstOf n t i → low ≡ numeral n 0 (take v m)
+    pub behind-done : (code : List ℕ) (r : Answer) (m : List ℕ) (a v n first low : ℕ) → length code ≡ 4 → length wanted ≤ 4 → i < length t
+        → Wrote argCells code 0 r m (arguments s d c wanted at) → r ≡ Done a v → n ≡ length (c .objects) → first ≡ firstOf n t i → low ≡ digits n 0 (take v m)
         → Done a (first + low) ≡ answerOf (groundBehind s d c t i at)
-    unfolding indexOf
-    behind-done code r m a v n first low four few w e o f l =
+    unfolding indexOf indexIn
+    behind-done code r m a v n first low four few h w e o f l =
         let g = stored-done code r m _ a v w e in
         let b : v ≤ length code = omega (arith, cells-many code r m a v w e) in
-        rw (behind-got (g .args) a (g .is), f, l, o, g .cells b, digits-numeral (length (c .objects)) 0 (g .args) (read-objects (g .args) a (g .is)))
+        rw (behind-got (g .args) a (g .is), f, l, o, g .cells b, base-first (length (c .objects)) t i h, objects-cells (length (c .objects)) (g .args) (read-objects (g .args) a (g .is)))
 
     -- the index is below the sum over the table
     behind-below : (v a : ℕ) → AllSigned t → i < length t → groundBehind s d c t i at ≡ got v a → v < sumOf (length (c .objects)) t

@@ -17,7 +17,7 @@ use Rattle.text.specs.Tokens.{tokenAt}
 use Rattle.text.specs.declared.tokens.Token.the-variants as T
 use Rattle.text.proofs.Valued.{number-value, number-reads}
 use Rattle.grammar.specs.Problem.{Valued, Init, isGiven, withFact, withNumber, nothing}
-use Rattle.init.specs.State.{undefined, noFacts, noNumbers, factsFrom, numbersFrom, firstFacts, firstNumbers}
+use Rattle.grammar.specs.First.{undefined, noFacts, noNumbers, factsFrom, numbersFrom, firstFacts, firstNumbers}
 use Rattle.init.specs.Parts.{Defined, Stands}
 
 -- ---- reads within the numbers and past them

@@ -25,14 +25,15 @@ use Rattle.grammar.specs.Read.{Read, Reader, got, refused, andThen, give}
 use Rattle.grammar.specs.Tables.{Table, declared}
 use Rattle.grammar.specs.Due.{numberOf, placeOf, opening, closing, anyName}
 use Rattle.grammar.specs.Terms.{Scope, reference}
-use Rattle.grammar.specs.Problem.{sumOf, indexOf, Init, isGiven, once, withFact, withNumber, factOf, valueOf, initWord, sumsFit}
+use Rattle.grammar.specs.Problem.{Init, isGiven, once, withFact, withNumber, factOf, valueOf, initWord, sumsFit}
+use Rattle.grammar.specs.Indexes.{sumOf, indexOf}
 use Rattle.due.specs.Answers.{answerOf, nameOf, Ahead}
 use Rattle.due.specs.declared.Answer.{Answer}
 use Rattle.due.specs.declared.Answer.the-variants.{Done, Refused}
 use Rattle.due.proofs.Dues.{not-word, not-number, answer-done, answer-refused, any-named, name-refused}
 use Rattle.terms.specs.Scoped.{Scoped, Signatures}
 use Rattle.terms.specs.declared.scope.Counts.{Counts}
-use Rattle.init.specs.State.{undefined}
+use Rattle.grammar.specs.First.{undefined}
 use Rattle.init.specs.Parts.{groundOf, groundBehind, targetOf, valueFor, entryOf, Listed, Stands, Took}
 use Rattle.init.proofs.Indexed.{ground-below}
 use Rattle.init.proofs.States.{stands-fact, stands-number, given-is-defined, number-defined}

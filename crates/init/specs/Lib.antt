@@ -1,3 +1,3 @@
--- The first facts and numbers, and what the readers of init's parts answer.
+-- What the reader of init answers, and the readers of its parts.
 pub mod State
 pub mod Parts

@@ -1,6 +1,6 @@
 -- The parts of init as readers of their own, and what is known of facts and numbers between them.
 use mathlib.Core.Path.{_≡_}
-use Prim.Native.Nat.{ℕ, _+_, _*_, _≤_}
+use Prim.Native.Nat.{ℕ, _≤_}
 use mathlib.Core.List.{List, [], _∷_}
 use mathlib.Core.Bool.{true}
 use lib.IntN.{ℤ}
@@ -11,17 +11,13 @@ use Rattle.grammar.specs.Read.{_>>=_, Read, Reader, got, refused, give}
 use Rattle.grammar.specs.Tables.{Table, declared}
 use Rattle.grammar.specs.Due.{token, wrong, opening, closing, onWord, anyName}
 use Rattle.grammar.specs.Terms.{Scope, reference}
-use Rattle.grammar.specs.Problem.{indexOf, Valued, Init, once, numberDue, withNumber, initWord}
+use Rattle.grammar.specs.Problem.{Valued, Init, once, numberDue, withNumber, initWord}
+use Rattle.grammar.specs.Indexes.{indexOf}
 use Rattle.rows.specs.Held.{Holds}
 use Rattle.terms.specs.Scoped.{AllSigned}
 use Rattle.due.specs.declared.Answer.{Answer}
 use Rattle.due.specs.declared.Answer.the-variants.{Done, Refused}
-use Rattle.init.specs.State.{undefined, firstFacts, firstNumbers}
-
--- cells read as digits in base n behind those that make acc, the first highest
-unfoldable pub numeral : ℕ → ℕ → List ℕ → ℕ
-numeral n acc [] = acc
-numeral n acc (x ∷ xs) = numeral n (acc * n + x) xs
+use Rattle.grammar.specs.First.{undefined, firstFacts, firstNumbers}
 
 -- behind its name, number i of a table: the index of a ground fact or number
 unfoldable pub groundBehind : List ℕ → ℕ → Scope → Table → ℕ → Reader ℕ

@@ -1,42 +1,13 @@
--- The first facts and the first numbers: what init says, as the two arrays of a run.
+-- What the reader of init answers.
 use mathlib.Core.Path.{_≡_}
+use mathlib.Core.List.{List}
 use Prim.Native.Nat.{ℕ}
-use mathlib.Core.List.{List, [], _∷_}
-use lib.IntN.{ℤ, negsuc}
-use lib.ListN.{set, replicate}
+use lib.IntN.{ℤ}
 use Rattle.grammar.specs.Read.{Read, got, refused}
-use Rattle.grammar.specs.Problem.{Init, Valued}
+use Rattle.grammar.specs.Problem.{Init}
+use Rattle.grammar.specs.First.{firstFacts, firstNumbers}
 use Rattle.due.specs.declared.Answer.{Answer}
 use Rattle.due.specs.declared.Answer.the-variants.{Done, Refused}
-
--- −1,000,000,000,001 thousandths, which no number has
-abbrev pub undefined : ℤ
-undefined = negsuc 1000000000000
-
--- no fact is true
-unfoldable pub noFacts : List ℕ
-noFacts = replicate 16384 0
-
--- no number is defined
-unfoldable pub noNumbers : List ℤ
-noNumbers = replicate 1024 undefined
-
--- 1 at each fact that is named
-unfoldable pub factsFrom : List ℕ → List ℕ → List ℕ
-factsFrom facts [] = facts
-factsFrom facts (i ∷ is) = factsFrom (set facts i 1) is
-
--- each number that is given has its value
-unfoldable pub numbersFrom : List ℤ → List Valued → List ℤ
-numbersFrom numbers [] = numbers
-numbersFrom numbers (v ∷ vs) = numbersFrom (set numbers (v .index) (v .value)) vs
-
--- "other facts are false, other numbers undefined"
-unfoldable pub firstFacts : Init → List ℕ
-firstFacts x = factsFrom noFacts (x .facts)
-
-unfoldable pub firstNumbers : Init → List ℤ
-firstNumbers x = numbersFrom noNumbers (x .numbers)
 
 -- init was read: the place after it, and the first facts and numbers
 unfoldable pub Begins : Answer → List ℕ → List ℤ → Read Init → Type 0

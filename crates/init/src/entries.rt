@@ -3,7 +3,6 @@ use crate::grounds;
 use crate::values;
 use due::Answer;
 use terms::scope::Counts;
-use text::runs;
 use text::tokens;
 use text::tokens::Token;
 use text::tokens::Word;
@@ -18,7 +17,8 @@ ghost use Rattle.due.specs.Answers.{answerOf, Ahead};
 ghost use Rattle.grammar.specs.Terms.{Scope};
 ghost use Rattle.grammar.specs.Problem.{Init, nothing, factOf, valueOf, initTo, sumsFit};
 ghost use Rattle.terms.specs.Scoped.{Scoped, Scopes};
-ghost use Rattle.init.specs.State.{noFacts, noNumbers, Begins};
+ghost use Rattle.init.specs.State.{Begins};
+ghost use Rattle.grammar.specs.First.{noFacts, noNumbers};
 ghost use Rattle.init.specs.Parts.{Stands, Took, targetOf, valueFor, entryOf};
 
 // A fact, whose predicate's name stands from p to e, to its closing bracket.
@@ -118,7 +118,7 @@ fn entry_at(
     match k {
         Word::Name => fact_at(text, p, e, tables, counts, facts),
         Word::Operator => {
-            if spelling::same_word(runs::part_of(text, p, e), b"=") {
+            if spelling::same_word(tokens::word_of(text, t), b"=") {
                 return number_at(text, e, tables, counts, numbers);
             }
             Answer::Refused(3, p)

@@ -13,14 +13,15 @@ ghost use Rattle.text.specs.Runs.{part};
 ghost use Rattle.due.specs.Answers.{answerOf, Ahead};
 ghost use Rattle.grammar.specs.Tables.{Table};
 ghost use Rattle.grammar.specs.Terms.{Scope};
+ghost use Rattle.grammar.specs.Indexes.{digits};
 ghost use Rattle.rows.specs.Held.{Holds};
 ghost use Rattle.terms.specs.Scoped.{Scoped, Scopes, AllSigned, Signatures};
-ghost use Rattle.init.specs.Parts.{numeral, groundBehind, groundOf, Listed};
+ghost use Rattle.init.specs.Parts.{groundBehind, groundOf, Listed};
 
 // The first k cells as digits in base n, the first highest.
 fn numeral_of(cells: &[u8], k: usize, n: usize) -> usize
     requires { ⌜ (k ≤ length (now cells)) × (k ≤ 4) × (n ≤ 64) ⌝ }
-    ensures { λ r. ⌜ (r ≡ numeral n 0 (take k (now (cells .entry)))) × (r < 4294967296) ⌝ }
+    ensures { λ r. ⌜ (r ≡ digits n 0 (take k (now (cells .entry)))) × (r < 4294967296) ⌝ }
 {
     let mut acc = 0;
     let mut i = 0;

@@ -2,7 +2,7 @@
 ghost use mathlib.Core.Path.{_≡_};
 ghost use lib.ListN.{getD, set};
 ghost use lib.Signed.{ltZ};
-ghost use Rattle.init.specs.State.{undefined};
+ghost use Rattle.grammar.specs.First.{undefined};
 
 // Whether a number is defined; past the end none is.
 pub fn is_defined(numbers: &[i64], i: usize) -> bool

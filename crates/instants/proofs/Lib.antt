@@ -5,3 +5,5 @@ pub mod Clearing
 pub mod Each
 pub mod Happens
 pub mod Places
+pub mod Promised
+pub mod Rows

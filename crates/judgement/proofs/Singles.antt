@@ -13,7 +13,8 @@ use denote.Enum.Declared.{tagOf}
 use borrow.Author.Tests.{lt-ltb, le-ltb, ne-eqb}
 use Rattle.rows.specs.Held.{byteAt}
 use Rattle.codes.specs.Decode.{argOf, refAt, exprAt, comparisonOf, atomAt, sameAt, compareAt, singleAt}
-use Rattle.happenings.specs.State.{State, Grounds, isTrue, objectOf, factOf}
+use Rattle.happenings.specs.State.{State, Grounds, isTrue, factOf}
+use Rattle.grammar.specs.Indexes.{objectOf}
 use Rattle.happenings.specs.Truths.{agrees, compared, comparedOf, onValue, truthOf, truthsOf}
 use Rattle.happenings.specs.declared.Value.{Value}
 use Rattle.happenings.specs.declared.Value.the-variants as Is

@@ -1,2 +1,3 @@
--- Laws for the program's proofs.
+-- Laws for the program's proofs, and worked examples.
 pub mod Steps
+pub mod Examples

@@ -1,7 +1,6 @@
 // What goes to standard output: document 01's line and, if asked for, the last facts and numbers.
 use checker::Answer;
 use checker::Check;
-use checker::outputs;
 use domain::Verdict;
 use records::listing;
 use records::output;
@@ -17,7 +16,7 @@ fn write_line(told: Answer, line: &[u8]) {
 // The line of a refused domain or problem.
 pub fn refuse(verdict: Verdict) {
     let mut line = [0u8; 64];
-    let told = outputs::refused_line(verdict, &mut line);
+    let told = checker::refused_line(verdict, &mut line);
     write_line(told, &line);
 }
 

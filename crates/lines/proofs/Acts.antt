@@ -16,7 +16,8 @@ use Rattle.text.specs.Tokens.{planTokenAt}
 use Rattle.text.specs.declared.tokens.Token.{Token}
 use Rattle.text.specs.declared.tokens.Token.the-variants as T
 use Rattle.text.proofs.tokens.Token as token-type
-use Rattle.rows.specs.Held.{byteAt, padded}
+use Rattle.rows.specs.Held.{byteAt}
+use Rattle.grammar.specs.Indexes.{padded}
 use Rattle.grammar.specs.Read.{Read, Reader, got, refused, andThen}
 use Rattle.grammar.specs.Due.{afterOf}
 use Rattle.grammar.specs.Tables.{Table, entryAt, wantedOf}

@@ -24,7 +24,7 @@ use Rattle.due.specs.Answers.{answerOf}
 use Rattle.due.specs.declared.Answer.{Answer}
 use Rattle.due.specs.declared.Answer.the-variants.{Done, Refused}
 use Rattle.due.proofs.Dues.{not-close, never-done, answer-refused}
-use Rattle.rows.specs.Held.{padded}
+use Rattle.grammar.specs.Indexes.{padded}
 use Rattle.rows.proofs.Rows.{sets-padded}
 use Rattle.codes.proofs.Giving.{Gives, gives, refuses, then-gives, behind-gives, close-gives}
 use Rattle.terms.specs.Cells.{Wrote}

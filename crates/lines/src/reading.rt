@@ -2,7 +2,6 @@
 use crate::known;
 use due::Answer;
 use terms::scope::Counts;
-use text::runs;
 use text::tokens;
 use text::tokens::Token;
 use words::spelling::Found;
@@ -62,7 +61,7 @@ pub fn action_at<'a>(text: &'a [u8], from: usize, heads: &'a [u8], acting: usize
     let Token::Word(_, p, e) = t else {
         return due::refusal(t, 1);
     };
-    let f = known::action_of(heads, acting, runs::part_of(text, p, e));
+    let f = known::action_of(heads, acting, tokens::word_of(text, t));
     let Found::At(i) = f else {
         return Answer::Refused(8, p);
     };
@@ -77,7 +76,7 @@ fn object_at<'a>(text: &'a [u8], t: Token, tables: &'a [u8], counts: Counts) -> 
     let Token::Word(_, p, e) = t else {
         return due::refusal(t, 1);
     };
-    let f = known::object_of(tables, counts, runs::part_of(text, p, e));
+    let f = known::object_of(tables, counts, tokens::word_of(text, t));
     let Found::At(i) = f else {
         return Answer::Refused(8, p);
     };

@@ -24,7 +24,8 @@ use Rattle.due.specs.Answers.{answerOf, nameOf}
 use Rattle.due.specs.declared.Answer.{Answer}
 use Rattle.due.specs.declared.Answer.the-variants.{Done, Refused}
 use Rattle.due.proofs.Dues.{not-close, word-in, name-in, Named, any-named, answer-done, answer-refused}
-use Rattle.rows.specs.Held.{rowsOf, padded, Holds}
+use Rattle.rows.specs.Held.{rowsOf, Holds}
+use Rattle.grammar.specs.Indexes.{padded}
 use Rattle.lists.specs.Outcome.{Outcome, Signed}
 use Rattle.lists.proofs.Outcomes.{As, outcome-done, outcome-refused, refuses, reads}
 use Rattle.lists.proofs.Going.{fresh-stays}
@@ -139,11 +140,11 @@ signs-done m rows was now a v x y e =
 -- ---- one declaration
 
 module _ (s : List ℕ) (ts : Table) (max most : ℕ) (t : Table) (at : ℕ) where
-  pub declaration-none : (k p : ℕ) → newName s 1 at ≡ refused k p → declaration s ts max most t at ≡ refused k p
+  pub declaration-none : (k p : ℕ) → newName s 13 at ≡ refused k p → declaration s ts max most t at ≡ refused k p
   unfolding declaration
   declaration-none k p e = simp e
 
-  module _ (v a : ℕ) (q : Named s v a (newName s 1 at)) where
+  module _ (v a : ℕ) (q : Named s v a (newName s 13 at)) where
     pub declaration-known : (k c : ℕ) → fresh max t v (part s v a) a ≡ refused k c → declaration s ts max most t at ≡ refused k c
     unfolding declaration
     declaration-known k c f = simp (q .is, f)
@@ -168,7 +169,7 @@ module _ (k : ℕ) (s : List ℕ) (ts : Table) (max most : ℕ) (t : Table) (at 
   declarations-close p n e = simp e
 
   pub declarations-open : (c : Token) → c ≡ tokenAt s at → OneOf (0 ∷ 1 ∷ 2 ∷ 4 ∷ 5 ∷ 6 ∷ []) (tagOf token-type.the-type c)
-      → declarations (suc k) s ts max most t at ≡ andThen (opening s 1 at) (λ _ a. andThen (declaration s ts max most t a) (λ u b. declarations k s ts max most u b))
+      → declarations (suc k) s ts max most t at ≡ andThen (opening s 14 at) (λ _ a. andThen (declaration s ts max most t a) (λ u b. declarations k s ts max most u b))
   unfolding declarations
   declarations-open c e o = rw (← e, not-close c _ _ o)
 
@@ -204,14 +205,14 @@ module _ (s : List ℕ) (ts : Table) (max most : ℕ) (t₀ : Table) (from : ℕ
   pub declaring-close : (p e : ℕ) → tokenAt s at ≡ T.Close p e → (k : ℕ) → length s - from < k → Outcome max (Done e n) rows (declarations k s ts max most t₀ from)
   declaring-close p e q k h = reads max rows n e (o .table) _ (whole (got (o .table) e) (λ j. declarations-close j s ts max most (o .table) at p e q) k h) (o .holds)
 
-  module _ (c : Token) (z : c ≡ tokenAt s at) (w : OneOf (0 ∷ 1 ∷ 2 ∷ 4 ∷ 5 ∷ 6 ∷ []) (tagOf token-type.the-type c)) (d : Answer) (y : d ≡ answerOf (opening s 1 at)) where
+  module _ (c : Token) (z : c ≡ tokenAt s at) (w : OneOf (0 ∷ 1 ∷ 2 ∷ 4 ∷ 5 ∷ 6 ∷ []) (tagOf token-type.the-type c)) (d : Answer) (y : d ≡ answerOf (opening s 14 at)) where
     pub declaring-no-open : (r : List ℕ) (i p : ℕ) → d ≡ Refused i p → (k : ℕ) → length s - from < k → Outcome max d r (declarations k s ts max most t₀ from)
     declaring-no-open r i p e k h =
-        refuses max d r i p _ (whole (refused i p) (λ j. declarations-open j s ts max most (o .table) at c z w ∙ simp (answer-refused (opening s 1 at) i p (sym y ∙ e))) k h) e
+        refuses max d r i p _ (whole (refused i p) (λ j. declarations-open j s ts max most (o .table) at c z w ∙ simp (answer-refused (opening s 14 at) i p (sym y ∙ e))) k h) e
 
     module _ (b p : ℕ) (q : d ≡ Done b p) (r : Answer) (rows′ : List ℕ) (out : Outcome max r rows′ (declaration s ts max most (o .table) b)) where
       way : (j : ℕ) → declarations (suc j) s ts max most (o .table) at ≡ andThen (declaration s ts max most (o .table) b) (λ u a. declarations j s ts max most u a)
-      way j = declarations-open j s ts max most (o .table) at c z w ∙ simp (answer-done (opening s 1 at) b p (sym y ∙ q))
+      way j = declarations-open j s ts max most (o .table) at c z w ∙ simp (answer-done (opening s 14 at) b p (sym y ∙ q))
 
       pub declaring-more : (a m : ℕ) → r ≡ Done a m → at < a → a ≤ length s → Declaring s ts max most t₀ from rows′ m a
       declaring-more a m e lo hi =

@@ -1,10 +1,12 @@
 -- What the next thing of a list is and where it lies, by cases on the token. Assumes nothing.
 use mathlib.Core.Path.{_≡_, refl, sym, _∙_, subst}
-use mathlib.Core.List.{List}
+use mathlib.Core.List.{List, [], _∷_}
 use mathlib.Core.Bool.{Bool, true, false, cond}
 use Prim.Native.Nat.{ℕ, _+_, _-_, _≤_, _<_}
 use native.Mathlib.Omega.{arith}
 use lib.ListN.{length}
+use types.Run.{OneOf}
+use denote.Enum.Declared.{tagOf}
 use Rattle.words.specs.Bytes.{bytes}
 use Rattle.words.specs.Spelling.{sameWord}
 use Rattle.words.specs.Fixed.{isReserved}
@@ -13,21 +15,26 @@ use Rattle.text.specs.Tokens.{tokenAt}
 use Rattle.text.specs.declared.tokens.Token.{Token}
 use Rattle.text.specs.declared.tokens.Token.the-variants as T
 use Rattle.text.specs.declared.tokens.Word.the-variants as W
+use Rattle.text.proofs.tokens.Token as token-type
 use Rattle.text.proofs.Within.{Within, token-within, part-length}
 use Rattle.grammar.specs.Read.{Read, got, refused, give, refuse}
-use Rattle.grammar.specs.Due.{afterOf, wrong, onWord, onClose}
+use Rattle.grammar.specs.Due.{afterOf, numberOf, placeOf, wrong, onWord, onClose}
 use Rattle.grammar.specs.Lists.{itemOf, item}
 use Rattle.grammar.specs.Lists as G
+use Rattle.due.specs.declared.Answer.{Answer}
+use Rattle.due.specs.declared.Answer.the-variants.{Done, Refused}
+use Rattle.due.proofs.Dues.{not-word, not-close}
 use Rattle.lists.specs.Items.{itemFor}
 use Rattle.lists.specs.declared.items.Item.{Item}
-use Rattle.lists.specs.declared.items.Item.the-variants.{Close, Dash, Name, Refused}
+use Rattle.lists.specs.declared.items.Item.the-variants.{Close, Dash, Name, Other}
 
 -- what was read of s from `at` on, by what is answered: a name is the part of the text between its places
 unfoldable pub Lies : List ℕ → ℕ → Item → Read G.Item → Type 0
 Lies s at (Close n) x = (x ≡ got G.closes n) × (at < n) × (n ≤ length s)
 Lies s at (Dash p n) x = (x ≡ got (G.dash p) n) × (at < n) × (n ≤ length s)
 Lies s at (Name p a e) x = (x ≡ got (G.names p (part s a e)) e) × (at < e) × (e ≤ length s) × (length (part s a e) ≤ 32)
-Lies s at (Refused k p) x = x ≡ refused k p
+Lies s at (Other (Done a v)) x = ⊥
+Lies s at (Other (Refused k p)) x = x ≡ refused k p
 
 module _ (s : List ℕ) (at p e : ℕ) (lo : at ≤ p) (mid : p < e) (hi : e ≤ length s) where
   name-lies : (b : Bool) → e - p ≤ 32 → Lies s at (itemFor false (cond b (refuse 3 p) (give (G.names p (part s p e))) e)) (cond b (refuse 3 p) (give (G.names p (part s p e))) e)
@@ -41,7 +48,7 @@ module _ (s : List ℕ) (at p e : ℕ) (lo : at ≤ p) (mid : p < e) (hi : e ≤
   dash-lies var false = refl
 
 token-lies : (s : List ℕ) (at : ℕ) (var : Bool) (t : Token) → Within s at t
-    → Lies s at (itemFor var (onClose t (λ p. give G.closes) (onWord t (itemOf s var) (wrong 1 t)) (afterOf t))) (onClose t (λ p. give G.closes) (onWord t (itemOf s var) (wrong 1 t)) (afterOf t))
+    → Lies s at (itemFor var (onClose t (λ p. give G.closes) (onWord t (itemOf s var) (wrong 13 t)) (afterOf t))) (onClose t (λ p. give G.closes) (onWord t (itemOf s var) (wrong 13 t)) (afterOf t))
 unfolding Lies Within
 token-lies s at true (T.Word W.Name p e) w = refl
 token-lies s at false (T.Word W.Name p e) w = name-lies s at p e (w .0) (w .1) (w .2) (isReserved (part s p e)) (w .3)
@@ -76,6 +83,13 @@ module _ (s : List ℕ) (var : Bool) (at : ℕ) (h : at ≤ length s) (r : Item)
   unfolding Lies
   item-name p a e d = lies-as (Name p a e) d
 
-  pub item-refused : (k p : ℕ) → r ≡ Refused k p → item s var at ≡ refused k p
+  pub item-other : (a : Answer) → r ≡ Other a → (i : ℕ) × (p : ℕ) × (a ≡ Refused i p) × (item s var at ≡ refused i p)
   unfolding Lies
-  item-refused k p e = lies-as (Refused k p) e
+  item-other (Done n v) e = absurd (lies-as (Other (Done n v)) e)
+  item-other (Refused i p) e = (i, p, refl, lies-as (Other (Refused i p)) e)
+
+-- a token that is no bracket that closes and no word is refused
+pub item-else : (s : List ℕ) (var : Bool) (at : ℕ) (t : Token) (r : Answer) → t ≡ tokenAt s at → OneOf (0 ∷ 1 ∷ 2 ∷ 4 ∷ 5 ∷ 6 ∷ []) (tagOf token-type.the-type t)
+    → OneOf (1 ∷ 2 ∷ 3 ∷ 4 ∷ 5 ∷ 6 ∷ []) (tagOf token-type.the-type t) → r ≡ Refused (numberOf 13 t) (placeOf t) → Other r ≡ itemFor var (item s var at)
+unfolding item
+item-else s var at t r e o w q = rw (← e, not-close t _ _ o, not-word t _ _ w, q)

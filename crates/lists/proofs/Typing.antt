@@ -36,15 +36,15 @@ unfolding Within
 bracket-in s at p n h e = let w = rw e at (token-within s at h) in omega (arith, w .1, w .2)
 
 module _ (s : List ℕ) (from at : ℕ) where
-  pub other-else : (t : Token) (r : Answer) → t ≡ tokenAt s from → OneOf (0 ∷ 1 ∷ 3 ∷ 4 ∷ 5 ∷ 6 ∷ []) (tagOf token-type.the-type t) → r ≡ Refused (numberOf 1 t) (placeOf t)
-      → r ≡ answerOf (onOpen (tokenAt s from) (typeOfOther s) (wrong 1 (tokenAt s from)) at)
+  pub other-else : (t : Token) (r : Answer) → t ≡ tokenAt s from → OneOf (0 ∷ 1 ∷ 3 ∷ 4 ∷ 5 ∷ 6 ∷ []) (tagOf token-type.the-type t) → r ≡ Refused (numberOf 13 t) (placeOf t)
+      → r ≡ answerOf (onOpen (tokenAt s from) (typeOfOther s) (wrong 13 (tokenAt s from)) at)
   other-else t r e o q = rw (← e, not-open t _ _ o) q
 
   module _ (p n : ℕ) (e : tokenAt s from ≡ T.Open p n) where
-    pub other-bracket : spotAt s (p + 1) (bytes "either") ≡ P.Other → Refused 3 p ≡ answerOf (onOpen (tokenAt s from) (typeOfOther s) (wrong 1 (tokenAt s from)) at)
+    pub other-bracket : spotAt s (p + 1) (bytes "either") ≡ P.Other → Refused 3 p ≡ answerOf (onOpen (tokenAt s from) (typeOfOther s) (wrong 13 (tokenAt s from)) at)
     other-bracket o = rw (e, o)
 
-    pub other-either : (a z : ℕ) → spotAt s (p + 1) (bytes "either") ≡ P.At a z → Refused 11 a ≡ answerOf (onOpen (tokenAt s from) (typeOfOther s) (wrong 1 (tokenAt s from)) at)
+    pub other-either : (a z : ℕ) → spotAt s (p + 1) (bytes "either") ≡ P.At a z → Refused 11 a ≡ answerOf (onOpen (tokenAt s from) (typeOfOther s) (wrong 13 (tokenAt s from)) at)
     other-either a z o = rw (e, o)
 
 -- an answer with no number is a refusal
@@ -63,7 +63,7 @@ no-type s ts b W.Operator p e at h = refl
 
 module _ (s : List ℕ) (ts : Table) (b at : ℕ) where
   pub type-else : (t : Token) (r : Answer) → t ≡ tokenAt s at → OneOf (1 ∷ 2 ∷ 3 ∷ 4 ∷ 5 ∷ 6 ∷ []) (tagOf token-type.the-type t)
-      → ((j : ℕ) → r ≡ answerOf (onOpen (tokenAt s at) (typeOfOther s) (wrong 1 (tokenAt s at)) j)) → r ≡ answerOf (typeDue s ts b at)
+      → ((j : ℕ) → r ≡ answerOf (onOpen (tokenAt s at) (typeOfOther s) (wrong 13 (tokenAt s at)) j)) → r ≡ answerOf (typeDue s ts b at)
   unfolding typeDue
   type-else t r e o f = rw (← e, not-word t _ _ o) (rw (← e) at (f (afterOf t)))
 

@@ -3,12 +3,13 @@ use Prim.Native.Nat.{_+_}
 use mathlib.Core.Bool.{Bool, cond}
 use Rattle.grammar.specs.Read.{Read, got, refused}
 use Rattle.grammar.specs.Lists as G
+use Rattle.due.specs.declared.Answer.the-variants.{Refused}
 use Rattle.lists.specs.declared.items.Item.{Item}
-use Rattle.lists.specs.declared.items.Item.the-variants.{Close, Dash, Name, Refused}
+use Rattle.lists.specs.declared.items.Item.the-variants.{Close, Dash, Name, Other}
 
 -- a name begins where it stands, that of a variable (`var`) behind its mark
 abbrev pub itemFor : Bool → Read G.Item → Item
 itemFor var (got G.closes n) = Close n
 itemFor var (got (G.dash p) n) = Dash p n
 itemFor var (got (G.names p w) n) = Name p (cond var (p + 1) p) n
-itemFor var (refused k p) = Refused k p
+itemFor var (refused k p) = Other (Refused k p)

@@ -49,7 +49,7 @@ fn declaration_at(
     requires { ⌜ (from ≤ length (now text)) × Stands 17 (now types) tn × Stands max (now rows) n × (most ≤ 3) ⌝ }
     ensures { λ r. ⌜ ((ts t : Table) → Holds 17 (now (types .entry)) tn ts → Holds max (now (rows .entry)) n t → Outcome max r (now (rows .exit)) (declaration (now (text .entry)) ts max most t from)) × Ahead (length (now (text .entry))) from r ⌝ }
 {
-    let h = due::new_name(text, from, 1);
+    let h = due::new_name(text, from, 13);
     let Answer::Done(end, start) = h else {
         return h;
     };
@@ -90,7 +90,7 @@ pub fn declarations_at(
         if let Token::Close(_, next) = c {
             return Answer::Done(next, n);
         }
-        let o = due::opening(text, at, 1);
+        let o = due::opening(text, at, 14);
         let Answer::Done(inside, _) = o else {
             return o;
         };

@@ -1,13 +1,15 @@
 // The next thing of a typed list: its end, a dash, or a name to declare.
-use text::runs;
+use due::Answer;
 use text::tokens;
 use text::tokens::Token;
 use text::tokens::Word;
 use words::fixed;
 use words::spelling;
 ghost use mathlib.Core.Path.{_≡_};
-ghost use Prim.Native.Nat.{_≤_, _<_};
+ghost use mathlib.Core.List.{List};
+ghost use Prim.Native.Nat.{ℕ, _≤_, _<_};
 ghost use lib.ListN.{length};
+ghost use Rattle.text.specs.Runs.{part};
 ghost use Rattle.grammar.specs.Lists.{itemOf, item};
 ghost use Rattle.lists.specs.Items.{itemFor};
 
@@ -18,22 +20,22 @@ pub enum Item {
     Dash(usize, usize),
     // where it stands, where the name begins (behind a variable's mark) and ends
     Name(usize, usize, usize),
-    // the refusal's number and place
-    Refused(u8, usize),
+    // anything else: its refusal
+    Other(Answer),
 }
 
-// A word of a list, from p to e; of a list of variables: `var`.
-fn item_of(text: &[u8], var: bool, k: Word, p: usize, e: usize) -> Item
+// A word w of a list, which stands from p to e; of a list of variables: `var`.
+fn item_of(w: &[u8], var: bool, k: Word, p: usize, e: usize) -> Item
     requires { ⌜ p < e ⌝ }
-    ensures { λ r. ⌜ r ≡ itemFor var (itemOf (now (text .entry)) var k p e e) ⌝ }
+    ensures { λ r. ⌜ ((s : List ℕ) → now (w .entry) ≡ part s p e → r ≡ itemFor var (itemOf s var k p e e)) ⌝ }
 {
     match k {
         Word::Name => {
             if var {
-                return Item::Refused(3, p);
+                return Item::Other(Answer::Refused(3, p));
             }
-            if fixed::is_reserved(runs::part_of(text, p, e)) {
-                return Item::Refused(3, p);
+            if fixed::is_reserved(w) {
+                return Item::Other(Answer::Refused(3, p));
             }
             Item::Name(p, p, e)
         }
@@ -41,14 +43,14 @@ fn item_of(text: &[u8], var: bool, k: Word, p: usize, e: usize) -> Item
             if var {
                 return Item::Name(p, p + 1, e);
             }
-            Item::Refused(3, p)
+            Item::Other(Answer::Refused(3, p))
         }
-        Word::Keyword => Item::Refused(3, p),
+        Word::Keyword => Item::Other(Answer::Refused(3, p)),
         Word::Operator => {
-            if spelling::same_word(runs::part_of(text, p, e), b"-") {
+            if spelling::same_word(w, b"-") {
                 return Item::Dash(p, e);
             }
-            Item::Refused(3, p)
+            Item::Other(Answer::Refused(3, p))
         }
     }
 }
@@ -58,13 +60,11 @@ pub fn item_at(text: &[u8], from: usize, var: bool) -> Item
     ensures { λ r. ⌜ r ≡ itemFor var (item (now (text .entry)) var from) ⌝ }
 {
     let t = tokens::token_at(text, from);
-    match t {
-        Token::Word(k, p, e) => item_of(text, var, k, p, e),
-        Token::Number(_, p, _) => Item::Refused(3, p),
-        Token::Open(p, _) => Item::Refused(3, p),
-        Token::Close(_, next) => Item::Close(next),
-        Token::Mark(_, p, _) => Item::Refused(3, p),
-        Token::Refusal(k, p) => Item::Refused(k, p),
-        Token::End(p) => Item::Refused(4, p),
+    if let Token::Close(_, next) = t {
+        return Item::Close(next);
     }
+    let Token::Word(k, p, e) = t else {
+        return Item::Other(due::refusal(t, 13));
+    };
+    item_of(tokens::word_of(text, t), var, k, p, e)
 }

@@ -146,7 +146,7 @@ pub fn typed_list(
                 at = end;
                 n = m;
             }
-            Item::Refused(k, p) => return Answer::Refused(k, p),
+            Item::Other(a) => return a,
         }
     }
 }

@@ -1,6 +1,5 @@
 // A type, where one is due: its number in a table of types.
 use due::Answer;
-use text::runs;
 use text::tokens;
 use text::tokens::Spot;
 use text::tokens::Token;
@@ -21,11 +20,11 @@ ghost use Rattle.lists.specs.Outcome.{Below};
 // The token at `from`, which is no word, is refused: there is no number to answer.
 fn no_word(text: &[u8], from: usize) -> Answer
     requires { ⌜ from ≤ length (now text) ⌝ }
-    ensures { λ r. ⌜ ((at : ℕ) → r ≡ answerOf (onOpen (tokenAt (now (text .entry)) from) (typeOfOther (now (text .entry))) (wrong 1 (tokenAt (now (text .entry)) from)) at)) × Below 0 r ⌝ }
+    ensures { λ r. ⌜ ((at : ℕ) → r ≡ answerOf (onOpen (tokenAt (now (text .entry)) from) (typeOfOther (now (text .entry))) (wrong 13 (tokenAt (now (text .entry)) from)) at)) × Below 0 r ⌝ }
 {
     let t = tokens::token_at(text, from);
     let Token::Open(p, _) = t else {
-        return due::refusal(t, 1);
+        return due::refusal(t, 13);
     };
     let o = tokens::spot_at(text, p + 1, b"either");
     let Spot::At(q, _) = o else {
@@ -46,7 +45,7 @@ pub fn type_due(text: &[u8], from: usize, rows: &[u8], n: usize, b: usize) -> An
     let Word::Name = k else {
         return Answer::Refused(3, p);
     };
-    let f = names::find(rows, n, runs::part_of(text, p, e));
+    let f = names::find(rows, n, tokens::word_of(text, t));
     let Found::At(i) = f else {
         return Answer::Refused(8, p);
     };

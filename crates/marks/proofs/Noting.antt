@@ -7,7 +7,8 @@ use native.Mathlib.Omega.{arith}
 use lib.Dec.{ltb}
 use borrow.Author.Tests.{lt-ltb, le-ltb, ltb-true, ltb-false}
 use Rattle.codes.specs.Decode.{refAt, exprAt, effectAt, begins}
-use Rattle.happenings.specs.State.{Grounds, factOf, numberOf, indexIn}
+use Rattle.happenings.specs.State.{Grounds, factOf, numberOf}
+use Rattle.grammar.specs.Indexes.{indexIn}
 use Rattle.happenings.specs.Writes.{markOf, rightReads}
 use Rattle.happenings.specs.declared.Mark.the-variants.{Fact, Number}
 use Rattle.grounds.specs.Grounded.{firstsIn, countIn, groundsIn}

@@ -5,7 +5,6 @@ use crate::report;
 use checker::Answer;
 use checker::Check;
 use checker::Fed;
-use checker::outputs;
 use domain::Verdict;
 use text::runs;
 
@@ -118,9 +117,9 @@ fn ask_numbers(check: Check, out: &mut [i64], n: usize) -> Fed {
 
 fn ask_refused(load: Verdict, out: &mut [u8], n: usize) -> Answer {
     if n <= out.len() {
-        return outputs::refused_line(load, &mut out[..n]);
+        return checker::refused_line(load, &mut out[..n]);
     }
-    outputs::refused_line(load, out)
+    checker::refused_line(load, out)
 }
 
 pub fn result(check: Check, places: usize) -> Check {

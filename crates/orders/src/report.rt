@@ -3,7 +3,7 @@ use checker::Answer;
 use domain::Verdict;
 use records::output;
 ghost use mathlib.Core.Path.{_≡_};
-ghost use Rattle.checker.specs.Calls.{numberOf};
+ghost use Rattle.checker.specs.Numbers.{numberOf};
 
 // A space and a number.
 pub fn say_number(n: usize) {

@@ -3,15 +3,60 @@ use checker::Check;
 use domain::Model;
 use feeding::Progress;
 use grounding::Ground;
+use happenings::Outcome;
 use plans::Slot;
 use plans::Step;
+use running::Past;
 use terms::scope::Counts;
 use waiting::Queue;
 use words::spelling;
 use words::spelling::Found;
 
-fn spoil_progress(before: Progress, i: usize, v: usize) -> Progress {
+// What came of the plan so far: its time, or a failure in a line or in two.
+fn spoil_past(before: Past, i: usize, v: usize) -> Past {
+    let outcome = before.outcome;
+    let time = before.time;
+    match i {
+        17 => Past { outcome, time: v },
+        18 => Past {
+            outcome: Outcome::Condition(v),
+            time,
+        },
+        19 => Past {
+            outcome: Outcome::Undefined(v),
+            time,
+        },
+        20 => Past {
+            outcome: Outcome::Conflict(v, 2),
+            time,
+        },
+        21 => Past {
+            outcome: Outcome::Conflict(1, v),
+            time,
+        },
+        _ => before,
+    }
+}
+
+// The plan refusal that stands.
+fn spoil_refusal(before: Progress, i: usize, v: usize) -> Progress {
     let mut p = before;
+    if i == 14 {
+        if v < 256 {
+            p.refusal = v as u8;
+        }
+    }
+    if i == 15 {
+        p.at = v;
+    }
+    if i == 16 {
+        p.column = v;
+    }
+    p
+}
+
+fn spoil_progress(before: Progress, i: usize, v: usize) -> Progress {
+    let mut p = spoil_refusal(before, i, v);
     if i == 0 {
         p.number = v;
     }
@@ -21,6 +66,8 @@ fn spoil_progress(before: Progress, i: usize, v: usize) -> Progress {
     if i == 2 {
         p.start = v;
     }
+    let past = spoil_past(p.past, i, v);
+    p.past = past;
     p
 }
 
@@ -67,6 +114,12 @@ fn spoil_step(before: Step, i: usize, v: usize) -> Step {
     if i == 11 {
         x.duration = v;
     }
+    if i == 12 {
+        x.line = v;
+    }
+    if i == 13 {
+        x.width = v;
+    }
     x
 }
 
@@ -85,7 +138,7 @@ fn spoil_queue(before: Queue, i: usize, v: usize) -> Queue {
 // Sets the number that a word names.
 pub fn spoil(before: Check, word: &[u8], v: usize) -> Check {
     let f = spelling::word_in(
-        b"number used start actions types objects facts numbers waiting action begin duration",
+        b"number used start actions types objects facts numbers waiting action begin duration line width refusal at column time condition undefined first second",
         word,
     );
     let Found::At(i) = f else {

@@ -4,7 +4,6 @@ use crate::timed;
 use due::Answer;
 use expressions::leaves::Progress;
 use terms::scope::Counts;
-use text::runs;
 use text::tokens;
 use text::tokens::Token;
 use words::spelling;
@@ -29,7 +28,7 @@ fn field_at(text: &[u8], from: usize, w: &[u8]) -> Found
     let Token::Word(_, p, e) = t else {
         return Found::Nothing;
     };
-    if spelling::same_word(runs::part_of(text, p, e), w) {
+    if spelling::same_word(tokens::word_of(text, t), w) {
         return Found::At(e);
     }
     Found::Nothing

@@ -5,7 +5,6 @@ use due::Answer;
 use expressions::leaves;
 use expressions::leaves::Progress;
 use terms::scope::Counts;
-use text::runs;
 use text::tokens;
 use text::tokens::Token;
 use words::spelling;
@@ -131,7 +130,7 @@ pub fn parts_at(
     let Token::Word(_, p, e) = t else {
         return leaves::progress_of(due::refusal(t, d - 1), left);
     };
-    if spelling::same_word(runs::part_of(text, p, e), b"and") {
+    if spelling::same_word(tokens::word_of(text, t), b"and") {
         return parts_to(text, e, d - 1, tables, counts, code, used, left, over);
     }
     part_behind(text, p, e, d - 1, tables, counts, code, used, left, over)

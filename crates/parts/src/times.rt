@@ -20,10 +20,10 @@ fn behind_at(text: &[u8], from: usize, d: usize) -> Answer
     let Token::Word(_, p, e) = t else {
         return due::refusal(t, d);
     };
-    if spelling::same_word(runs::part_of(text, p, e), b"start") {
+    if spelling::same_word(tokens::word_of(text, t), b"start") {
         return Answer::Done(e, 1);
     }
-    if spelling::same_word(runs::part_of(text, p, e), b"end") {
+    if spelling::same_word(tokens::word_of(text, t), b"end") {
         return Answer::Done(e, 3);
     }
     Answer::Refused(3, p)

@@ -1,22 +1,23 @@
 -- Texts with the same tokens are read in the same way: with an edge as far as what is read reaches. Assumes nothing.
-use mathlib.Core.Path.{_≡_, sym, _∙_}
+use mathlib.Core.Path.{_≡_, refl}
 use mathlib.Core.List.{List}
-use Prim.Native.Nat.{ℕ}
+use Prim.Native.Nat.{ℕ, _<_}
 use native.Mathlib.Omega.{arith}
 use Rattle.grammar.specs.Read.{Read, Reader, got, refused}
 use Rattle.grammar.specs.Domain.{domainText, readDomain}
 use Rattle.grammar.specs.Problem.{problemText, readProblem}
 use Rattle.places.specs.Lowest.{seen, nextOf, reachInProblem}
-use Rattle.places.specs.Alike.{SameAt, Said, AlikeInDomain, AlikeInProblem}
+use Rattle.places.specs.Alike.{SameAt, AlikeInDomain, AlikeInProblem}
 use Rattle.places.proofs.Local.{Agrees, Over, Far, Good, far, near, Plain}
 use Rattle.places.proofs.Suffice.{waits, edgeOf}
 use Rattle.places.proofs.Domains.{domain-local}
 use Rattle.places.proofs.Problems.{problem-local}
+use Rattle.places.proofs.SoundTexts.{listed-in-domain, listed-in-problem}
 
 alike : {A : Type 0} {m : List ℕ → Reader A} → ((s : List ℕ) (q : ℕ) → Plain (edgeOf s q) m) → (s u : List ℕ) → ((at : ℕ) → SameAt s u at)
-    → (r : Read A) → Said r → m s 0 ≡ r → m u 0 ≡ r
+    → ((k p : ℕ) → m s 0 ≡ refused k p → 0 < k) → m s 0 ≡ m u 0
 unfolding Far
-alike {A = A} {m = m} h s u a r d e = go r d (m s 0) (m u 0) e (h s (edgeFor r) .good u (agrees r) 0)
+alike {A = A} {m = m} h s u a d = go (m s 0) (m s 0) (m u 0) d refl (h s (edgeFor (m s 0)) .good u (agrees (m s 0)) 0)
   where
     edgeFor : Read A → ℕ
     edgeFor (got x n) = seen s (nextOf s n)
@@ -25,15 +26,15 @@ alike {A = A} {m = m} h s u a r d e = go r d (m s 0) (m u 0) e (h s (edgeFor r) 
     agrees : (r : Read A) → Agrees (edgeOf s (edgeFor r)) u
     agrees r = record { same = λ at i. a at }
 
-    go : (r : Read A) → Said r → (x y : Read A) → x ≡ r → Good (edgeOf s (edgeFor r)) (nextOf s 0) (Over (edgeOf s (edgeFor r)) (nextOf s)) x y → y ≡ r
-    go (got b n) d x y e (far z) = absurd (let o : ⊥ = omega (arith, (rw e at z) .past) in o)
-    go (refused k p) d x y e (far z) = absurd (let o : ⊥ = omega (arith, (rw e at z) d) in o)
-    go r d x y e (near i f) = sym f ∙ e
+    go : (r x y : Read A) → ((k p : ℕ) → x ≡ refused k p → 0 < k) → x ≡ r → Good (edgeOf s (edgeFor r)) (nextOf s 0) (Over (edgeOf s (edgeFor r)) (nextOf s)) x y → x ≡ y
+    go (got b n) x y d e (far z) = absurd (let o : ⊥ = omega (arith, (rw e at z) .past) in o)
+    go (refused k p) x y d e (far z) = absurd (let o : ⊥ = omega (arith, (rw e at z) (d k p e)) in o)
+    go r x y d e (near i f) = f
 
 pub alike-in-domain : AlikeInDomain
 unfolding readDomain
-alike-in-domain s u a r d e = alike {m = domainText} (λ s q. domain-local) s u a r d e
+alike-in-domain s u a = alike {m = domainText} (λ s q. domain-local) s u a (λ k p e. listed-in-domain s k p e .least)
 
 pub alike-in-problem : AlikeInProblem
 unfolding readProblem
-alike-in-problem s u d a r h e = alike {m = λ v. problemText v d} (λ s q. problem-local (waits s) d) s u a r h e
+alike-in-problem s u d a = alike {m = λ v. problemText v d} (λ s q. problem-local (waits s) d) s u a (λ k p e. listed-in-problem s d k p e .least)

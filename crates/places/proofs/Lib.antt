@@ -1,4 +1,5 @@
--- The laws. Bytes and tokens; readers and how they are put together; the readers of the grammar, in its order; the law of the lowest place; texts with the same tokens.
+-- The laws. Bytes and tokens; readers and how they are put together; the readers of the grammar, in its order; sound readers, and that every refusal is
+-- listed; the law of the lowest place; texts with the same tokens; and how far a refusal reaches in short texts.
 pub mod Sight
 pub mod Nearness
 pub mod Local
@@ -12,5 +13,11 @@ pub mod Sections
 pub mod Domains
 pub mod Numbers
 pub mod Problems
+pub mod Sound
+pub mod SoundRows
+pub mod SoundTrees
+pub mod SoundParts
+pub mod SoundTexts
 pub mod Lowest
 pub mod Alike
+pub mod Examples

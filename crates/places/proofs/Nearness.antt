@@ -5,6 +5,7 @@ use mathlib.Core.Bool.{Bool, true, false, cond, _&&_, _||_, or-true}
 use Prim.Native.Nat.{ℕ, suc, _+_, _-_, _≤_, _<_, min}
 use native.Mathlib.Nat.{le-refl}
 use native.Mathlib.Omega.{arith}
+use native.Mathlib.Decide.{decLe}
 use lib.Dec.{eqb, leb, ltb}
 use lib.ListN.{length, getD, take, length-take}
 use borrow.Author.Tests.{leb-true, leb-false, eqb-true, ltb-false, le-leb, lt-leb}
@@ -14,7 +15,7 @@ use Rattle.words.specs.Fixed.{isListed}
 use Rattle.words.specs.declared.bytes.Kind.{Kind}
 use Rattle.words.specs.declared.bytes.Kind.the-variants as K
 use Rattle.words.proofs.Steps.{at-cons}
-use Rattle.text.proofs.Steps.{run-within}
+use Rattle.text.proofs.Steps.{gap-within, run-within}
 use Rattle.text.specs.Runs.{part, gapEnd}
 use Rattle.text.specs.Numbers.{numberOf}
 use Rattle.text.specs.Classes.{classOf}
@@ -35,6 +36,15 @@ use Rattle.places.proofs.Sight.{gap-near, run-near, part-near, byte-nea
 
 -- ---- where a token of s stands and ends
 
+-- a token's own refusal: 1 is for what begins past the most bytes of a text too long
+pub record Own (size k p : ℕ) : Type 0 where
+  pub least : 1 ≤ k
+  pub most : k ≤ 11
+  pub long : k ≡ 1 → (p ≡ 32768) × (32768 < size)
+
+own : {size k p : ℕ} → 2 ≤ k → k ≤ 11 → Own size k p
+own h i = record { least = omega arith; most = i; long = λ e. absurd (let o : ⊥ = omega arith in o) }
+
 -- a token is seen to its end, a run to the byte behind it
 unfoldable pub Fits : List ℕ → Token → Type 0
 Fits s (T.Word k p e) = (seen s p ≡ e + 1) × (e ≤ length s) × (p < e)
@@ -42,8 +52,8 @@ Fits s (T.Number z p e) = seen s p ≡ e + 1
 Fits s (T.Open p n) = (n ≡ p + 1) × (getD s p 0 ≡ 40)
 Fits s (T.Close p n) = (n ≡ p + 1) × (seen s p ≡ n)
 Fits s (T.Mark b p n) = ⊥
-Fits s (T.Refusal k p) = Unit {0}
-Fits s (T.End p) = Unit {0}
+Fits s (T.Refusal k p) = Own (length s) k p
+Fits s (T.End p) = length s ≤ p
 
 pub record Shape (s : List ℕ) (p : ℕ) (t : Token) : Type 0 where
   pub place : placeOf t ≡ p
@@ -55,13 +65,13 @@ module _ (s : List ℕ) (p e : ℕ) (h : seen s p ≡ e + 1) (l : e ≤ length s
   sized-shape k most long = go (ltb most long)
     where
       go : (t : Bool) → Shape s p (cond t (T.Refusal 5 p) (T.Word k p e))
-      go true = record { place = refl; fits = tt }
+      go true = record { place = refl; fits = own (omega arith) (omega arith) }
       go false = record { place = refl; fits = (h, l, b) }
 
   number-shape : (n : Number) → Shape s p (asToken n p e)
   unfolding Fits
   number-shape (Thousandths z) = record { place = refl; fits = h }
-  number-shape Malformed = record { place = refl; fits = tt }
+  number-shape Malformed = record { place = refl; fits = own (omega arith) (omega arith) }
 
   class-shape : (k : Class) (w : List ℕ) → Shape s p (byClass k w p e)
   unfolding Fits numberToken
@@ -70,14 +80,14 @@ module _ (s : List ℕ) (p e : ℕ) (h : seen s p ≡ e + 1) (l : e ≤ length s
   class-shape C.Variable w = sized-shape W.Variable 33 (length w)
   class-shape C.Keyword w = sized-shape W.Keyword 33 (length w)
   class-shape C.Operator w = record { place = refl; fits = (h, l, b) }
-  class-shape C.Other w = record { place = refl; fits = tt }
+  class-shape C.Other w = record { place = refl; fits = own (omega arith) (omega arith) }
 
   word-shape : (w : List ℕ) → Shape s p (domainWord w p e)
   unfolding domainWord Fits
   word-shape w = go (isListed w)
     where
       go : (t : Bool) → Shape s p (cond t (T.Refusal 11 p) (byClass (classOf w) w p e))
-      go true = record { place = refl; fits = tt }
+      go true = record { place = refl; fits = own (omega arith) (omega arith) }
       go false = class-shape (classOf w) w
 
 bracket-shape : (s : List ℕ) (p : ℕ) → seen s p ≡ p + 1 → Shape s p (bracketOf (getD s p 0) p)
@@ -87,7 +97,7 @@ bracket-shape s p h = go (eqb (getD s p 0) 40) refl (eqb (getD s p 0) 41)
     go : (t : Bool) → eqb (getD s p 0) 40 ≡ t → (u : Bool) → Shape s p (cond t (T.Open p (p + 1)) (cond u (T.Close p (p + 1)) (T.Refusal 3 p)))
     go true e u = record { place = refl; fits = (refl, eqb-true (getD s p 0) 40 e) }
     go false e true = record { place = refl; fits = (refl, h) }
-    go false e false = record { place = refl; fits = tt }
+    go false e false = record { place = refl; fits = own (omega arith) (omega arith) }
 
 start-shape : (s : List ℕ) (p : ℕ) → p < length s → (k : Kind) → kindOf (getD s p 0) ≡ k
     → Shape s p (onStart k (domainRun s p (endOf s 59 p)) (bracketOf (getD s p 0) p) (T.Refusal 2 p))
@@ -97,40 +107,7 @@ start-shape s p i K.Letter h = word-shape s p (endOf s 59 p) (rw (h, seen)) (run
 start-shape s p i K.Bracket h = bracket-shape s p (rw (h, seen))
 start-shape s p i K.White h = word-shape s p (endOf s 59 p) (rw (h, seen)) (run-within s 59 (p + 1) (omega arith) .1) (omega (arith, run-behind s (p + 1))) (part s p (endOf s 59 p))
 start-shape s p i K.Mark h = word-shape s p (endOf s 59 p) (rw (h, seen)) (run-within s 59 (p + 1) (omega arith) .1) (omega (arith, run-behind s (p + 1))) (part s p (endOf s 59 p))
-start-shape s p i K.Refused h = record { place = refl; fits = tt }
-
--- a token stands at the end of the gap, but 1 at 32,768
-abbrev capped : ℕ → ℕ → ℕ
-capped long g = cond (isPast long g) 32768 g
-
-from-shape : (s : List ℕ) (g : ℕ) → Shape s (capped (length s) g) (tokenFrom s g)
-unfolding Fits
-from-shape s g = go (isPast (length s) g) (leb (length s) g) refl
-  where
-    go : (t u : Bool) → leb (length s) g ≡ u → Shape s (cond t 32768 g) (cond t (T.Refusal 1 32768) (cond u (T.End g) (onStart (kindOf (getD s g 0)) (domainRun s g (endOf s 59 g)) (bracketOf (getD s g 0) g) (T.Refusal 2 g))))
-    go true u e = record { place = refl; fits = tt }
-    go false true e = record { place = refl; fits = tt }
-    go false false e = start-shape s g (leb-false (length s) g e) (kindOf (getD s g 0)) refl
-
-token-shape : (s : List ℕ) (at : ℕ) → Shape s (capped (length s) (gapEnd s at)) (tokenAt s at)
-unfolding tokenAt
-token-shape s at = from-shape s (gapEnd s at)
-
-pub token-fits : (s : List ℕ) (at : ℕ) → Fits s (tokenAt s at)
-token-fits s at = token-shape s at .fits
-
--- a token ends behind its place, and no further than it is seen
-pub token-ends : (s : List ℕ) (t : Token) → Fits s t → (placeOf t ≤ afterOf t) × (afterOf t ≤ seen s (placeOf t))
-unfolding Fits
-token-ends s (T.Word k p e) h = omega (arith, seen-low s p)
-token-ends s (T.Number z p e) h = omega (arith, seen-low s p)
-token-ends s (T.Open p n) h = omega (arith, seen-low s p)
-token-ends s (T.Close p n) h = omega (arith, seen-low s p)
-token-ends s (T.Mark b p n) h = absurd h
-token-ends s (T.Refusal k p) h = omega (arith, seen-low s p)
-token-ends s (T.End p) h = omega (arith, seen-low s p)
-
--- ---- the next token stands further on
+start-shape s p i K.Refused h = record { place = refl; fits = own (omega arith) (omega arith) }
 
 past-low : (long g : ℕ) → isPast long g ≡ true → (32768 < long) × (32768 ≤ g)
 unfolding isPast
@@ -149,6 +126,49 @@ past-high long g l h = go (leb long 32768) refl (leb 32768 g) refl h
     go true e u d x = omega (arith, leb-true long 32768 e)
     go false e true d x = let z : _≡_ {A = ℕ} 0 1 = cc in omega arith
     go false e false d x = leb-false 32768 g d
+
+-- a token stands at the end of the gap, but 1 at 32,768
+abbrev capped : ℕ → ℕ → ℕ
+capped long g = cond (isPast long g) 32768 g
+
+from-shape : (s : List ℕ) (g : ℕ) → Shape s (capped (length s) g) (tokenFrom s g)
+unfolding Fits
+from-shape s g = go (isPast (length s) g) refl (leb (length s) g) refl
+  where
+    go : (t : Bool) → isPast (length s) g ≡ t → (u : Bool) → leb (length s) g ≡ u
+        → Shape s (cond t 32768 g) (cond t (T.Refusal 1 32768) (cond u (T.End g) (onStart (kindOf (getD s g 0)) (domainRun s g (endOf s 59 g)) (bracketOf (getD s g 0) g) (T.Refusal 2 g))))
+    go true d u e = record { place = refl; fits = record { least = omega arith; most = omega arith; long = λ _. (refl, past-low (length s) g d .0) } }
+    go false d true e = record { place = refl; fits = leb-true (length s) g e }
+    go false d false e = start-shape s g (leb-false (length s) g e) (kindOf (getD s g 0)) refl
+
+token-shape : (s : List ℕ) (at : ℕ) → Shape s (capped (length s) (gapEnd s at)) (tokenAt s at)
+unfolding tokenAt
+token-shape s at = from-shape s (gapEnd s at)
+
+-- within the text and at most at 32,768
+pub token-stands : (s : List ℕ) (at : ℕ) → at ≤ length s → (nextOf s at ≤ length s) × (nextOf s at ≤ 32768)
+token-stands s at h = rw (token-shape s at .place) (go (isPast (length s) (gapEnd s at)) refl (decLe (length s) 32768))
+  where
+    go : (t : Bool) → isPast (length s) (gapEnd s at) ≡ t → Dec (length s ≤ 32768) → (cond t 32768 (gapEnd s at) ≤ length s) × (cond t 32768 (gapEnd s at) ≤ 32768)
+    go true e d = omega (arith, past-low (length s) (gapEnd s at) e)
+    go false e (yes i) = omega (arith, gap-within s at h)
+    go false e (no i) = omega (arith, gap-within s at h, past-high (length s) (gapEnd s at) (omega arith) e)
+
+pub token-fits : (s : List ℕ) (at : ℕ) → Fits s (tokenAt s at)
+token-fits s at = token-shape s at .fits
+
+-- a token ends behind its place, and no further than it is seen
+pub token-ends : (s : List ℕ) (t : Token) → Fits s t → (placeOf t ≤ afterOf t) × (afterOf t ≤ seen s (placeOf t))
+unfolding Fits
+token-ends s (T.Word k p e) h = omega (arith, seen-low s p)
+token-ends s (T.Number z p e) h = omega (arith, seen-low s p)
+token-ends s (T.Open p n) h = omega (arith, seen-low s p)
+token-ends s (T.Close p n) h = omega (arith, seen-low s p)
+token-ends s (T.Mark b p n) h = absurd h
+token-ends s (T.Refusal k p) h = omega (arith, seen-low s p)
+token-ends s (T.End p) h = omega (arith, seen-low s p)
+
+-- ---- the next token stands further on
 
 pub past-is : (long g : ℕ) → 32768 < long → 32768 ≤ g → isPast long g ≡ true
 unfolding isPast

@@ -1,13 +1,14 @@
 -- A problem's text depends on nothing behind what is reached, where 7 at a number's name reaches to the end of its `(f ..)`. Assumes nothing.
 use mathlib.Core.Path.{_≡_, refl}
 use mathlib.Core.List.{List}
-use mathlib.Core.Bool.{Bool, true, false, cond, _||_}
+use mathlib.Core.Bool.{Bool, true, false, cond}
 use Prim.Native.Nat.{ℕ, zero, suc, _+_, _-_, _≤_, _<_}
 use native.Mathlib.Omega.{arith}
 use lib.ListN.{length}
 use lib.Dec.{eqb}
 use Rattle.words.specs.Bytes.{bytes}
 use Rattle.words.specs.Spelling.{sameWord}
+use Rattle.text.specs.Runs.{part}
 use Rattle.text.specs.Tokens.{tokenAt}
 use Rattle.text.specs.declared.tokens.Word.{Word}
 use Rattle.text.specs.declared.tokens.Word.the-variants as W
@@ -15,10 +16,11 @@ use Rattle.text.specs.declared.tokens.Token.{Token}
 use Rattle.text.specs.declared.tokens.Token.the-variants as T
 use Rattle.grammar.specs.Read.{_>>=_, andThen, Read, Reader, got, refused, give, refuse}
 use Rattle.grammar.specs.Tables.{declared}
-use Rattle.grammar.specs.Due.{token, wrong, afterOf, onOpen, onWord, opening, closing, Name}
+use Rattle.grammar.specs.Due.{token, wrong, afterOf, onOpen, onWord, opening, closing, wordDue, Name}
 use Rattle.grammar.specs.Terms.{Scope, Ref, reference}
 use Rattle.grammar.specs.Domain.{Domain}
-use Rattle.grammar.specs.Problem.{indexOf, Init, isGiven, once, numberDue, withFact, withNumber, valueOf, initWord, initTo, sumsFit, sumsAt, dueWord, sectionDueOf, scopeOf, sameDomain, ofDomain, nothing, initAt, goalTo, initAndGoal, premises, problemText}
+use Rattle.grammar.specs.Problem.{Init, isGiven, once, numberDue, withFact, withNumber, valueOf, initWord, initTo, sumsFit, sumsAt, sectionDueOf, scopeOf, sameDomain, ofDomain, nothing, initAt, goalTo, initAndGoal, premises, problemText}
+use Rattle.grammar.specs.Indexes.{indexOf}
 use Rattle.places.specs.Lowest.{seen, nextOf, closed}
 use Rattle.places.proofs.Sight.{seen-later}
 use Rattle.places.proofs.Nearness.{Fits}
@@ -48,26 +50,18 @@ domain-held d x n = go (sameWord (x .word) (d .name))
 
 -- ---- a section that is due
 
-sums-refuse : {A : Type 0} {E : Edge} {F : ℕ → Type 0} {k : Word} {p e n : ℕ} (g : List ℕ → ℕ → Reader A) (b : Bool)
-    → Behind E (T.Word k p e) n F (λ v. _>>=_ (_>>=_ {A = ℕ} {B = ℕ} (cond b (give p) (refuse 12 p)) (λ i. refuse 3 p)) (g v))
-sums-refuse g true = refuses
-sums-refuse g false = refuses
-
-module _ {A : Type 0} {E : Edge} {F : ℕ → Type 0} (c : Scope) (w : List ℕ) (g : List ℕ → ℕ → Reader A)
+module _ {A : Type 0} {E : Edge} {F : ℕ → Type 0} (w : List ℕ) (g : List ℕ → ℕ → Reader A)
     (y : (k : Word) (p e : ℕ) → Behind E (T.Word k p e) e F (λ v. g v p)) where
-  due-word : (k : Word) (p e : ℕ) → Behind E (T.Word k p e) e F (λ v. _>>=_ (dueWord v c w p e) (g v))
+  due-word : (k : Word) (p e : ℕ) → Behind E (T.Word k p e) e F (λ v. _>>=_ (cond (sameWord (part v p e) w) (give p) (refuse 3 p)) (g v))
   due-word k p e =
-      worded
-      (λ v x. _>>=_ (cond (sameWord x w) (give p) (cond (sameWord x (bytes ":init") || sameWord x (bytes ":goal")) (_>>=_ (sumsAt c p) (λ i. refuse 3 p)) (refuse 3 p))) (g v))
-      (λ x. choose-then (λ v. give p) (λ v. cond (sameWord x (bytes ":init") || sameWord x (bytes ":goal")) (_>>=_ (sumsAt c p) (λ i. refuse 3 p)) (refuse 3 p)) g (sameWord x w)
-      (y k p e)
-      (choose-then (λ v. _>>=_ (sumsAt c p) (λ i. refuse 3 p)) (λ v. refuse 3 p) g (sameWord x (bytes ":init") || sameWord x (bytes ":goal")) (sums-refuse g (sumsFit c)) refuses))
+      worded (λ v x. _>>=_ (cond (sameWord x w) (give p) (refuse 3 p)) (g v)) (λ x. choose-then (λ v. give p) (λ v. refuse 3 p) g (sameWord x w) (y k p e) refuses)
 
-  due-inner : Local E (next E) F (λ v. _>>=_ (_>>=_ (token v) (λ t. onWord t (λ k p e. dueWord v c w p e) (wrong 14 t))) (g v))
-  due-inner = token-then (word-then 14 (λ v k p e. dueWord v c w p e) g due-word)
+  due-inner : Local E (next E) F (λ v. _>>=_ (wordDue v 14 w) (g v))
+  unfolding wordDue
+  due-inner = token-then (word-then 14 (λ v k p e. cond (sameWord (part v p e) w) (give p) (refuse 3 p)) g due-word)
 
   due-token : (t : Token) → Behind E t (afterOf t) F
-      (λ v. _>>=_ (_>>=_ (onOpen t (λ p. cond (eqb 15 0) (refuse {A = ℕ} 12 p) (give p)) (wrong 15 t)) (λ i. _>>=_ (token v) (λ t. onWord t (λ k p e. dueWord v c w p e) (wrong 14 t)))) (g v))
+      (λ v. _>>=_ (_>>=_ (onOpen t (λ p. cond (eqb 15 0) (refuse {A = ℕ} 12 p) (give p)) (wrong 15 t)) (λ i. wordDue v 14 w)) (g v))
   due-token (T.Word k p e) = refuses
   due-token (T.Number z p e) = refuses
   due-token (T.Open p n) = after due-inner
@@ -76,7 +70,7 @@ module _ {A : Type 0} {E : Edge} {F : ℕ → Type 0} (c : Scope) (w : List ℕ)
   due-token (T.Refusal k p) = refuses
   due-token (T.End p) = refuses
 
-  due-then : Local E (word E) F (λ v. _>>=_ (sectionDueOf v c w) (g v))
+  due-then : Local E (word E) F (λ v. _>>=_ (sectionDueOf v w) (g v))
   unfolding sectionDueOf opening
   due-then = second-then (λ p n. due-inner) due-token
 
@@ -196,14 +190,14 @@ module _ {E : Edge} (waiting : (p : ℕ) → closed (length (E .text) + 1) (E .t
   unfolding initAndGoal
   both-local =
       begins-then (bytes ":init") _
-      (λ k p e. follow (init-behind p) (λ x. due-then c (bytes ":goal") _ (λ l q f. after (then goal-local (λ g. gives {a = record { objects = c .objects; init = x; goal = g }})))))
-      (due-then c (bytes ":goal") _ (λ l q f. held (sumsAt c q) (sums-held c q) (λ i. after (then goal-local (λ g. gives {a = record { objects = c .objects; init = nothing; goal = g }})))))
+      (λ k p e. follow (init-behind p) (λ x. due-then (bytes ":goal") _ (λ l q f. after (then goal-local (λ g. gives {a = record { objects = c .objects; init = x; goal = g }})))))
+      (due-then (bytes ":goal") _ (λ l q f. held (sumsAt c q) (sums-held c q) (λ i. after (then goal-local (λ g. gives {a = record { objects = c .objects; init = nothing; goal = g }})))))
 
 -- ---- the whole
 
 of-domain : {E : Edge} (d : Domain) → Local E (word E) (Over E (next E)) (λ v. ofDomain v d)
 of-domain d =
-    due-then (scopeOf d (d .constants)) (bytes ":domain") _
+    due-then (bytes ":domain") _
     (λ k p e. after (name-then 14 (λ n e. held (sameDomain d n) (domain-held d n) (λ i. after (closing-local 14)))))
 
 premises-local : {E : Edge} (d : Domain) → Local E (next E) (Over E (word E)) (λ v. premises v d)

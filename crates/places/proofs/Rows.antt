@@ -97,7 +97,7 @@ bracket-behind {E} {F} p n = record { good = λ u r. go u r (decLe (seen (E .tex
 
 type-local : {E : Edge} (ts : Table) (b : ℕ) → Plain E (λ v. typeDue v ts b)
 unfolding typeDue
-type-local ts b = token-then (on-word (type-word ts b) (on-open bracket-behind (λ t. wrongs 1)))
+type-local ts b = token-then (on-word (type-word ts b) (on-open bracket-behind (λ t. wrongs 13)))
 
 group-local : {E : Edge} (own : Bool) (ts t : Table) (g : ℕ) → Plain E (λ v. group v own ts t g)
 unfolding group
@@ -121,7 +121,7 @@ module _ {A : Type 0} {E : Edge} {F : ℕ → Type 0} (var : Bool) (g : List ℕ
       worded (λ v w. _>>=_ (cond (sameWord w (bytes "-")) (give (dash p)) (refuse 3 p)) (g v))
       (λ w. choose-then (λ v. give (dash p)) (λ v. refuse 3 p) g (sameWord w (bytes "-")) (d W.Operator p e) refuses)
 
-  item-token : (t : Token) → Behind E t (afterOf t) F (λ v. _>>=_ (onClose t (λ p. give closes) (onWord t (itemOf v var) (wrong 1 t))) (g v))
+  item-token : (t : Token) → Behind E t (afterOf t) F (λ v. _>>=_ (onClose t (λ p. give closes) (onWord t (itemOf v var) (wrong 13 t))) (g v))
   item-token (T.Word k p e) = item-word k p e
   item-token (T.Number z p e) = refuses
   item-token (T.Open p n) = refuses
@@ -201,7 +201,7 @@ type-strict ts b = record { strict = λ s at n a h. go s at n a h (tokenAt s at)
     none p n m a (P.At q e) h = off h
     none p n m a P.Other h = off h
 
-    go : (s : List ℕ) (at n a : ℕ) → _>>=_ (token s) (λ t. onWord t (typeOfWord s ts b) (onOpen t (typeOfOther s) (wrong 1 t))) at ≡ got a n
+    go : (s : List ℕ) (at n a : ℕ) → _>>=_ (token s) (λ t. onWord t (typeOfWord s ts b) (onOpen t (typeOfOther s) (wrong 13 t))) at ≡ got a n
         → (t : Token) → tokenAt s at ≡ t → (nextOf s at < length s) × (nextOf s at < nextOf s n)
     go s at n a h (T.Word k p e) q = let r : n ≡ e = held-at (typeOfWord s ts b k p e e) (word-held s ts b k p e e) (rw q at h) in rw r (word-strict s at k p e q)
     go s at n a h (T.Number z p e) q = off (rw q at h)
@@ -267,25 +267,25 @@ types-local = lists-local false true [] 17 (entry (bytes "object") (0 ∷ []) �
 declaration-local : {E : Edge} (ts : Table) (max most : ℕ) (t : Table) → Plain E (λ v. declaration v ts max most t)
 unfolding declaration
 declaration-local ts max most t =
-    new-then 1 (λ n e. held (fresh max t (n .place) (n .word)) (fresh-held max t (n .place) (n .word)) (λ i. after (then (variables-local ts most) (λ vs. gives))))
+    new-then 13 (λ n e. held (fresh max t (n .place) (n .word)) (fresh-held max t (n .place) (n .word)) (λ i. after (then (variables-local ts most) (λ vs. gives))))
 
 steps-local : {E : Edge} (k : ℕ) (ts : Table) (max most : ℕ) (t : Table) → Plain E (λ v. declarations k v ts max most t)
 unfolding declarations
 steps-local zero ts max most t = never
 steps-local (suc k) ts max most t =
     peek-then (λ n. on-close
-    (λ p m. after (then (closing-local 1) (λ i. gives {a = t})))
-    (λ x. after (then (opening-local 1) (λ i. then (declaration-local ts max most t) (λ u. steps-local k ts max most u)))))
+    (λ p m. after (then (closing-local 14) (λ i. gives {a = t})))
+    (λ x. after (then (opening-local 14) (λ i. then (declaration-local ts max most t) (λ u. steps-local k ts max most u)))))
 
-declaration-strict : (ts : Table) (max most : ℕ) (t : Table) → Strict (λ v. _>>=_ (opening v 1) (λ i. declaration v ts max most t))
-declaration-strict ts max most t = opens-strict 1 (λ v i. declaration v ts max most t) (λ s q i. declaration-local ts max most t)
+declaration-strict : (ts : Table) (max most : ℕ) (t : Table) → Strict (λ v. _>>=_ (opening v 14) (λ i. declaration v ts max most t))
+declaration-strict ts max most t = opens-strict 14 (λ v i. declaration v ts max most t) (λ s q i. declaration-local ts max most t)
 
 declarations-suffice : (s : List ℕ) (ts : Table) (max most j k : ℕ) (t : Table) (at : ℕ) → Enough s j at → Enough s k at → declarations j s ts max most t at ≡ declarations k s ts max most t at
 unfolding declarations
 declarations-suffice s ts max most zero k t at ej ek = absurd (let y : ⊥ = omega arith in y)
 declarations-suffice s ts max most (suc j) zero t at ej ek = absurd (let y : ⊥ = omega arith in y)
 declarations-suffice s ts max most (suc j) (suc k) t at ej ek =
-    close-same (tokenAt s at) _ _ _ at (and-same (opening s 1 at) (λ p e h. and-same (declaration s ts max most t e) (λ u n i.
+    close-same (tokenAt s at) _ _ _ at (and-same (opening s 14 at) (λ p e h. and-same (declaration s ts max most t e) (λ u n i.
     let b : (nextOf s at < length s) × (nextOf s at < nextOf s n) = declaration-strict ts max most t .strict s at n u (rw h i) in
     declarations-suffice s ts max most j k u n (fewer ej b) (fewer ek b))))
 

@@ -18,7 +18,7 @@ use Rattle.text.specs.declared.tokens.Token.the-variants as T
 use Rattle.grammar.specs.Read.{_>>=_, Reader, give, refuse}
 use Rattle.grammar.specs.Tables.{Table, declared}
 use Rattle.grammar.specs.Due.{token, wrong, onWord, afterOf}
-use Rattle.grammar.specs.Terms.{Scope, Ref, Expr, minus, less, value, reference, Counted, counts, counted, leaf, operandsEnd, plusOf, minusOf, onName, operation, headed, inBracket, expr, expression}
+use Rattle.grammar.specs.Terms.{Scope, Ref, Expr, minus, difference, value, reference, Counted, counts, counted, leaf, operandsEnd, plusOf, minusOf, onName, operation, headed, inBracket, expr, expression}
 use Rattle.grammar.specs.Conditions.{Comparison, equal, less as below, atMost, more, atLeast, Cond, atom, none, cons, atomAt, comparison, sameObjects, equality, operated, negatedHead, inNegation, negation, listTo, conjunction, conditionHead, condition}
 use Rattle.grammar.specs.Effects.{Change, assign, raise, lower, Effect, becomes, becomesAt, target, changeAt, deletedWord, inDeletion, deletion, effectsTo, effectHead, effectWord, effect}
 use Rattle.places.specs.Lowest.{nextOf}
@@ -56,7 +56,7 @@ module _ {E : Edge} (d : ℕ) (c : Scope) {f : List ℕ → ℕ → Reader (Coun
   minus-local n =
       then (h n) (λ a. peek-then (λ m. on-close
       (λ p k. after (then (closing-local d) (λ i. gives {a = counts (minus (a .tree)) (a .left)})))
-      (λ t. after (then (h (a .left)) (λ b. then (operands-local d (b .left)) (λ i. gives {a = counts (less (a .tree) (b .tree)) (b .left)}))))))
+      (λ t. after (then (h (a .left)) (λ b. then (operands-local d (b .left)) (λ i. gives {a = counts (difference (a .tree) (b .tree)) (b .left)}))))))
 
   operation-behind : {k : Word} (n : ℕ) (x : Head) (p e : ℕ) → Behind E (T.Word k p e) e (Over E (next E)) (λ v. operation v d (f v) n x p)
   operation-behind n H.And p e = refuses

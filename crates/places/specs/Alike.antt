@@ -1,15 +1,14 @@
 -- Texts with the same tokens are read in the same way, whatever else they hold and however long they are.
 use mathlib.Core.Path.{_≡_}
 use mathlib.Core.List.{List}
-use Prim.Native.Nat.{ℕ, _+_, _<_}
+use Prim.Native.Nat.{ℕ, _+_}
 use lib.ListN.{getD}
 use Rattle.words.specs.Bytes.{bytes}
 use Rattle.text.specs.Runs.{part}
 use Rattle.text.specs.Tokens.{tokenAt, spotAt}
-use Rattle.grammar.specs.Read.{Read, got, refused}
 use Rattle.grammar.specs.Due.{placeOf, afterOf}
 use Rattle.grammar.specs.Domain.{Domain, readDomain}
-use Rattle.grammar.specs.Problem.{Problem, readProblem}
+use Rattle.grammar.specs.Problem.{readProblem}
 
 -- what is looked at of the first token at or after a place: the token, its bytes, those behind its mark, its first byte, and whether it is
 -- one of the two words that are asked for by name
@@ -21,13 +20,8 @@ pub record SameAt (s u : List ℕ) (at : ℕ) : Type 0 where
   pub either : spotAt s at (bytes "either") ≡ spotAt u at (bytes "either")
   pub duration : spotAt s at (bytes "?duration") ≡ spotAt u at (bytes "?duration")
 
--- 0 is no refusal: a loop whose steps ran out would give it. That no loop does is not said here
-abbrev pub Said : {A : Type 0} → Read A → Type 0
-Said (got a n) = Unit {0}
-Said (refused k p) = 0 < k
-
 abbrev pub AlikeInDomain : Type 0
-AlikeInDomain = (s u : List ℕ) → ((at : ℕ) → SameAt s u at) → (r : Read Domain) → Said r → readDomain s ≡ r → readDomain u ≡ r
+AlikeInDomain = (s u : List ℕ) → ((at : ℕ) → SameAt s u at) → readDomain s ≡ readDomain u
 
 abbrev pub AlikeInProblem : Type 0
-AlikeInProblem = (s u : List ℕ) (d : Domain) → ((at : ℕ) → SameAt s u at) → (r : Read Problem) → Said r → readProblem s d ≡ r → readProblem u d ≡ r
+AlikeInProblem = (s u : List ℕ) (d : Domain) → ((at : ℕ) → SameAt s u at) → readProblem s d ≡ readProblem u d

@@ -1,4 +1,4 @@
--- What the laws say, and how far the first reaches in short texts.
+-- What the laws say.
 pub mod Lowest
 pub mod Alike
-pub mod Examples
+pub mod Listed

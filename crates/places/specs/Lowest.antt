@@ -2,7 +2,7 @@
 use mathlib.Core.Path.{_≡_}
 use mathlib.Core.List.{List}
 use mathlib.Core.Bool.{cond, _&&_}
-use Prim.Native.Nat.{ℕ, zero, suc, _+_, _-_, _<_, max}
+use Prim.Native.Nat.{ℕ, zero, suc, _+_, _-_, max}
 use Prim.Native.Char.{code}
 use lib.ListN.{length, getD, take}
 use lib.Dec.{eqb}
@@ -39,12 +39,11 @@ unfoldable pub reachInProblem : List ℕ → ℕ → ℕ → ℕ
 reachInProblem s k p = cond (eqb k 7) (max (reach s k p) (closed (length s + 1) s (seen s p - 1))) (reach s k p)
 
 -- The law: of two texts, the first is refused by k at p, and the second has the same bytes as far as that refusal reaches. Then the second is
--- refused by k at p too, whatever stands behind, and however long it is. 0 is no refusal: a loop whose steps ran out would give it. That no loop
--- does is not said here.
+-- refused by k at p too, whatever stands behind, and however long it is.
 abbrev pub LowestInDomain : Type 0
-LowestInDomain = (s t : List ℕ) (k p : ℕ) → 0 < k → take (reach s k p) s ≡ take (reach s k p) t
+LowestInDomain = (s t : List ℕ) (k p : ℕ) → take (reach s k p) s ≡ take (reach s k p) t
     → readDomain s ≡ refused k p → readDomain t ≡ refused k p
 
 abbrev pub LowestInProblem : Type 0
-LowestInProblem = (s t : List ℕ) (d : Domain) (k p : ℕ) → 0 < k → take (reachInProblem s k p) s ≡ take (reachInProblem s k p) t
+LowestInProblem = (s t : List ℕ) (d : Domain) (k p : ℕ) → take (reachInProblem s k p) s ≡ take (reachInProblem s k p) t
     → readProblem s d ≡ refused k p → readProblem t d ≡ refused k p

@@ -1,8 +1,12 @@
--- The machine, fed in any parts, gives what the plan means as a whole; what is known of every line's step and refusal; steps in numbers and back.
+-- The machine, fed in any parts, gives what the plan means as a whole; what is known of every line's step and refusal; steps in numbers and back; and worked
+-- examples.
 pub mod Lists
 pub mod Drain
 pub mod Stream
 pub mod Text
+pub mod Judged
+pub mod Stopping
+pub mod Listed
 pub mod Given
 pub mod Tokens
 pub mod Walk
@@ -11,3 +15,4 @@ pub mod Places
 pub mod Rising
 pub mod Bounds
 pub mod Stored
+pub mod Examples

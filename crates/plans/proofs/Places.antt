@@ -1,5 +1,6 @@
--- A plan line's refusal: its place lies within the line and at most at 256, and its number is one of the plan's rows. Assumes nothing.
+-- A plan line's refusal: its place lies within the line and at most at 256, and its row is one of the table. Assumes nothing.
 use mathlib.Core.Path.{_≡_, refl}
+use mathlib.Core.Bool.{true}
 use mathlib.Core.List.{List}
 use mathlib.Core.Option.{Option, some, none}
 use Prim.Native.Nat.{ℕ, _+_, _≤_, _<_, min}
@@ -9,6 +10,8 @@ use Rattle.grammar.specs.Read.{Read, got, refused}
 use Rattle.plans.specs.Plan.{Step, refusal}
 use Rattle.plans.specs.Promised.{Act}
 use Rattle.plans.specs.Lines.{Known, Refused, refusedAt, lineAt, answerOf, longOf, reader}
+use Rattle.plans.specs.Listed.{listedRow}
+use Rattle.plans.proofs.Listed.{row-14}
 use Rattle.plans.proofs.Given.{given-refused}
 use Rattle.plans.proofs.Walk.{Placed, line-walk}
 
@@ -19,18 +22,15 @@ module _ (s : List ℕ) (k : Known) (n before at : ℕ) where
   pub line-places : at ≤ length s → (c p : ℕ) → lineAt s k n before at ≡ refused c p → p ≤ length s
   line-places h c p e = placed (length s) (omega arith) h c p e .0
 
-  pub line-numbers : (c p : ℕ) → lineAt s k n before at ≡ refused c p → (1 ≤ c) × (c ≤ 18)
-  line-numbers c p e = let h = placed (at + length s) (omega arith) (omega arith) c p e in (h .1, h .2)
-
 -- ---- what the reader of lines refuses
 
 -- a refusal of line n, of the bytes l: "only what ends before column 257 is judged"
 abbrev pub ReadRefusal : ℕ → List ℕ → Refused → Type 0
-ReadRefusal n l e = (e .line ≡ n) × (e .column ≤ min (length l) 256 + 1) × (1 ≤ e .number) × (e .number ≤ 18)
+ReadRefusal n l e = (e .line ≡ n) × (1 ≤ e .column) × (e .column ≤ min (length l) 256 + 1) × (listedRow (e .number) (e .column) ≡ true)
 
 module _ (k : Known) (n before : ℕ) (l : List ℕ) where
   refused-read : (c p : ℕ) → lineAt l k n before 0 ≡ refused c p → ReadRefusal n l (refusedAt c n p)
-  refused-read c p e = let h = placed l k n before 0 (min (length l) 256) (omega arith) (omega arith) c p e in (refl, omega (arith, h .0), h .1, h .2)
+  refused-read c p e = let h = placed l k n before 0 (min (length l) 256) (omega arith) (omega arith) c p e in (refl, omega arith, omega (arith, h .0), h .1)
 
   pub reads-places : (e : Refused) → reader k .line n before l ≡ refusal e → ReadRefusal n l e
   reads-places e h = go (lineAt l k n before 0) refl h
@@ -45,5 +45,5 @@ module _ (k : Known) (n before : ℕ) (l : List ℕ) where
   long-places h = go (lineAt l k n before 0) refl
     where
       go : (r : Read (Option (Step Act))) → lineAt l k n before 0 ≡ r → ReadRefusal n l (longOf n r)
-      go (got x a) q = (refl, omega arith, omega arith, omega arith)
+      go (got x a) q = (refl, omega arith, omega arith, row-14)
       go (refused c p) q = refused-read c p q

@@ -16,12 +16,12 @@ use Rattle.plans.specs.Feed.{Feed, reading, byte, feed, feeds, new, clos
 use Rattle.plans.proofs.Stream.{Rises, right, halts}
 
 -- the lines of a text whose first line has begun
-abbrev begun : List ℕ → List (List ℕ) → List (List ℕ)
+abbrev pub begun : List ℕ → List (List ℕ) → List (List ℕ)
 begun part [] = part ∷ []
 begun part (l ∷ ls) = (part ++ l) ∷ ls
 
 -- a text has a first line
-first : (bs : List ℕ) → (l : List ℕ) × (ls : List (List ℕ)) × (lines bs ≡ l ∷ ls)
+pub first : (bs : List ℕ) → (l : List ℕ) × (ls : List (List ℕ)) × (lines bs ≡ l ∷ ls)
 first [] = ([], [], refl)
 first (b ∷ bs) = go (eqb b 10) refl (first bs)
   where
@@ -37,10 +37,10 @@ module _ {S A W E : Type 0} (R : Rules S A W) (L : Limits A E) (D : Reader A E) 
   stuck e n part [] = refl
   stuck e n part (b ∷ bs) = stuck e n part bs
 
-  says-short : (n s : ℕ) (l : List ℕ) → length l ≤ D .width → says D n s l ≡ D .line n s l
+  pub says-short : (n s : ℕ) (l : List ℕ) → length l ≤ D .width → says D n s l ≡ D .line n s l
   says-short n s l h = rw (le-ltb (D .width) (length l) h)
 
-  says-long : (n s : ℕ) (part l : List ℕ) (b : ℕ) → length part ≡ D .width → says D n s (part ++ b ∷ l) ≡ refusal (D .long n s (part ++ b ∷ []))
+  pub says-long : (n s : ℕ) (part l : List ℕ) (b : ℕ) → length part ≡ D .width → says D n s (part ++ b ∷ l) ≡ refusal (D .long n s (part ++ b ∷ []))
   says-long n s part l b h =
       rw (
         lt-ltb (D .width) (length (part ++ b ∷ l)) (omega (arith, length-append part (b ∷ l))),
@@ -49,9 +49,9 @@ module _ {S A W E : Type 0} (R : Rules S A W) (L : Limits A E) (D : Reader A E) 
       )
 
   -- the line so far is no longer than the limit, and empty past the last line
-  record Ok (n : ℕ) (part : List ℕ) : Type 0 where
-    short : length part ≤ D .width
-    empty : D .most < n → part ≡ []
+  pub record Ok (n : ℕ) (part : List ℕ) : Type 0 where
+    pub short : length part ≤ D .width
+    pub empty : D .most < n → part ≡ []
 
   -- what is left of the definition at each kind of byte
   module _ (r : Run S W) (s : ℕ) (q : List (Point A)) (n : ℕ) where
@@ -82,7 +82,7 @@ module _ {S A W E : Type 0} (R : Rules S A W) (L : Limits A E) (D : Reader A E) 
     unfolding after-lines
     at-lf part b bs h e k = rw (e, first bs .2, append-nil, le-ltb (D .most) n h, says-short n s part k)
 
-    at-more : (part : List ℕ) (b : ℕ) (bs : List ℕ) → eqb b 10 ≡ false → begun part (lines (b ∷ bs)) ≡ begun (part ++ b ∷ []) (lines bs)
+    pub at-more : (part : List ℕ) (b : ℕ) (bs : List ℕ) → eqb b 10 ≡ false → begun part (lines (b ∷ bs)) ≡ begun (part ++ b ∷ []) (lines bs)
     at-more part b bs e = rw (e, first bs .2, append-snoc)
 
     at-full : (part : List ℕ) (b : ℕ) (bs : List ℕ) → n ≤ D .most → eqb b 10 ≡ false → length part ≡ D .width
@@ -92,11 +92,11 @@ module _ {S A W E : Type 0} (R : Rules S A W) (L : Limits A E) (D : Reader A E) 
         rw (e, first bs .2, le-ltb (D .most) n h, says-long n s part (first bs .0) b k) (halts R L (D .long n s (part ++ b ∷ [])) (answers D (suc n) s (first bs .1)))
 
   -- s is the start of the last step that the check has read
-  abbrev Last : Check S A W E → ℕ → Type 0
+  abbrev pub Last : Check S A W E → ℕ → Type 0
   Last (halted e) s = Unit
   Last (waits r u q) s = u ≡ s
 
-  take-last : (r : Run S W) (s : ℕ) (q : List (Point A)) (a : Answer A E) → Last (take R L (waits r s q) a) (startAfter s a)
+  pub take-last : (r : Run S W) (s : ℕ) (q : List (Point A)) (a : Answer A E) → Last (take R L (waits r s q) a) (startAfter s a)
   take-last r s q blank = refl
   take-last r s q (refusal e) = tt
   take-last r s q (step x) = go (ltb (L .waiting) (length (drain R (length q) (x .start) r q .1 ++ pointsOf x))) refl
@@ -138,11 +138,11 @@ module _ {S A W E : Type 0} (R : Rules S A W) (L : Limits A E) (D : Reader A E) 
           rw (at-full r s q n part b bs (ltb-false (D .most) n e₁) e₂ (omega arith), e₁, e₂, e₃) (stuck (D .long n s (part ++ b ∷ [])) n part bs)
 
   -- a text may be cut into parts anywhere
-  feed-append : (m : Feed S A W E) (p q : List ℕ) → feed R L D m (p ++ q) ≡ feed R L D (feed R L D m p) q
+  pub feed-append : (m : Feed S A W E) (p q : List ℕ) → feed R L D m (p ++ q) ≡ feed R L D (feed R L D m p) q
   feed-append m [] q = refl
   feed-append m (b ∷ p) q = feed-append (byte R L D m b) p q
 
-  feeds-joined : (m : Feed S A W E) (ps : List (List ℕ)) → feeds R L D m ps ≡ feed R L D m (joined ps)
+  pub feeds-joined : (m : Feed S A W E) (ps : List (List ℕ)) → feeds R L D m ps ≡ feed R L D m (joined ps)
   feeds-joined m [] = refl
   feeds-joined m (p ∷ ps) = feeds-joined (feed R L D m p) ps ∙ sym (feed-append m p (joined ps))
 
@@ -156,7 +156,7 @@ module _ {S A W E : Type 0} (R : Rules S A W) (L : Limits A E) (D : Reader A E) 
         go false true p q = let z : refusal (D .long n s (firsts (suc (D .width)) l)) ≡ step x = rw (p, q) at e in absurd (never (D .long n s (firsts (suc (D .width)) l)) x z)
         go false false p q = let z : D .line n s l ≡ step x = rw (p, q) at e in promise n s l x z
 
-    answers-rise : (ls : List (List ℕ)) (n s : ℕ) → Rises s (answers D n s ls)
+    pub answers-rise : (ls : List (List ℕ)) (n s : ℕ) → Rises s (answers D n s ls)
     answers-rise [] n s = tt
     answers-rise (l ∷ ls) n s = go (answer D n s l ls) (answer-rises n s l ls) (answers-rise ls (suc n))
       where

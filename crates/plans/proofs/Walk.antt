@@ -1,13 +1,15 @@
 -- What is known of every plan line, from one walk through its definition: of the step that it gives, and of its refusal. Assumes nothing.
 use mathlib.Core.Path.{_≡_, refl}
 use mathlib.Core.List.{List, [], _∷_}
+use mathlib.Core.Bool.{true}
 use mathlib.Core.Option.{Option, some, none}
-use Prim.Native.Nat.{ℕ, _≤_, _<_, min}
+use Prim.Native.Nat.{ℕ, _+_, _≤_, _<_, min}
 use native.Mathlib.Omega.{arith}
 use lib.Dec.{eqb, ltb}
 use lib.IntN.{natAbs}
 use lib.ListN.{length, length-map}
 use borrow.Author.Tests.{ltb-false, ne-eqb, eqb-false}
+use Rattle.words.specs.Bytes.{isOneOf}
 use Rattle.words.specs.declared.spelling.Found.{Found}
 use Rattle.words.specs.declared.spelling.Found.the-variants as F
 use Rattle.text.specs.Tokens.{planTokenAt}
@@ -24,6 +26,8 @@ use Rattle.plans.specs.Promised.{Act, actionOf, durationOf}
 use Rattle.plans.specs.Lines as L
 use Rattle.plans.specs.Lines.{Known, declarations, mark, opening, name, lineEnd, startAt, argument, fits, objectsTo, durationIn, bracketOf, endOf, spanOf, actAt, lineAt}
 use Rattle.plans.specs.Stored.{spanIn}
+use Rattle.plans.specs.Listed.{planRows, listedRow}
+use Rattle.plans.proofs.Listed.{row-of}
 use Rattle.plans.proofs.Given.{Given, reads, refuses, given-then, given-either, given-word, given-number, given-open, given-close, given-mark, given-end}
 use Rattle.plans.proofs.Tokens.{Told, token-told}
 
@@ -44,7 +48,7 @@ ReadLine s k n before (some x) = ReadStep s k n before x
 
 -- a refusal's number, and its place at or below m
 abbrev pub Placed : ℕ → ℕ → ℕ → Type 0
-Placed m c p = (p ≤ m) × (1 ≤ c) × (c ≤ 18)
+Placed m c p = (p ≤ m) × (listedRow c (p + 1) ≡ true)
 
 -- a span as it lies in a number
 record Timed (d : Span) : Type 0 where
@@ -65,12 +69,12 @@ module _ (s : List ℕ) (m : ℕ) (room : min (length s) 256 ≤ m) where
   told at h = token-told s m at room h
 
   -- row c at p
-  row : {A : Type 0} {P : A → ℕ → Type 0} {p : ℕ} (c : ℕ) → p ≤ m → 1 ≤ c → c ≤ 18 → Given P (Placed m) (refused c p)
-  row c h lo hi = refuses (h, lo, hi)
+  row : {A : Type 0} {P : A → ℕ → Type 0} {p : ℕ} (c : ℕ) → p ≤ m → isOneOf c planRows ≡ true → Given P (Placed m) (refused c p)
+  row {p = p} c h i = refuses (h, row-of c (p + 1) i)
 
   -- a token that may not stand here
   misplaced-walk : {A : Type 0} {P : A → ℕ → Type 0} {t : Token} → Told m t → Given P (Placed m) (refused (numberOf 1 t) (placeOf t))
-  misplaced-walk h = row _ (h .place) (h .least) (h .most)
+  misplaced-walk h = refuses (h .place, h .row)
 
   -- ---- what is due
 
@@ -79,7 +83,7 @@ module _ (s : List ℕ) (m : ℕ) (room : min (length s) 256 ≤ m) where
   mark-walk b at h =
       let t = told at h in
       given-mark (Told m) (planTokenAt s at) _ _ _ t
-      (λ c p e i. given-either (eqb c b) _ _ _ (λ _. reads (t .after)) (λ _. row 3 (i .place) (omega arith) (omega arith)))
+      (λ c p e i. given-either (eqb c b) _ _ _ (λ _. reads (t .after)) (λ _. row 3 (i .place) refl))
       (misplaced-walk t)
 
   opening-walk : (at : ℕ) → at ≤ m → Given (λ (p n : ℕ). n ≤ m) (Placed m) (opening s at)
@@ -100,7 +104,7 @@ module _ (s : List ℕ) (m : ℕ) (room : min (length s) 256 ≤ m) where
     where
       go : (f : Found) → lookup t w ≡ f → Given (λ (i n : ℕ). (i < length t) × (n ≤ m)) (Placed m) (onFound f (λ i. give i) (refuse 8 p) at)
       go (F.At j) e = reads (found-below t w j e, h)
-      go F.Nothing e = row 8 i (omega arith) (omega arith)
+      go F.Nothing e = row 8 i refl
 
   -- ---- the objects
 
@@ -113,16 +117,16 @@ module _ (s : List ℕ) (m : ℕ) (room : min (length s) 256 ≤ m) where
     fits-walk : (want : ℕ) (g : L.Given) (at : ℕ) → g .place ≤ m → at ≤ m → Given (λ (i n : ℕ). n ≤ m) (Placed m) (fits k want g at)
     unfolding fits
     fits-walk want g at i h =
-        given-either (isBelow (length (k .types)) (k .types) (typeOf (entryAt (k .objects) (g .object))) want) _ _ _ (λ _. reads h) (λ _. row 10 i (omega arith) (omega arith))
+        given-either (isBelow (length (k .types)) (k .types) (typeOf (entryAt (k .objects) (g .object))) want) _ _ _ (λ _. reads h) (λ _. row 10 i refl)
 
     objects-walk : (wants : List ℕ) (at : ℕ) → at ≤ m → Given (λ (os : List ℕ) n. n ≤ m) (Placed m) (objectsTo s k wants at)
     unfolding objectsTo
     objects-walk [] at h =
         let t = told at h in
         given-close (Told m) (planTokenAt s at) _ _ _ t (λ p e i. reads (t .after))
-        (given-then _ (argument-walk at h) (λ g n i. row 9 (i .0) (omega arith) (omega arith)))
+        (given-then _ (argument-walk at h) (λ g n i. row 9 (i .0) refl))
     objects-walk (want ∷ wants) at h =
-        given-close (Told m) (planTokenAt s at) _ _ _ (told at h) (λ p e i. row 9 (i .place) (omega arith) (omega arith))
+        given-close (Told m) (planTokenAt s at) _ _ _ (told at h) (λ p e i. row 9 (i .place) refl)
         (given-then _ (argument-walk at h)
         (λ g n i. given-then _ (fits-walk want g n (i .0) (i .1)) (λ o e j. given-then _ (objects-walk wants e j) (λ os l q. reads q))))
 
@@ -134,18 +138,18 @@ module _ (s : List ℕ) (m : ℕ) (room : min (length s) 256 ≤ m) where
       let t = told at h in
       given-then _
       (given-number {P = λ (d n : ℕ). Timed (lasting d) × (n ≤ m)} (Told m) (planTokenAt s at) _ _ _ t
-      (λ z p e i. given-either (eqb (natAbs z) 0) _ _ _ (λ _. row 17 (i .place) (omega arith) (omega arith))
+      (λ z p e i. given-either (eqb (natAbs z) 0) _ _ _ (λ _. row 17 (i .place) refl)
       (λ q. let u = eqb-false (natAbs z) 0 q in reads (lasting-timed (natAbs z) (omega (arith, u)) (i .small), t .after)))
       (misplaced-walk t))
       (λ d n i. given-then _ (mark-walk 93 n (i .1)) (λ a e j. given-then _ (end-walk e j) (λ b l q. reads (i .0, q))))
 
   bracket-walk : (l : Lasting) (b p at : ℕ) → p ≤ m → at ≤ m → Given (λ d n. Timed d × (n ≤ m)) (Placed m) (bracketOf s l b p at)
-  bracket-walk A.moment b p at i h = given-either (eqb b 91) _ _ _ (λ _. row 17 i (omega arith) (omega arith)) (λ _. row 3 i (omega arith) (omega arith))
-  bracket-walk (A.rule e) b p at i h = given-either (eqb b 91) _ _ _ (λ _. duration-walk at h) (λ _. row 3 i (omega arith) (omega arith))
+  bracket-walk A.moment b p at i h = given-either (eqb b 91) _ _ _ (λ _. row 17 i refl) (λ _. row 3 i refl)
+  bracket-walk (A.rule e) b p at i h = given-either (eqb b 91) _ _ _ (λ _. duration-walk at h) (λ _. row 3 i refl)
 
   bare-walk : (l : Lasting) (p at : ℕ) → p ≤ m → at ≤ m → Given (λ d n. Timed d × (n ≤ m)) (Placed m) (endOf l p at)
   bare-walk A.moment p at i h = reads (moment-timed, h)
-  bare-walk (A.rule e) p at i h = row 17 i (omega arith) (omega arith)
+  bare-walk (A.rule e) p at i h = row 17 i refl
 
   span-walk : (l : Lasting) (at : ℕ) → at ≤ m → Given (λ d n. Timed d × (n ≤ m)) (Placed m) (spanOf s l at)
   unfolding spanOf
@@ -161,7 +165,7 @@ module _ (s : List ℕ) (m : ℕ) (room : min (length s) 256 ≤ m) where
     unfolding startAt
     start-walk t at i h =
         given-number (Told m) t _ _ _ i
-        (λ z p e j. given-either (ltb (natAbs z) before) _ _ _ (λ _. row 16 (j .place) (omega arith) (omega arith)) (λ q. reads (ltb-false (natAbs z) before q, j .small, h)))
+        (λ z p e j. given-either (ltb (natAbs z) before) _ _ _ (λ _. row 16 (j .place) refl) (λ q. reads (ltb-false (natAbs z) before q, j .small, h)))
         (misplaced-walk i)
 
     act-walk : (z at : ℕ) → before ≤ z → z < 1000000000000 → at ≤ m → Given (λ x _. ReadStep s k n before x) (Placed m) (actAt s k n z at)

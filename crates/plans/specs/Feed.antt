@@ -7,14 +7,10 @@ use lib.ListN.{length}
 use Rattle.plans.specs.Plan.{Rules, Limits, Result, refused}
 use Rattle.plans.specs.Machine.{Check, waits, halted, fresh, take, finish}
 use Rattle.plans.specs.Text.{Reader}
+pub use Rattle.plans.specs.Text.{joined}
 
 pub data Feed (S A W E : Type 0) : Type 0 where
   reading : Check S A W E → ℕ → List ℕ → Feed S A W E
-
--- the parts as one text
-abbrev pub joined : List (List ℕ) → List ℕ
-joined [] = []
-joined (p ∷ ps) = p ++ joined ps
 
 module _ {S A W E : Type 0} (R : Rules S A W) (L : Limits A E) (D : Reader A E) where
   abbrev pub byte : Feed S A W E → ℕ → Feed S A W E

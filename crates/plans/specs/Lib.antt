@@ -1,4 +1,5 @@
--- What a plan means (Plan, Text, Lines, Promised, Examples), the machine that is fed it (Machine, Feed), and how steps lie in numbers (Stored).
+-- What a plan means (Plan, Text, Lines, Promised), the machine that is fed it (Machine, Feed), how steps lie in numbers (Stored), and the table of refusals
+-- (Listed).
 pub mod Lists
 pub mod Plan
 pub mod Machine
@@ -7,4 +8,4 @@ pub mod Feed
 pub mod Promised
 pub mod Lines
 pub mod Stored
-pub mod Examples
+pub mod Listed

@@ -11,7 +11,7 @@ use Rattle.text.specs.Runs.{part}
 use Rattle.text.specs.Tokens.{planTokenAt}
 use Rattle.text.specs.declared.tokens.Token.{Token}
 use Rattle.text.specs.declared.tokens.Token.the-variants as T
-use Rattle.rows.specs.Held.{padded}
+use Rattle.grammar.specs.Indexes.{padded}
 use Rattle.grammar.specs.Read.{_>>=_, Read, Reader, got, refused, give, refuse}
 use Rattle.grammar.specs.Tables.{Table, entryAt, typeOf, wantedOf, declared, isBelow}
 use Rattle.grammar.specs.Due.{afterOf, wrong, onWord, onNumber, onOpen, onClose, onEnd, Name}

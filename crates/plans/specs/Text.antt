@@ -1,7 +1,7 @@
 -- What a plan's text means, over the whole text at once: its lines, what each says, and what they come to.
 use Prim.Native.Nat.{ℕ, suc}
-use mathlib.Core.Bool.{Bool, true, false, cond, _&&_}
-use mathlib.Core.List.{List, [], _∷_}
+use mathlib.Core.Bool.{Bool, true, false, cond, _&&_, _||_}
+use mathlib.Core.List.{List, [], _∷_, _++_}
 use lib.Dec.{ltb, eqb}
 use lib.ListN.{length, take}
 use Rattle.plans.specs.Plan.{Rules, Limits, Answer, blank, step, refusal, Result, result}
@@ -13,6 +13,11 @@ pub record Reader (A E : Type 0) : Type 0 where
   pub line : ℕ → ℕ → List ℕ → Answer A E
   pub long : ℕ → ℕ → List ℕ → E
   pub beyond : ℕ → E
+
+-- parts as one text
+abbrev pub joined : List (List ℕ) → List ℕ
+joined [] = []
+joined (p ∷ ps) = p ++ joined ps
 
 abbrev pub onto : ℕ → List (List ℕ) → List (List ℕ)
 onto b [] = (b ∷ []) ∷ []
@@ -48,6 +53,13 @@ module _ {A E : Type 0} (D : Reader A E) where
   abbrev pub answers : ℕ → ℕ → List (List ℕ) → List (Answer A E)
   answers n s [] = []
   answers n s (l ∷ ls) = answer n s l ls ∷ answers (suc n) (startAfter s (answer n s l ls)) ls
+
+  -- "A line is judged when its LF, its byte at column 257 or the finish is met": of the lines from number n on of a text that may go on, the last one says
+  -- nothing before it is too long or has a byte past the last line that may be
+  abbrev pub judged : ℕ → List (List ℕ) → List (List ℕ)
+  judged n [] = []
+  judged n (l ∷ []) = cond (ltb (D .width) (length l) || ltb (D .most) n) l [] ∷ []
+  judged n (l ∷ m ∷ ls) = l ∷ judged (suc n) (m ∷ ls)
 
 module _ {S A W E : Type 0} (R : Rules S A W) (L : Limits A E) (D : Reader A E) where
   -- what a text comes to

@@ -10,7 +10,8 @@ use Rattle.text.specs.Runs.{part}
 use Rattle.grammar.specs.Read.{Read, got, refused}
 use Rattle.grammar.specs.Due.{Name}
 use Rattle.grammar.specs.Domain.{Vocabulary, headingOf, flagsSection, vocabulary, scopeIn}
-use Rattle.rows.specs.Held.{padded, rowsOf}
+use Rattle.rows.specs.Held.{rowsOf}
+use Rattle.grammar.specs.Indexes.{padded}
 use Rattle.rows.proofs.Rows.{length-rows, rows-long}
 use Rattle.rows.proofs.Parts.{part-before, part-behind, part-stored}
 use Rattle.terms.specs.Scoped.{Scoped}

@@ -11,7 +11,7 @@ use Rattle.grammar.specs.Read.{Read, got, refused}
 use Rattle.grammar.specs.Due.{Name, anyName, closing}
 use Rattle.grammar.specs.Lists.{namesTo}
 use Rattle.grammar.specs.Domain.{Domain, section, headingOf}
-use Rattle.grammar.specs.Problem.{scopeOf, sectionDueOf, ofDomain, premises}
+use Rattle.grammar.specs.Problem.{sectionDueOf, ofDomain, premises}
 use Rattle.due.specs.Answers.{answerOf, Ahead}
 use Rattle.due.specs.declared.Answer.{Answer}
 use Rattle.due.specs.declared.Answer.the-variants.{Done, Refused}
@@ -52,10 +52,10 @@ titled-end n a p e r q h = rw q at h
 -- ---- `(:domain NAME)`
 
 module _ (s : List ℕ) (d : Domain) (at : ℕ) where
-  pub of-undue : (k p : ℕ) → sectionDueOf s (scopeOf d (d .constants)) (bytes ":domain") at ≡ refused k p → ofDomain s d at ≡ refused k p
+  pub of-undue : (k p : ℕ) → sectionDueOf s (bytes ":domain") at ≡ refused k p → ofDomain s d at ≡ refused k p
   of-undue k p e = rw e
 
-  module _ (v a : ℕ) (q : sectionDueOf s (scopeOf d (d .constants)) (bytes ":domain") at ≡ got v a) where
+  module _ (v a : ℕ) (q : sectionDueOf s (bytes ":domain") at ≡ got v a) where
     pub of-unnamed : (k p : ℕ) → anyName s 14 a ≡ refused k p → ofDomain s d at ≡ refused k p
     of-unnamed k p e = rw (q, e)
 

@@ -5,15 +5,10 @@ use sections::Opened;
 use sections::Titled;
 use terms::scope::Counts;
 use text::runs;
-use text::tokens;
-use text::tokens::Token;
 use words::spelling;
 ghost use mathlib.Core.Path.{_≡_};
-ghost use mathlib.Core.Bool.{_||_};
 ghost use Prim.Native.Nat.{_≤_};
 ghost use lib.ListN.{length};
-ghost use Rattle.words.specs.Bytes.{bytes};
-ghost use Rattle.words.specs.Spelling.{sameWord};
 ghost use Rattle.grammar.specs.Terms.{Scope};
 ghost use Rattle.grammar.specs.Lists.{namesTo};
 ghost use Rattle.grammar.specs.Domain.{Domain, section};
@@ -45,46 +40,24 @@ pub fn sums_at(tables: &[u8], counts: Counts, from: usize, p: usize) -> Answer
     Answer::Refused(12, p)
 }
 
-// Whether a section's word is one at which the sums are judged.
-fn judges_sums(w: &[u8]) -> bool
-    ensures { λ r. ⌜ r ≡ (sameWord (now (w .entry)) (bytes ":init") || sameWord (now (w .entry)) (bytes ":goal")) ⌝ }
-{
-    if spelling::same_word(w, b":init") {
-        return true;
-    }
-    spelling::same_word(w, b":goal")
-}
-
-// The section w is due.
-pub fn section_due(text: &[u8], from: usize, tables: &[u8], counts: Counts, w: &[u8]) -> Answer
-    requires { ⌜ (from ≤ length (now text)) × Scopes (now tables) counts ⌝ }
-    ensures { λ r. ⌜ ((c : Scope) → Scoped (now (tables .entry)) counts c → r ≡ answerOf (sectionDueOf (now (text .entry)) c (now (w .entry)) from)) × Ahead (length (now (text .entry))) from r ⌝ }
+// The section w is due: its bracket, then its word.
+pub fn section_due(text: &[u8], from: usize, w: &[u8]) -> Answer
+    requires { ⌜ from ≤ length (now text) ⌝ }
+    ensures { λ r. ⌜ (r ≡ answerOf (sectionDueOf (now (text .entry)) (now (w .entry)) from)) × Ahead (length (now (text .entry))) from r ⌝ }
 {
     let a = due::opening(text, from, 15);
     let Answer::Done(inside, _) = a else {
         return a;
     };
-    let t = tokens::token_at(text, inside);
-    let Token::Word(_, p, e) = t else {
-        return due::refusal(t, 14);
-    };
-    if spelling::same_word(runs::part_of(text, p, e), w) {
-        return Answer::Done(e, p);
-    }
-    if judges_sums(runs::part_of(text, p, e)) {
-        if !sums_fit(tables, counts) {
-            return Answer::Refused(12, p);
-        }
-    }
-    Answer::Refused(3, p)
+    due::word_due(text, inside, 14, w)
 }
 
 // `(:domain NAME)`, NAME being that of the domain.
-pub fn of_domain(text: &[u8], from: usize, tables: &[u8], counts: Counts, name: &[u8]) -> Answer
-    requires { ⌜ (from ≤ length (now text)) × Scopes (now tables) counts ⌝ }
-    ensures { λ r. ⌜ ((d : Domain) → Scoped (now (tables .entry)) counts (scopeOf d (d .constants)) → now (name .entry) ≡ d .name → r ≡ answerOf (ofDomain (now (text .entry)) d from)) × Ahead (length (now (text .entry))) from r ⌝ }
+pub fn of_domain(text: &[u8], from: usize, name: &[u8]) -> Answer
+    requires { ⌜ from ≤ length (now text) ⌝ }
+    ensures { λ r. ⌜ ((d : Domain) → now (name .entry) ≡ d .name → r ≡ answerOf (ofDomain (now (text .entry)) d from)) × Ahead (length (now (text .entry))) from r ⌝ }
 {
-    let s = section_due(text, from, tables, counts, b":domain");
+    let s = section_due(text, from, b":domain");
     let Answer::Done(inside, _) = s else {
         return s;
     };
@@ -129,7 +102,7 @@ pub fn premises_at(text: &[u8], tables: &mut [u8], counts: Counts, name: &[u8]) 
     let h = sections::heading_at(text, 0, b"problem");
     match h {
         Titled::At(a, _, _) => {
-            let n = of_domain(text, a, tables, counts, name);
+            let n = of_domain(text, a, name);
             let Answer::Done(b, _) = n else {
                 return n;
             };

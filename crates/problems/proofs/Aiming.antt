@@ -57,11 +57,11 @@ module _ (n : ℕ) (c : Scope) (r : Answer) (goal goal′ : List ℕ) where
   aimed-by judged (refused k p) h f = h
 
 module _ (s : List ℕ) (c : Scope) (at : ℕ) (judged : Bool) (r : Answer) (goal goal′ : List ℕ) where
-  pub aimed-undue : (k p : ℕ) → sectionDueOf s c (bytes ":goal") at ≡ refused k p → r ≡ Refused k p → Aimed (length s) c judged r goal goal′ (goalFrom s c judged at)
+  pub aimed-undue : (k p : ℕ) → sectionDueOf s (bytes ":goal") at ≡ refused k p → r ≡ Refused k p → Aimed (length s) c judged r goal goal′ (goalFrom s c judged at)
   unfolding goalFrom Aimed
   aimed-undue k p e q = rw e q
 
-  module _ (v a : ℕ) (q : sectionDueOf s c (bytes ":goal") at ≡ got v a) where
+  module _ (v a : ℕ) (q : sectionDueOf s (bytes ":goal") at ≡ got v a) where
     pub aimed-judged : judged ≡ true → Reached (length s) r goal goal′ (goalTo s c a) → Aimed (length s) c judged r goal goal′ (goalFrom s c judged at)
     unfolding goalFrom
     aimed-judged j h = rw (q, j) (aimed-by (length s) c r goal goal′ true (goalTo s c a) h (λ z. never-true (sym z)))

@@ -29,10 +29,10 @@ module _ (s : List ℕ) (c : Scope) where
   problemOf x g = record { objects = c .objects; init = x; goal = g }
 
   goal-parts : (x : Init) (o : Opened) (at : ℕ)
-      → andThen (sectionDueOf s c (bytes ":goal") at) (λ q b. andThen (onOpened o (λ p. give q) (sumsAt c q) b) (λ _ e. andThen (goalTo s c e) (λ g. give (problemOf x g))))
+      → andThen (sectionDueOf s (bytes ":goal") at) (λ q b. andThen (onOpened o (λ p. give q) (sumsAt c q) b) (λ _ e. andThen (goalTo s c e) (λ g. give (problemOf x g))))
       ≡ andThen (goalFrom s c (onOpened o (λ p. true) false) at) (λ g. give (problemOf x g))
   unfolding goalFrom
-  goal-parts x o at = go o (sectionDueOf s c (bytes ":goal") at)
+  goal-parts x o at = go o (sectionDueOf s (bytes ":goal") at)
     where
       on : (y : Read ℕ) → andThen y (λ _ e. andThen (goalTo s c e) (λ g. give (problemOf x g))) ≡ andThen (andThen y (λ _. goalTo s c)) (λ g. give (problemOf x g))
       on (got v e) = refl
@@ -51,13 +51,13 @@ module _ (s : List ℕ) (c : Scope) where
   parts at = go (beginsWith s (bytes ":init") at)
     where
       on : (o : Opened) (y : Read Init)
-          → andThen y (λ x b. andThen (sectionDueOf s c (bytes ":goal") b) (λ q d. andThen (onOpened o (λ p. give q) (sumsAt c q) d) (λ _ e. andThen (goalTo s c e) (λ g. give (problemOf x g)))))
+          → andThen y (λ x b. andThen (sectionDueOf s (bytes ":goal") b) (λ q d. andThen (onOpened o (λ p. give q) (sumsAt c q) d) (λ _ e. andThen (goalTo s c e) (λ g. give (problemOf x g)))))
           ≡ andThen (andThen y (λ x. give (starting (onOpened o (λ p. true) false) x))) (λ x b. andThen (goalFrom s c (x .judged) b) (λ g. give (problemOf (x .init) g)))
       on o (got x b) = goal-parts x o b
       on o (refused k p) = refl
 
       go : (y : Read Opened)
-          → andThen y (λ o n. andThen (onOpened o (λ p. initAt s c p) (give nothing) n) (λ x b. andThen (sectionDueOf s c (bytes ":goal") b) (λ q d. andThen (onOpened o (λ p. give q) (sumsAt c q) d) (λ _ e. andThen (goalTo s c e) (λ g. give (problemOf x g))))))
+          → andThen y (λ o n. andThen (onOpened o (λ p. initAt s c p) (give nothing) n) (λ x b. andThen (sectionDueOf s (bytes ":goal") b) (λ q d. andThen (onOpened o (λ p. give q) (sumsAt c q) d) (λ _ e. andThen (goalTo s c e) (λ g. give (problemOf x g))))))
           ≡ andThen (andThen y (λ o n. andThen (onOpened o (λ p. initAt s c p) (give nothing) n) (λ x. give (starting (onOpened o (λ p. true) false) x)))) (λ x b. andThen (goalFrom s c (x .judged) b) (λ g. give (problemOf (x .init) g)))
       go (got o n) = on o (onOpened o (λ p. initAt s c p) (give nothing) n)
       go (refused k p) = refl

@@ -16,7 +16,8 @@ use Rattle.due.specs.Answers.{answerOf}
 use Rattle.due.specs.declared.Answer.{Answer}
 use Rattle.due.specs.declared.Answer.the-variants.{Done, Refused}
 use Rattle.due.proofs.Dues.{answer-refused, never-done}
-use Rattle.init.specs.State.{noFacts, noNumbers, factsFrom, numbersFrom, firstFacts, firstNumbers, Begins}
+use Rattle.init.specs.State.{Begins}
+use Rattle.grammar.specs.First.{noFacts, noNumbers, factsFrom, numbersFrom, firstFacts, firstNumbers}
 use Rattle.problems.specs.Parts.{Start, starting, startAt, Started}
 
 pub never-true : {A : Type 0} → false ≡ true → A

@@ -14,7 +14,7 @@ use Rattle.grammar.specs.Problem.{Init, nothing, initAt, sumsFit, sumsAt, secti
 use Rattle.due.specs.declared.Answer.{Answer}
 use Rattle.due.specs.declared.Answer.the-variants.{Done, Refused}
 use Rattle.codes.specs.Cells.{condCells}
-use Rattle.init.specs.State.{firstFacts, firstNumbers}
+use Rattle.grammar.specs.First.{firstFacts, firstNumbers}
 
 -- whether there is init, at whose word the sums are judged, and what it says
 pub record Start : Type 0 where
@@ -33,7 +33,7 @@ startAt s c = do
 -- the goal; its word is where the sums are judged, if they were not
 unfoldable pub goalFrom : List ℕ → Scope → Bool → Reader Cond
 goalFrom s c judged = do
-  q ← sectionDue s c ":goal"
+  q ← sectionDue s ":goal"
   _ ← cond judged (give q) (sumsAt c q)
   goalTo s c
 

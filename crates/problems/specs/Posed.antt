@@ -15,7 +15,7 @@ use Rattle.terms.specs.Scoped.{Scoped}
 use Rattle.terms.specs.declared.scope.Counts.{Counts}
 use Rattle.codes.specs.Cells.{condCells}
 use Rattle.premises.specs.Grounded.{withObjects}
-use Rattle.init.specs.State.{firstFacts, firstNumbers}
+use Rattle.grammar.specs.First.{firstFacts, firstNumbers}
 
 -- the problem p was read, to the place n
 pub record Poses (s : List ℕ) (d : Domain) (counts : Counts) (r : Answer) (tables′ : List ℕ) (facts′ : List ℕ) (numbers′ : List ℤ) (was goal′ : List ℕ) (p : Problem) (n : ℕ) : Type 0 where

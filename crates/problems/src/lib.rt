@@ -14,7 +14,7 @@ ghost use Rattle.grammar.specs.Domain.{Domain};
 ghost use Rattle.grammar.specs.Problem.{goalTo, scopeOf, readProblem};
 ghost use Rattle.vocabulary.specs.Onwards.{Onwards};
 ghost use Rattle.terms.specs.Scoped.{Scoped, Scopes};
-ghost use Rattle.init.specs.State.{noFacts, noNumbers};
+ghost use Rattle.grammar.specs.First.{noFacts, noNumbers};
 ghost use Rattle.problems.specs.Parts.{startAt, goalFrom, restOf, Started, Reached, Aimed, Settled};
 ghost use Rattle.problems.specs.Posed.{Posed};
 
@@ -75,7 +75,7 @@ fn goal_at(
     requires { ⌜ (0 < from) × (from ≤ length (now text)) × Scopes (now tables) counts ⌝ }
     ensures { λ r. ⌜ ((c : Scope) → Scoped (now (tables .entry)) counts c → Aimed (length (now (text .entry))) c judged r (now (goal .entry)) (now (goal .exit)) (goalFrom (now (text .entry)) c judged from)) ⌝ }
 {
-    let s = premises::section_due(text, from, tables, counts, b":goal");
+    let s = premises::section_due(text, from, b":goal");
     let Answer::Done(inside, p) = s else {
         return s;
     };

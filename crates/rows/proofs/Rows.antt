@@ -11,7 +11,8 @@ use lib.Seq.{sets, drop-cons, drop-at, getD-at, set-at, take-at, drop-append-add
 use Rattle.words.specs.Names as Names
 use Rattle.words.specs.Spelling.{placeFrom}
 use Rattle.grammar.specs.Tables.{Entry, entry, nameOf, infoOf, typeOf, withType, Table, lookup, retype}
-use Rattle.rows.specs.Held.{byteAt, padded, rowOf, rowsOf, Short, Holds}
+use Rattle.rows.specs.Held.{byteAt, rowOf, rowsOf, Short, Holds}
+use Rattle.grammar.specs.Indexes.{padded}
 
 -- ---- a byte past the end is 0 by either reading
 

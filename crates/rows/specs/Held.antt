@@ -6,16 +6,11 @@ use mathlib.Core.Bool.{cond}
 use lib.ListN.{length, getD}
 use lib.Dec.{ltb}
 use Rattle.grammar.specs.Tables.{Entry, entry, nameOf, infoOf, Table}
+use Rattle.grammar.specs.Indexes.{padded}
 
 -- past the end a byte is 0
 unfoldable pub byteAt : List ℕ → ℕ → ℕ
 byteAt rows i = cond (ltb i (length rows)) (getD rows i 0) 0
-
--- a name, or numbers, and zeros: m bytes
-unfoldable pub padded : ℕ → List ℕ → List ℕ
-padded zero w = []
-padded (suc m) [] = 0 ∷ padded m []
-padded (suc m) (b ∷ bs) = b ∷ padded m bs
 
 -- 38 bytes: the name's length, 5 for the numbers, 32 for the name
 abbrev pub rowOf : Entry → List ℕ

@@ -1,7 +1,7 @@
 -- A row written behind those that lie there: four numbers and four objects. Assumes nothing.
 use Prim.Native.Nat.{ℕ, _+_, _*_, _≤_, _<_}
 use mathlib.Core.List.{List, [], _∷_, _++_}
-use mathlib.Core.Path.{_≡_, sym, _∙_}
+use mathlib.Core.Path.{_≡_, refl, sym, _∙_}
 use native.Mathlib.Omega.{arith}
 use lib.ListN.{length, getD, set, length-set}
 use lib.Seq.{getD-set-same, getD-set-other}
@@ -71,9 +71,9 @@ module _ (os : List ℕ) (j a b c d : ℕ) where
   byte-below k h = byte-is os k ∙ sym (byte-is (four os (4 * j) a b c d) k ∙ four-below os (4 * j) a b c d k h)
 
   who-below : (k : ℕ) → k < j → whoIn (four os (4 * j) a b c d) k ≡ whoIn os k
-  unfolding whoIn
   who-below k h =
       sym (who-of (four os (4 * j) a b c d) k (byte-below (4 * k) (omega arith)) (byte-below (4 * k + 1) (omega arith)) (byte-below (4 * k + 2) (omega arith)) (byte-below (4 * k + 3) (omega arith)))
+      ∙ who-of os k refl refl refl refl
 
 -- ---- a row, written as number j
 

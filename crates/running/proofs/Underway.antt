@@ -1,20 +1,18 @@
 -- The points and steps that rows of sound slots give are those of the slots. Assumes nothing.
-use Prim.Native.Nat.{ℕ, _+_, _*_, _≤_, _<_}
+use Prim.Native.Nat.{ℕ, suc, _+_, _-_, _*_, _≤_, _<_}
 use mathlib.Core.Bool.{Bool, true, false, _&&_}
 use mathlib.Core.List.{List, [], _∷_, map}
 use mathlib.Core.Path.{_≡_, refl, sym, ap, _∙_}
 use native.Mathlib.Omega.{arith}
 use lib.Dec.{eqb, ltb}
 use lib.ListN.{length, take, getD, length-map}
-use Rattle.grammar.specs.Tables.{Table, entryAt}
-use Rattle.grammar.specs.Actions.{start, end, Action}
-use Rattle.rows.specs.Held.{byteAt}
-use Rattle.codes.specs.Decode.{whenOf, actionFrom, actionAt, actionsAt}
-use Rattle.codes.proofs.Actions.{numbered}
-use Rattle.happenings.specs.Happening as H
+use Rattle.grammar.specs.Tables.{Table}
+use Rattle.grammar.specs.Actions.{Action}
+use Rattle.codes.specs.Decode.{actionsAt}
 use Rattle.points.specs.Placed as Code
-use Rattle.instants.specs.Given.{whoIn, startIn, placedIn, pointsIn, stepsIn}
-use Rattle.instants.proofs.Places.{start-there}
+use Rattle.instants.specs.Given.{whoIn, placedIn, pointsIn, stepsIn}
+use Rattle.instants.proofs.Places.{points-end, points-step, steps-end, steps-step}
+use Rattle.instants.proofs.Rows as Given
 use Rattle.words.proofs.Ranges.{both-0, both-1}
 use Rattle.plans.specs.Lists.{keep}
 use Rattle.plans.specs.Plan.{time, at}
@@ -29,7 +27,6 @@ use Rattle.waiting.specs.Waiting.{soundStep, soundAll}
 use Rattle.waiting.specs.Lent.{whenIn}
 use Rattle.waiting.proofs.Soundness.{sound-action, sound-keep}
 use Rattle.running.specs.Laid.{whoOf, Laid}
-use Rattle.rows.proofs.Rows.{byte-is}
 use Rattle.running.proofs.Laying.{rowAt, Laying}
 
 -- ---- which slots
@@ -84,31 +81,21 @@ module _ (code starts : List ℕ) (es : Table) (few : length es ≤ 32) where
   abbrev actions : List Action
   actions = actionsAt code starts 0 es
 
-  part-is : (action part : ℕ) → action < length es → startIn starts action part ≡ byteAt starts (3 * action + part)
-  part-is action part h = sym (start-there starts action part (omega arith) (byte-is starts (3 * action + part)))
-
-  first-part : (action : ℕ) → action < length es → startIn starts action 0 ≡ byteAt starts (3 * action)
-  first-part action h = let z : 3 * action + 0 ≡ 3 * action = omega arith in part-is action 0 h ∙ ap (byteAt starts) z
-
-  action-is : (i : ℕ) → i < length es → getD actions i none-such ≡ actionAt code starts i (entryAt es i)
-  action-is i h = let z : 0 + i ≡ i = omega arith in rw z at (numbered es code starts 0 i none-such (omega arith))
-
   module _ (rows objects : List ℕ) where
     row-step : (x : Step) (j : ℕ) → x .action < length es → getD rows (4 * j) 0 ≡ x .line → getD rows (4 * j + 1) 0 ≡ x .action
         → getD rows (4 * j + 3) 0 ≡ x .duration → whoIn objects j ≡ whoOf x
         → Code.stepIn code (placedIn starts rows objects j) ≡ stepFor actions (stepIn x)
-    unfolding placedIn stepIn actionAt actionFrom
-    row-step x j h el ea ed ew =
-        rw (el, ea, ed, ew, first-part (x .action) h, part-is (x .action) 1 h, part-is (x .action) 2 h, duration-back (x .duration), action-is (x .action) h)
+    unfolding stepIn
+    row-step x j h el ea ed ew = rw (duration-back (x .duration)) (Given.row-step code starts es few rows objects j none-such h el ea ed ew)
 
     row-point : (s : Slot) (j : ℕ) → getD rows (4 * j + 2) 0 ≡ pointWhen s → Code.stepIn code (placedIn starts rows objects j) ≡ stepFor actions (stepIn (s .step))
         → Code.pointIn code (placedIn starts rows objects j) ≡ pointFor actions (pointIn s)
-    unfolding placedIn pointIn whenOf
+    unfolding pointIn
     row-point s j et ex = go (s .ends) refl
       where
         go : (b : Bool) → s .ends ≡ b → Code.pointIn code (placedIn starts rows objects j) ≡ pointFor actions (pointIn s)
-        go true e = rw (et, e) (ap (λ (x : H.Step). record { step = x; when = end }) ex)
-        go false e = rw (et, e) (ap (λ (x : H.Step). record { step = x; when = start }) ex)
+        go true e = rw e (Given.row-end code starts es few rows objects j ex (rw e at et))
+        go false e = rw e (Given.row-start code starts es few rows objects j ex (rw e at et))
 
     -- ---- rows from number j on
 
@@ -123,17 +110,33 @@ module _ (code starts : List ℕ) (es : Table) (few : length es ≤ 32) where
           let a = sound-action (length es) (s .step) (both-0 (soundStep (length es) (s .step)) (soundAll (length es) ss) h) in
           row-step (s .step) j a (r .0) (r .1) (r .3) (r .4)
 
+    first-points : (n j : ℕ)
+        → pointsIn code starts rows objects (suc n) j ≡ Code.pointIn code (placedIn starts rows objects j) ∷ pointsIn code starts rows objects n (j + 1)
+    first-points n j =
+        let a : j + suc n - j ≡ suc n = omega arith in
+        let b : j + suc n - (j + 1) ≡ n = omega arith in
+        rw (a, b) at (points-step code starts rows objects (j + suc n) j (omega arith) refl)
+
+    first-steps : (n j : ℕ) → stepsIn code starts rows objects (suc n) j ≡ Code.stepIn code (placedIn starts rows objects j) ∷ stepsIn code starts rows objects n (j + 1)
+    first-steps n j =
+        let a : j + suc n - j ≡ suc n = omega arith in
+        let b : j + suc n - (j + 1) ≡ n = omega arith in
+        rw (a, b) at (steps-step code starts rows objects (j + suc n) j (omega arith) refl)
+
     laid-points : (ss : List Slot) (j : ℕ) → soundAll (length es) ss ≡ true → Laid rows objects j (map (rowAt pointWhen) ss)
         → pointsIn code starts rows objects (length ss) j ≡ map (pointFor actions) (map pointIn ss)
-    unfolding Laid pointsIn
-    laid-points [] j h r = refl
-    laid-points (s ∷ ss) j h r = rw (row-point s j (r .2) (first-step s ss h pointWhen j r), laid-points ss (j + 1) (rest-sound s ss h) (r .5))
+    unfolding Laid
+    laid-points [] j h r = let z : j - j ≡ 0 = omega arith in rw z at (points-end code starts rows objects j j (omega arith))
+    laid-points (s ∷ ss) j h r =
+        first-points (length ss) j
+        ∙ (λ i. row-point s j (r .2) (first-step s ss h pointWhen j r) i ∷ laid-points ss (j + 1) (rest-sound s ss h) (r .5) i)
 
     laid-steps : (ss : List Slot) (j : ℕ) → soundAll (length es) ss ≡ true → Laid rows objects j (map (rowAt endWhen) ss)
         → stepsIn code starts rows objects (length ss) j ≡ map (stepFor actions) (map stepOf ss)
-    unfolding Laid stepsIn
-    laid-steps [] j h r = refl
-    laid-steps (s ∷ ss) j h r = rw (first-step s ss h endWhen j r, laid-steps ss (j + 1) (rest-sound s ss h) (r .5))
+    unfolding Laid
+    laid-steps [] j h r = let z : j - j ≡ 0 = omega arith in rw z at (steps-end code starts rows objects j j (omega arith))
+    laid-steps (s ∷ ss) j h r =
+        first-steps (length ss) j ∙ (λ i. first-step s ss h endWhen j r i ∷ laid-steps ss (j + 1) (rest-sound s ss h) (r .5) i)
 
   -- ---- when all slots are gone through
 

@@ -1,6 +1,5 @@
 // What frames the sections of domain and problem: their first words, the end of the text, and the requirement flags.
 use due::Answer;
-use text::runs;
 use text::tokens;
 use text::tokens::Token;
 use text::tokens::Word;
@@ -34,7 +33,7 @@ pub fn begins_at(text: &[u8], from: usize, w: &[u8]) -> Opened
     let Token::Word(_, p, e) = u else {
         return Opened::Other;
     };
-    if spelling::same_word(runs::part_of(text, p, e), w) {
+    if spelling::same_word(tokens::word_of(text, u), w) {
         return Opened::At(p, e);
     }
     Opened::Other
@@ -134,7 +133,7 @@ fn flag_of(text: &[u8], t: Token) -> Answer
     let Word::Keyword = kind else {
         return Answer::Refused(3, p);
     };
-    if fixed::is_flag(runs::part_of(text, p, e)) {
+    if fixed::is_flag(tokens::word_of(text, t)) {
         return Answer::Done(e, p);
     }
     Answer::Refused(11, p)

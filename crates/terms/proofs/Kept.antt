@@ -15,7 +15,8 @@ use Rattle.words.specs.Spelling.{sameWord, placeFrom}
 use Rattle.words.specs.declared.spelling.Found.the-variants.{At}
 use Rattle.text.specs.Runs.{part}
 use Rattle.grammar.specs.Tables.{entry, nameOf, infoOf, Table, entryAt, typeOf, lookup, isBelow}
-use Rattle.rows.specs.Held.{byteAt, padded, rowOf, Holds}
+use Rattle.rows.specs.Held.{byteAt, rowOf, Holds}
+use Rattle.grammar.specs.Indexes.{padded}
 use Rattle.terms.specs.Raw.{keptIn, belowIn}
 use Rattle.rows.proofs.Rows.{length-padded, length-rows, row}
 

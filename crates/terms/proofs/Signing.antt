@@ -102,7 +102,7 @@ module _ (s : List ℕ) (ts : Table) (max most : ℕ) (few : most ≤ 4) where
   declaration-signed : (t : Table) (at : ℕ) (u : Table) (n : ℕ) → AllSigned t → declaration s ts max most t at ≡ got u n → AllSigned u
   unfolding declaration variablesTo
   declaration-signed t at u n h q =
-      let a = then-got (newName s 1 at) _ u n q in
+      let a = then-got (newName s 13 at) _ u n q in
       let b = then-got (fresh max t (a .value .place) (a .value .word) (a .place)) _ u n (a .second) in
       let c = then-got (variablesTo s ts most (b .place)) (λ vs. give (t ++ signature (a .value .word) vs ∷ [])) u n (b .second) in
       let e : t ++ signature (a .value .word) (c .value) ∷ [] ≡ u = let r = c .second in cc in
@@ -112,20 +112,20 @@ module _ (s : List ℕ) (ts : Table) (max most : ℕ) (few : most ≤ 4) where
   -- one more declaration, or the end, where the rest is signed
   rest-signed : (x : Token) (k : ℕ) (t : Table) (at : ℕ) (u : Table) (n : ℕ) → AllSigned t
       → ((y : Table) (a : ℕ) → AllSigned y → declarations k s ts max most y a ≡ got u n → AllSigned u)
-      → onClose {A = Reader Table} x (λ p b. andThen (closing s 1 b) (λ _. give t)) (λ b. andThen (opening s 1 b) (λ _ c. andThen (declaration s ts max most t c) (λ y. declarations k s ts max most y))) at ≡ got u n
+      → onClose {A = Reader Table} x (λ p b. andThen (closing s 14 b) (λ _. give t)) (λ b. andThen (opening s 14 b) (λ _ c. andThen (declaration s ts max most t c) (λ y. declarations k s ts max most y))) at ≡ got u n
       → AllSigned u
   rest-signed x k t at u n h f q = go x q
     where
-      closed : andThen (closing s 1 at) (λ _. give t) ≡ got u n → AllSigned u
-      closed r = let c = then-got (closing s 1 at) (λ _. give t) u n r in let e : t ≡ u = let v = c .second in cc in rw e at h
+      closed : andThen (closing s 14 at) (λ _. give t) ≡ got u n → AllSigned u
+      closed r = let c = then-got (closing s 14 at) (λ _. give t) u n r in let e : t ≡ u = let v = c .second in cc in rw e at h
 
-      more : andThen (opening s 1 at) (λ _ b. andThen (declaration s ts max most t b) (λ y. declarations k s ts max most y)) ≡ got u n → AllSigned u
+      more : andThen (opening s 14 at) (λ _ b. andThen (declaration s ts max most t b) (λ y. declarations k s ts max most y)) ≡ got u n → AllSigned u
       more r =
-          let o = then-got (opening s 1 at) _ u n r in
+          let o = then-got (opening s 14 at) _ u n r in
           let d = then-got (declaration s ts max most t (o .place)) (λ y. declarations k s ts max most y) u n (o .second) in
           f (d .value) (d .place) (declaration-signed t (o .place) (d .value) (d .place) h (d .first)) (d .second)
 
-      go : (x : Token) → onClose {A = Reader Table} x (λ p b. andThen (closing s 1 b) (λ _. give t)) (λ b. andThen (opening s 1 b) (λ _ c. andThen (declaration s ts max most t c) (λ y. declarations k s ts max most y))) at ≡ got u n → AllSigned u
+      go : (x : Token) → onClose {A = Reader Table} x (λ p b. andThen (closing s 14 b) (λ _. give t)) (λ b. andThen (opening s 14 b) (λ _ c. andThen (declaration s ts max most t c) (λ y. declarations k s ts max most y))) at ≡ got u n → AllSigned u
       go (T.Word j p e) r = more r
       go (T.Number z p e) r = more r
       go (T.Open p e) r = more r

@@ -10,6 +10,7 @@ use words::spelling::Found;
 ghost use mathlib.Core.Path.{_≡_};
 ghost use Prim.Native.Nat.{ℕ, _+_, _-_, _≤_, _<_};
 ghost use lib.ListN.{length};
+ghost use mathlib.Core.List.{List};
 ghost use Rattle.text.specs.Runs.{part};
 ghost use Rattle.text.specs.declared.tokens.Word.the-variants as W;
 ghost use Rattle.due.specs.Answers.{Ahead};
@@ -19,13 +20,13 @@ ghost use Rattle.rows.specs.Held.{Holds};
 ghost use Rattle.terms.specs.Scoped.{Scoped, Scopes, AllSigned, Signatures};
 ghost use Rattle.terms.specs.Cells.{cellAnswer, typeOfCell, argCells, Wrote, Cellular, Room};
 
-// An object's name from p to e: its cell.
-fn object_at(text: &[u8], p: usize, e: usize, tables: &[u8], counts: Counts) -> Answer
+// An object's name w, which stands from p to e: its cell.
+fn object_at(w: &[u8], p: usize, e: usize, tables: &[u8], counts: Counts) -> Answer
     requires { ⌜ Scopes (now tables) counts ⌝ }
-    ensures { λ r. ⌜ ((c : Scope) → Scoped (now (tables .entry)) counts c → r ≡ cellAnswer (givenBy (now (text .entry)) c W.Name p e e)) × Cellular r ⌝ }
+    ensures { λ r. ⌜ ((s : List ℕ) (c : Scope) → now (w .entry) ≡ part s p e → Scoped (now (tables .entry)) counts c → r ≡ cellAnswer (givenBy s c W.Name p e e)) × Cellular r ⌝ }
 {
     let n = counts.objects;
-    let f = scope::find_in(tables, 646, 3078, n, runs::part_of(text, p, e));
+    let f = scope::find_in(tables, 646, 3078, n, w);
     let Found::At(i) = f else {
         return Answer::Refused(8, p);
     };
@@ -59,7 +60,7 @@ pub fn argument_at(text: &[u8], from: usize, d: usize, tables: &[u8], counts: Co
         return due::refusal(t, d);
     };
     match k {
-        Word::Name => object_at(text, p, e, tables, counts),
+        Word::Name => object_at(tokens::word_of(text, t), p, e, tables, counts),
         Word::Variable => variable_at(text, p, e, tables, counts),
         Word::Keyword => Answer::Refused(3, p),
         Word::Operator => Answer::Refused(3, p),

@@ -3,4 +3,3 @@ pub mod Runs
 pub mod Numbers
 pub mod Classes
 pub mod Tokens
-pub mod Examples

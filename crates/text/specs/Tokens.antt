@@ -1,6 +1,6 @@
 -- "Each token read is a word, a number, a bracket or a refusal." Document 01, "Bytes and words".
 use Prim.Native.Nat.{ℕ, _+_, _-_}
-use mathlib.Core.List.{List}
+use mathlib.Core.List.{List, []}
 use mathlib.Core.Bool.{Bool, false, cond, _||_}
 use Prim.Native.Char.{code}
 use lib.ListN.{length, getD}
@@ -33,6 +33,16 @@ asToken Malformed p e = T.Refusal 6 p
 
 unfoldable pub numberToken : List ℕ → ℕ → ℕ → Token
 numberToken w p e = asToken (numberOf w) p e
+
+-- "A name is handed back as the part of the caller's text": the word that a token of s is; of any other token no byte
+unfoldable pub wordOf : List ℕ → Token → List ℕ
+wordOf s (T.Word k p e) = part s p e
+wordOf s (T.Number z p e) = []
+wordOf s (T.Open p n) = []
+wordOf s (T.Close p n) = []
+wordOf s (T.Mark b p n) = []
+wordOf s (T.Refusal k p) = []
+wordOf s (T.End p) = []
 
 -- ---- domain and problem
 

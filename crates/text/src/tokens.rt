@@ -11,7 +11,7 @@ use words::spelling;
 ghost use mathlib.Core.Path.{_≡_};
 ghost use lib.ListN.{length};
 ghost use Prim.Native.Nat.{_<_};
-ghost use Rattle.text.specs.Tokens.{sizedOf, numberToken, isPast, bracketOf, domainWord, tokenAt, spotAt, judgedOf, strangeOf, planNumber, planWord, squareOf, planTokenAt};
+ghost use Rattle.text.specs.Tokens.{sizedOf, numberToken, isPast, bracketOf, domainWord, wordOf, tokenAt, spotAt, judgedOf, strangeOf, planNumber, planWord, squareOf, planTokenAt};
 
 pub enum Word {
     Name,
@@ -30,6 +30,16 @@ pub enum Token {
     Mark(u8, usize, usize),
     Refusal(u8, usize),
     End(usize),
+}
+
+// The word that was read, as the part of the caller's text, with no copy; of any other token no byte.
+pub fn word_of(text: &[u8], t: Token) -> &[u8]
+    ensures { λ r. ⌜ now r ≡ wordOf (now (text .entry)) t ⌝ }
+{
+    let Token::Word(_, p, e) = t else {
+        return &text[..0];
+    };
+    runs::part_of(text, p, e)
 }
 
 // A word whose name has at most 32 bytes: `most` counts the mark too.

@@ -1,13 +1,14 @@
 -- The tests of steps 2 and 3 find what the definitions forbid. Assumes nothing.
 use mathlib.Core.Bool.{Bool, true, false, cond, not, _&&_, _||_, true≢false, false≢true}
 use mathlib.Core.List.{List, [], _∷_}
-use mathlib.Core.Path.{_≡_, refl, sym, ap, subst}
+use mathlib.Core.Path.{_≡_, refl, sym, ap, subst, _∙_}
 use Prim.Native.Nat.{ℕ}
 use lib.Dec.{eqb}
 use borrow.Author.Tests.{eqb-true, eq-eqb}
-use Rattle.happenings.specs.State.{Grounds}
-use Rattle.happenings.specs.Writes.{some, undo, collide, against, itself}
-use Rattle.happenings.specs.Happening.{Point, lineOf, marks, apart, reads, interfere, clear, pairs}
+use Rattle.grammar.specs.Effects.{Effect, becomes, changes}
+use Rattle.happenings.specs.State.{Grounds, numberOf}
+use Rattle.happenings.specs.Writes.{some, markOf, marksOf, undo, collide, against, itself}
+use Rattle.happenings.specs.Happening.{Point, lineOf, objectsOf, effectsOf, marks, apart, reads, interfere, clear, pairs}
 use Rattle.happenings.specs.declared.Mark.{Mark}
 use Rattle.happenings.specs.declared.Mark.the-variants.{Nothing, Fact, Number}
 use Rattle.happenings.specs.declared.Outcome.the-variants.{Itself, Conflict}
@@ -15,19 +16,26 @@ use Rattle.plans.proofs.Lists.{all-map}
 use Rattle.validity.specs.Lists.{Pairwise, FirstPair, _∈_}
 use Rattle.validity.specs.Happens.{Additive, Consistent, Unmoved, NonInterfering}
 use Rattle.validity.specs.Failing.{Inconsistent, Interfering}
-use Rattle.validity.proofs.Lists.{or-left, or-right, neither, all-in, in-all, none-in, all-none}
+use Rattle.validity.proofs.Lists.{or-left, or-right, neither, all-in, in-all, all-mapped, mapped-all, none-in, all-none}
 use Rattle.validity.proofs.Deciding.{Decides, always, by-test, then, each-decides}
+use Rattle.validity.proofs.Marking.{assigns, not-assign, assigns-not, number-mark, makes-mark, changes-mark, mark-makes, mark-changes}
+use Rattle.validity.proofs.Finding.{unfound, absent}
+use Rattle.validity.proofs.Reading.{reads-fact, reads-number}
 
 -- ---- two effects
 
-collide-additive : (m k : Mark) → collide m k ≡ false → Additive m k
+-- if both write one number, neither assigns it
+abbrev Add-up : Mark → Mark → Type 0
+Add-up m k = (a b : Bool) (x : ℕ) → m ≡ Number a x → k ≡ Number b x → (a ≡ false) × (b ≡ false)
+
+collide-additive : (m k : Mark) → collide m k ≡ false → Add-up m k
 unfolding collide
 collide-additive m k e a b x p q =
     let f : (eqb x x && (a || b)) ≡ false = rw (p, q) at e in
     let h : (a || b) ≡ false = rw (eq-eqb x x refl) at f in
     (or-left a b h, or-right a b h)
 
-additive-collide : (m k : Mark) → Additive m k → collide m k ≡ false
+additive-collide : (m k : Mark) → Add-up m k → collide m k ≡ false
 unfolding collide
 additive-collide Nothing k h = refl
 additive-collide (Fact a x) k h = refl
@@ -69,21 +77,48 @@ agree-undo (Fact a x) (Fact b y) h = go (eqb x y) refl
 
 -- ---- step 2
 
-consistent-itself : (ms : List Mark) → Pairwise Additive ms → itself ms ≡ false
-unfolding itself
-consistent-itself [] h = refl
-consistent-itself (m ∷ ms) h = neither (all-none (collide m) ms (all-map (additive-collide m) ms (h .0))) (consistent-itself ms (h .1))
+module _ (g : Grounds) (os : List ℕ) where
+  collide-effects : (d e : Effect) → collide (markOf g os d) (markOf g os e) ≡ false → Additive g os d e
+  collide-effects (becomes yes′ r) e c = tt
+  collide-effects (changes h r a) (becomes yes′ q) c = tt
+  collide-effects (changes h r a) (changes k q b) c = λ e.
+      let n = collide-additive (markOf g os (changes h r a)) (markOf g os (changes k q b)) c (assigns h) (assigns k) (numberOf g os r)
+      (number-mark g os h r a) (number-mark g os k q b ∙ ap (Number (assigns k)) (sym e)) in
+      (not-assign h (n .0), not-assign k (n .1))
 
-itself-consistent : (ms : List Mark) → itself ms ≡ false → Pairwise Additive ms
-unfolding itself
-itself-consistent [] e = tt
-itself-consistent (m ∷ ms) e =
-    let a = some (collide m) ms in
-    (all-map (collide-additive m) ms (none-in (collide m) ms (or-left a (itself ms) e)), itself-consistent ms (or-right a (itself ms) e))
+  effects-collide : (d e : Effect) → Additive g os d e → collide (markOf g os d) (markOf g os e) ≡ false
+  unfolding collide markOf
+  effects-collide (becomes yes′ r) e t = refl
+  effects-collide (changes h r a) (becomes yes′ q) t = rw (number-mark g os h r a)
+  effects-collide (changes h r a) (changes k q b) t = rw (number-mark g os h r a, number-mark g os k q b) (go (eqb (numberOf g os r) (numberOf g os q)) refl)
+    where
+      go : (c : Bool) → eqb (numberOf g os r) (numberOf g os q) ≡ c → (c && (assigns h || assigns k)) ≡ false
+      go true e = let n = t (eqb-true (numberOf g os r) (numberOf g os q) e) in neither (assigns-not h (n .0)) (assigns-not k (n .1))
+      go false e = refl
+
+  consistent-itself : (es : List Effect) → Pairwise (Additive g os) es → itself (marksOf g os es) ≡ false
+  unfolding itself
+  consistent-itself [] h = refl
+  consistent-itself (e ∷ es) h =
+      neither
+      (all-none (collide (markOf g os e)) (marksOf g os es)
+      (all-mapped (λ (m : Mark). collide (markOf g os e) m ≡ false) (markOf g os) es (all-map (effects-collide e) es (h .0))))
+      (consistent-itself es (h .1))
+
+  itself-consistent : (es : List Effect) → itself (marksOf g os es) ≡ false → Pairwise (Additive g os) es
+  unfolding itself
+  itself-consistent [] e = tt
+  itself-consistent (d ∷ es) e =
+      let ms = marksOf g os es in
+      let a = some (collide (markOf g os d)) ms in (
+        all-map (collide-effects d) es
+            (mapped-all (λ (m : Mark). collide (markOf g os d) m ≡ false) (markOf g os) es (none-in (collide (markOf g os d)) ms (or-left a (itself ms) e))),
+        itself-consistent es (or-right a (itself ms) e),
+      )
 
 pub apart-decides : (g : Grounds) (p : Point) → Decides (Consistent g p) (Inconsistent g p) (apart g p)
 unfolding apart
-apart-decides g p = by-test (itself (marks g p)) (Itself (lineOf p)) refl (itself-consistent (marks g p)) (consistent-itself (marks g p))
+apart-decides g p = by-test (itself (marks g p)) (Itself (lineOf p)) refl (itself-consistent g (objectsOf p) (effectsOf p)) (consistent-itself g (objectsOf p) (effectsOf p))
 
 -- ---- step 3
 
@@ -94,14 +129,17 @@ module _ (g : Grounds) (p q : Point) where
     where
       go : (m : Mark) → m ∈ marks g q → reads g p m ≡ false
       go Nothing i = refl
-      go (Fact a x) i = u .facts a x i
-      go (Number a x) i = u .numbers a x i
+      go (Fact a x) i = unfound (reads-fact g p x) (u .facts a x (mark-makes g q a x i))
+      go (Number a x) i = let c = mark-changes g q a x i in unfound (reads-number g p x) (u .numbers (c .how) x (c .it))
 
   reads-unmoved : some (reads g p) (marks g q) ≡ false → Unmoved g p q
   unfolding reads
   reads-unmoved e =
       let h = all-in (λ m. reads g p m ≡ false) (marks g q) (none-in (reads g p) (marks g q) e) in
-      record { facts = λ a x i. h (Fact a x) i; numbers = λ a x i. h (Number a x) i }
+      record {
+        facts = λ a x m. absent (reads-fact g p x) (h (Fact a x) (makes-mark g q a x m));
+        numbers = λ how x c. absent (reads-number g p x) (h (Number (assigns how) x) (changes-mark g q how x c));
+      }
 
 abbrev meet : List Mark → List Mark → Bool
 meet ms ks = some (λ m. some (against m) ks) ms
@@ -145,7 +183,14 @@ module _ (g : Grounds) (p q : Point) where
   unfolding interfere
   non-interfering h =
       neither (neither (unmoved-reads g p q (h .first-reads)) (unmoved-reads g q p (h .second-reads)))
-      (together-meet (marks g p) (marks g q) (h .facts) (h .numbers))
+      (together-meet (marks g p) (marks g q) (λ a b x i j. h .facts a b x (mark-makes g p a x i) (mark-makes g q b x j)) add)
+    where
+      add : Add (marks g p) (marks g q)
+      add a b x i j =
+          let c = mark-changes g p a x i in
+          let d = mark-changes g q b x j in
+          let n = h .numbers (c .how) (d .how) x (c .it) (d .it) in
+          (sym (c .same) ∙ assigns-not (c .how) (n .0), sym (d .same) ∙ assigns-not (d .how) (n .1))
 
   no-interference : interfere g p q ≡ false → NonInterfering g p q
   unfolding interfere
@@ -157,8 +202,10 @@ module _ (g : Grounds) (p q : Point) where
       record {
         first-reads = reads-unmoved g p q (or-left a b (or-left (a || b) c e));
         second-reads = reads-unmoved g q p (or-right a b (or-left (a || b) c e));
-        facts = meet-agree (marks g p) (marks g q) f;
-        numbers = meet-add (marks g p) (marks g q) f;
+        facts = λ m n x i j. meet-agree (marks g p) (marks g q) f m n x (makes-mark g p m x i) (makes-mark g q n x j);
+        numbers = λ h k x i j.
+            let n = meet-add (marks g p) (marks g q) f (assigns h) (assigns k) x (changes-mark g p h x i) (changes-mark g q k x j) in
+            (not-assign h (n .0), not-assign k (n .1));
       }
 
   clear-decides : Decides (NonInterfering g p q) (Interfering g p q) (clear g p q)

@@ -34,22 +34,26 @@ pub retold : {P Q : Type 0} {F G : Outcome → Type 0} {o : Outcome} → (P → 
 retold {o = o} a b f h d =
     record { right = λ e. a (d .right e); done = λ q. d .done (b q); wrong = λ e. f o (d .wrong e); only = λ w x. d .only w (h w x) }
 
+-- a failure with its name
+pub named : {P : Type 0} {w : Outcome} → isDone w ≡ false → ¬ P → Decides P (λ v. v ≡ w) w
+named {P} {w} f n = record { right = λ e. is-not e f; done = λ p. absurd (n p); wrong = λ e. refl; only = λ v e. (sym e, ap isDone e ∙ f) }
+
 -- what is always so
 pub always : Decides Unit (λ w. ⊥) Done
 always = record { right = λ e. tt; done = λ _. refl; wrong = λ e. absurd (true≢false e); only = λ w x. absurd x }
 
+-- what is so, and what is not
+pub holds : {P : Type 0} {word : Outcome} → P → Decides P (λ w. ¬ P × (w ≡ word)) Done
+holds p = record { right = λ e. p; done = λ _. refl; wrong = λ e. absurd (true≢false e); only = λ w x. absurd (x .0 p) }
+
+pub fails : {P : Type 0} {word : Outcome} → isDone word ≡ false → ¬ P → Decides P (λ w. ¬ P × (w ≡ word)) word
+fails f n = record { right = λ e. is-not e f; done = λ p. absurd (n p); wrong = λ e. (n, refl); only = λ w x. (sym (x .1), ap isDone (x .1) ∙ f) }
+
 -- a test
 pub by-test : {P : Type 0} (b : Bool) (word : Outcome) → isDone word ≡ false → (b ≡ false → P) → (P → b ≡ false)
     → Decides P (λ w. ¬ P × (w ≡ word)) (cond b word Done)
-by-test {P} true word f a h =
-    record {
-      right = λ e. is-not e f;
-      done = λ p. absurd (true≢false (h p));
-      wrong = λ e. ((λ p. true≢false (h p)), refl);
-      only = λ w x. (sym (x .1), ap isDone (x .1) ∙ f);
-    }
-by-test {P} false word f a h =
-    record { right = λ e. a refl; done = λ p. refl; wrong = λ e. absurd (true≢false e); only = λ w x. absurd (x .0 (a refl)) }
+by-test true word f a h = fails f (λ p. true≢false (h p))
+by-test false word f a h = holds (a refl)
 
 -- one after the other
 pub then : {P Q : Type 0} {F G : Outcome → Type 0} {o n : Outcome} → Decides P F o → Decides Q G n

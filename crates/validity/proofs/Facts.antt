@@ -16,21 +16,7 @@ use Rattle.happenings.specs.declared.Mark.{Mark}
 use Rattle.happenings.specs.declared.Mark.the-variants.{Nothing, Fact, Number}
 use Rattle.validity.specs.Lists.{_∈_}
 use Rattle.validity.specs.Happens.{factAt, NewFact}
-
-abbrev indexOf : Mark → ℕ
-indexOf Nothing = 0
-indexOf (Fact a x) = x
-indexOf (Number a x) = x
-
-abbrev adds : Mark → Bool
-adds Nothing = false
-adds (Fact a x) = a
-adds (Number a x) = false
-
-abbrev isFact : Mark → Bool
-isFact Nothing = false
-isFact (Fact a x) = true
-isFact (Number a x) = false
+use Rattle.validity.proofs.Marking.{indexOf, adds, isFact, all-makes, makes-all}
 
 same-fact? : (b : Bool) (x : ℕ) (m : Mark) → (Fact b x ≡ m) ⊎ (¬ (Fact b x ≡ m))
 same-fact? b x Nothing = inr (λ e. true≢false (ap isFact e))
@@ -127,28 +113,33 @@ module _ (g : Grounds) (ps : List Point) where
   length-facts fs = pass-length with-puts (eachMark without fs (allMarks g ps)) (allMarks g ps) ∙ pass-length without-puts fs (allMarks g ps)
 
   pub new-facts : (s : State) (ns : List ℤ) (x : ℕ) → x < length (s .facts)
-      → NewFact s (record { facts = newFacts g (s .facts) ps; numbers = ns }) (allMarks g ps) x
+      → NewFact g s ps (record { facts = newFacts g (s .facts) ps; numbers = ns }) x
   new-facts s ns x h =
       let ms = allMarks g ps in
       let fs = eachMark without (s .facts) ms in
       record {
-        added = λ i. pass-hit with-puts x fs ms (subst (λ (n : ℕ). x < n) (sym (pass-length without-puts (s .facts) ms)) h) i;
-        deleted = λ n i. pass-kept with-puts x fs ms n ∙ pass-hit without-puts x (s .facts) ms h i;
-        kept = λ n k. pass-kept with-puts x fs ms n ∙ pass-kept without-puts x (s .facts) ms k;
+        added = λ i. pass-hit with-puts x fs ms (subst (λ (n : ℕ). x < n) (sym (pass-length without-puts (s .facts) ms)) h) (makes-all g true x ps i);
+        deleted = λ n i. pass-kept with-puts x fs ms (λ j. n (all-makes g true x ps j)) ∙ pass-hit without-puts x (s .facts) ms h (makes-all g false x ps i);
+        kept = λ n k. pass-kept with-puts x fs ms (λ j. n (all-makes g true x ps j)) ∙ pass-kept without-puts x (s .facts) ms (λ j. k (all-makes g false x ps j));
       }
 
-one-fact : (x : ℕ) (s t u : State) (ms : List Mark) → NewFact s t ms x → NewFact s u ms x → factAt t x ≡ factAt u x
-one-fact x s t u ms a b = go (in? true x ms) (in? false x ms)
+one-fact : (g : Grounds) (ps : List Point) (x : ℕ) (s t u : State) → NewFact g s ps t x → NewFact g s ps u x → factAt t x ≡ factAt u x
+one-fact g ps x s t u a b = go (in? true x (allMarks g ps)) (in? false x (allMarks g ps))
   where
-    go : (Fact true x ∈ ms) ⊎ (¬ (Fact true x ∈ ms)) → (Fact false x ∈ ms) ⊎ (¬ (Fact false x ∈ ms)) → factAt t x ≡ factAt u x
-    go (inl i) d = a .added i ∙ sym (b .added i)
-    go (inr n) (inl i) = a .deleted n i ∙ sym (b .deleted n i)
-    go (inr n) (inr k) = a .kept n k ∙ sym (b .kept n k)
+    go : (Fact true x ∈ allMarks g ps) ⊎ (¬ (Fact true x ∈ allMarks g ps)) → (Fact false x ∈ allMarks g ps) ⊎ (¬ (Fact false x ∈ allMarks g ps))
+        → factAt t x ≡ factAt u x
+    go (inl i) d = let m = all-makes g true x ps i in a .added m ∙ sym (b .added m)
+    go (inr n) (inl i) =
+        let m = all-makes g false x ps i in
+        a .deleted (λ h. n (makes-all g true x ps h)) m ∙ sym (b .deleted (λ h. n (makes-all g true x ps h)) m)
+    go (inr n) (inr k) =
+        a .kept (λ h. n (makes-all g true x ps h)) (λ h. k (makes-all g false x ps h))
+        ∙ sym (b .kept (λ h. n (makes-all g true x ps h)) (λ h. k (makes-all g false x ps h)))
 
 module _ (g : Grounds) (ps : List Point) where
-  pub only-facts : (s t : State) → length (t .facts) ≡ length (s .facts) → ((x : ℕ) → x < length (s .facts) → NewFact s t (allMarks g ps) x)
+  pub only-facts : (s t : State) → length (t .facts) ≡ length (s .facts) → ((x : ℕ) → x < length (s .facts) → NewFact g s ps t x)
       → t .facts ≡ newFacts g (s .facts) ps
   only-facts s t e n =
       ext-getD 0 (t .facts) (newFacts g (s .facts) ps) (e ∙ sym (length-facts g ps (s .facts)))
       (λ x h. let k : x < length (s .facts) = omega (arith, h, e) in
-      one-fact x s t (record { facts = newFacts g (s .facts) ps; numbers = t .numbers }) (allMarks g ps) (n x k) (new-facts g ps s (t .numbers) x k))
+      one-fact g ps x s t (record { facts = newFacts g (s .facts) ps; numbers = t .numbers }) (n x k) (new-facts g ps s (t .numbers) x k))

@@ -4,7 +4,9 @@ use mathlib.Core.Bool.{Bool, true, false, not, true≢false}
 use mathlib.Core.List.{List}
 use mathlib.Core.Logic.{_⊎_, inl, inr}
 use mathlib.Core.Path.{_≡_, refl, sym, ap, subst, _∙_}
+use Prim.Native.Nat.{ℕ, _<_}
 use lib.IntN.{ℤ}
+use lib.ListN.{length}
 use borrow.Author.Tests.{not-false}
 use Rattle.happenings.specs.State.{State, Grounds, inside, numberAt}
 use Rattle.happenings.specs.Writes.{some}
@@ -14,13 +16,14 @@ use Rattle.happenings.specs.declared.Mark.the-variants.{Nothing, Fact, Number}
 use Rattle.happenings.specs.declared.Outcome.{Outcome}
 use Rattle.happenings.specs.declared.Outcome.the-variants.{Done, Range}
 use Rattle.validity.specs.Lists.{All, Pairwise, First, FirstPair, _∈_}
-use Rattle.validity.specs.Happens.{Applicable, Consistent, NonInterfering, Evaluable, Executable, allWritten, Result, Within}
+use Rattle.validity.specs.Happens.{Applicable, Consistent, NonInterfering, Evaluable, Executable, NewNumber, Written, Result, Within}
 use Rattle.validity.specs.Failing.{Inapplicable, Inconsistent, Interfering, FirstUnmade, Outside, Fails, inapplicable, inconsistent, interfering, unmade, outside}
 use Rattle.validity.proofs.Lists.{all-in, in-all, none-in, all-none}
 use Rattle.validity.proofs.Deciding.{Decides, is-done, is-not, by-test, then, each-decides, retold}
+use Rattle.validity.proofs.Marking.{assigns, changes-mark, mark-changes}
 use Rattle.validity.proofs.Steps.{tested-decides}
 use Rattle.validity.proofs.Apart.{apart-decides, pairs-decide}
-use Rattle.validity.proofs.Made.{puts, Makes, evaluatedBy, evaluation-decides, makes-points}
+use Rattle.validity.proofs.Made.{allWritten, only-all-written, is-all-written, puts, Makes, evaluatedBy, evaluation-decides, makes-points}
 use Rattle.validity.proofs.Numbers.{length-puts, new-numbers, only-numbers}
 use Rattle.validity.proofs.Facts.{length-facts, new-facts, only-facts}
 
@@ -29,9 +32,10 @@ use Rattle.validity.proofs.Facts.{length-facts, new-facts, only-facts}
 module _ (g : Grounds) (t : State) (p : Point) where
   stays-within : some (leaves (t .numbers)) (marks g p) ≡ false → Within g t p
   unfolding leaves
-  stays-within e a x i =
+  stays-within e how x c =
       not-false (inside (numberAt (t .numbers) x))
-      (all-in (λ m. leaves (t .numbers) m ≡ false) (marks g p) (none-in (leaves (t .numbers)) (marks g p) e) (Number a x) i)
+      (all-in (λ m. leaves (t .numbers) m ≡ false) (marks g p) (none-in (leaves (t .numbers)) (marks g p) e) (Number (assigns how) x)
+      (changes-mark g p how x c))
 
   within-stays : Within g t p → some (leaves (t .numbers)) (marks g p) ≡ false
   unfolding leaves
@@ -40,7 +44,7 @@ module _ (g : Grounds) (t : State) (p : Point) where
       go : (m : Mark) → m ∈ marks g p → leaves (t .numbers) m ≡ false
       go Nothing i = refl
       go (Fact a x) i = refl
-      go (Number a x) i = ap not (h a x i)
+      go (Number a x) i = let c = mark-changes g p a x i in ap not (h (c .how) x (c .it))
 
   stays-decides : Decides (Within g t p) (Outside g t p) (stays g (t .numbers) p)
   unfolding stays
@@ -70,13 +74,16 @@ module _ (g : Grounds) (s : State) (ps : List Point) where
   result x =
       record {
         facts = (length-facts g ps (s .facts), new-facts g ps s madeBy);
+        writes = allWritten g s ps;
+        written = is-all-written g s ps (x .evaluable);
         numbers = (length-puts (s .numbers) (allWritten g s ps), new-numbers g s ps (x .consistent) (x .apart) (after .facts));
       }
 
   pub only-result : Executable g s ps → (t : State) → Result g s ps t → t ≡ after
   only-result x t r =
       let f : t .facts ≡ after .facts = only-facts g ps s t (r .facts .0) (r .facts .1) in
-      let n : t .numbers ≡ after .numbers = only-numbers g s ps (x .consistent) (x .apart) t (r .numbers .0) (r .numbers .1) in
+      let n : t .numbers ≡ after .numbers = only-numbers g s ps (x .consistent) (x .apart) t (r .numbers .0)
+      (subst (λ (ws : List Written). (i : ℕ) → i < length (s .numbers) → NewNumber s t ws i) (only-all-written g s ps (r .writes) (r .written)) (r .numbers .1)) in
       λ i. record { facts = f i; numbers = n i }
 
   abbrev evaluation : Outcome

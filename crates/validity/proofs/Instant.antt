@@ -1,7 +1,7 @@
 -- One instant of a run: it goes on exactly where its happening is executed and what spans it holds.
 -- Otherwise it stops with the first failure. Assumes nothing.
 use mathlib.Core.Bool.{Bool, true, false, true≢false}
-use mathlib.Core.List.{List}
+use mathlib.Core.List.{List, map}
 use mathlib.Core.Logic.{_⊎_, inl, inr}
 use mathlib.Core.Path.{_≡_, refl, sym, ap, subst, _∙_}
 use Prim.Native.Nat.{ℕ}
@@ -15,13 +15,13 @@ use Rattle.happenings.specs.declared.Outcome.the-variants.{Done}
 use Rattle.plans.specs.Lists.{keep}
 use Rattle.plans.specs.Plan.{Step, points, at, under, Run, going, failed, Rules, tested}
 use Rattle.plans.specs.Plan as P
-use Rattle.plans.specs.Promised.{Act, failure, rulesOf}
+use Rattle.plans.specs.Promised.{Act, stepFor, failure, rulesOf}
 use Rattle.validity.specs.Lists.{All, First}
-use Rattle.validity.specs.Happens.{Executable, Within, Spans}
-use Rattle.validity.specs.Failing.{Fails, Broken}
-use Rattle.validity.specs.Valid.{happeningAt, underWay, Happens, FailsAt, before, after}
+use Rattle.validity.specs.Happens.{Executable, Within}
+use Rattle.validity.specs.Failing.{Fails}
+use Rattle.validity.specs.Valid.{happeningAt, Spanned, Breaks, Happens, FailsAt, before, after}
 use Rattle.validity.proofs.Deciding.{Decides, is-done}
-use Rattle.validity.proofs.Steps.{spanning-decides}
+use Rattle.validity.proofs.Under.{under-decides}
 use Rattle.validity.proofs.Happening as W
 
 -- ---- two runs that are equal
@@ -63,7 +63,7 @@ module _ (g : Grounds) (goal : Cond) (as′ : List Action) (s0 : State) (plan : 
     here = happeningAt g as′ plan t
 
     abbrev over : List H.Step
-    over = underWay g as′ plan t
+    over = map (stepFor as′) (keep (under t) plan)
 
     abbrev next : State
     next = W.after g s here
@@ -77,8 +77,8 @@ module _ (g : Grounds) (goal : Cond) (as′ : List Action) (s0 : State) (plan : 
     abbrev decides : Decides (Executable g s here × All (Within g next) here) (Fails g s here) before-next
     decides = W.happening-decides g s here
 
-    abbrev over-decides : Decides (All (Spans g next) over) (λ w. First (Spans g next) (λ x. Broken g next x w) over) behind-next
-    over-decides = spanning-decides g next over
+    abbrev over-decides : Decides (All (Spanned g as′ plan t next) plan) (λ w. First (Spanned g as′ plan t next) (Breaks g as′ plan t next w) plan) behind-next
+    over-decides = under-decides g as′ plan t next
 
     to-next : before-next ≡ Done → stepped ≡ tested t next (failure behind-next)
     to-next e =
@@ -102,7 +102,7 @@ module _ (g : Grounds) (goal : Cond) (as′ : List Action) (s0 : State) (plan : 
         let x = h .executable in
         let q : n ≡ next = W.only-result g s here x n (h .result) in
         let e : before-next ≡ Done = decides .done (x, subst (λ (u : State). All (Within g u) here) q (h .within)) in
-        let f : behind-next ≡ Done = over-decides .done (subst (λ (u : State). All (Spans g u) over) q (h .spanned)) in
+        let f : behind-next ≡ Done = over-decides .done (subst (λ (u : State). All (Spanned g as′ plan t u) plan) q (h .spanned)) in
         to-next e ∙ tested-done behind-next t next f ∙ ap (λ (u : State). going u t) (sym q)
 
     pub stops : (w : Outcome) (e : State) → FailsAt g as′ plan t s w e → stepped ≡ failed e t w
@@ -112,7 +112,7 @@ module _ (g : Grounds) (goal : Cond) (as′ : List Action) (s0 : State) (plan : 
     stops w e (after x r a f) =
         let q : e ≡ next = W.only-result g s here x e r in
         let k : before-next ≡ Done = decides .done (x, subst (λ (u : State). All (Within g u) here) q a) in
-        let d = over-decides .only w (subst (λ (u : State). First (Spans g u) (λ y. Broken g u y w) over) q f) in
+        let d = over-decides .only w (subst (λ (u : State). First (Spanned g as′ plan t u) (Breaks g as′ plan t u w) plan) q f) in
         to-next k ∙ tested-fails behind-next t next (ap isDone (d .0) ∙ d .1) ∙ (λ i. failed (sym q i) t (d .0 i))
 
     -- ---- and back

@@ -1,13 +1,18 @@
 -- `valid` is answered exactly where a plan is valid, and what a verdict tells lies in the plan. Assumes nothing.
 pub mod Lists
 pub mod Deciding
+pub mod Values
 pub mod Satisfied
 pub mod Steps
+pub mod Finding
+pub mod Reading
+pub mod Marking
 pub mod Apart
 pub mod Made
 pub mod Numbers
 pub mod Facts
 pub mod Happening
+pub mod Under
 pub mod Instant
 pub mod Times
 pub mod Exactly

@@ -1,8 +1,8 @@
 -- Laws of every element, of membership and of a first failure, and of the tests that find some element. Assumes nothing.
 use mathlib.Core.Bool.{Bool, true, false, _||_}
 use mathlib.Core.List.{List, [], _∷_, _++_, map}
-use mathlib.Core.Logic.{inl, inr}
-use mathlib.Core.Path.{_≡_, refl, sym, subst}
+use mathlib.Core.Logic.{_⊎_, inl, inr}
+use mathlib.Core.Path.{_≡_, refl, sym, ap, subst}
 use Rattle.happenings.specs.Writes.{some}
 use Rattle.plans.specs.Lists.{keep}
 use Rattle.plans.proofs.Lists.{all-append}
@@ -39,6 +39,21 @@ module _ {A : Type 0} where
   in-right x [] ys i = i
   in-right x (y ∷ xs) ys i = inr (in-right x xs ys i)
 
+  pub in-either : (x : A) (xs ys : List A) → x ∈ (xs ++ ys) → (x ∈ xs) ⊎ (x ∈ ys)
+  in-either x [] ys i = inr i
+  in-either x (y ∷ xs) ys (inl e) = inl (inl e)
+  in-either x (y ∷ xs) ys (inr i) = elim (in-either x xs ys i) [ inl j ↦ inl (inr j) | inr j ↦ inr j ]
+
+  pub in-mapped : {B : Type 0} (f : A → B) (x : A) (xs : List A) → x ∈ xs → f x ∈ map f xs
+  in-mapped f x [] i = absurd i
+  in-mapped f x (y ∷ ys) (inl e) = inl (ap f e)
+  in-mapped f x (y ∷ ys) (inr i) = inr (in-mapped f x ys i)
+
+  pub from-mapped : {B : Type 0} (f : A → B) (m : B) (xs : List A) → m ∈ map f xs → (x : A) × (x ∈ xs) × (m ≡ f x)
+  from-mapped f m [] i = absurd i
+  from-mapped f m (y ∷ ys) (inl e) = (y, inl refl, e)
+  from-mapped f m (y ∷ ys) (inr i) = let h = from-mapped f m ys i in (h .0, inr (h .1), h .2)
+
   pub all-kept : (P : A → Type 0) (f : A → Bool) (xs : List A) → All P xs → All P (keep f xs)
   all-kept P f [] a = tt
   all-kept P f (x ∷ xs) a = go (f x) refl (all-kept P f xs (a .1))
@@ -50,6 +65,10 @@ module _ {A : Type 0} where
   pub all-mapped : {B : Type 0} (P : B → Type 0) (f : A → B) (xs : List A) → All (λ x. P (f x)) xs → All P (map f xs)
   all-mapped P f [] a = tt
   all-mapped P f (x ∷ xs) a = (a .0, all-mapped P f xs (a .1))
+
+  pub mapped-all : {B : Type 0} (P : B → Type 0) (f : A → B) (xs : List A) → All P (map f xs) → All (λ x. P (f x)) xs
+  mapped-all P f [] a = tt
+  mapped-all P f (x ∷ xs) a = (a .0, mapped-all P f xs (a .1))
 
   -- what follows from the failure of some element, or of some two
   pub first-in : {B : Type 0} {F : A → Type 0} (P : A → Type 0) (xs : List A) → ((x : A) → x ∈ xs → F x → B) → First P F xs → B

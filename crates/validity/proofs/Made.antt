@@ -1,11 +1,11 @@
 -- Step 4: the effects evaluate or the first that does not is named, and the numbers made are what the effects put, one after the other. Assumes nothing.
 use mathlib.Core.Bool.{Bool, true, false}
 use mathlib.Core.List.{List, [], _∷_, _++_}
-use mathlib.Core.Path.{_≡_, refl, ap, _∙_}
+use mathlib.Core.Path.{_≡_, refl, sym, ap, subst, _∙_}
 use Prim.Native.Nat.{ℕ}
-use lib.IntN.{ℤ}
+use lib.IntN.{ℤ, pos}
 use Rattle.grammar.specs.Effects.{Change, assign, raise, lower, Effect, becomes, changes}
-use Rattle.happenings.specs.State.{State, Grounds, stored, numberOf}
+use Rattle.happenings.specs.State.{State, Grounds, numberAt, numberOf}
 use Rattle.happenings.specs.Truths.{valueOf}
 use Rattle.happenings.specs.Happening.{Point, lineOf, objectsOf, effectsOf, isDone, unless, each, Made, made, onMade, onNeeded, needed, setNumber, changeOne, changeAll, changePoints}
 use Rattle.happenings.specs.declared.Value.{Value}
@@ -13,36 +13,27 @@ use Rattle.happenings.specs.declared.Value.the-variants as Is
 use Rattle.happenings.specs.declared.Outcome.{Outcome}
 use Rattle.happenings.specs.declared.Outcome.the-variants.{Done, Undefined, Range}
 use Rattle.validity.specs.Lists.{All, First}
-use Rattle.validity.specs.Happens.{IsNumber, Given, Evaluates, Evaluable, Written, amountOf, written, allWritten}
-use Rattle.validity.specs.Failing.{NoNumber, NotGiven, Unmade, FirstUnmade}
+use Rattle.validity.specs.Values.{HasValue}
+use Rattle.validity.specs.Happens.{Given, Doable, Evaluable, Written, Writes, AllWrite}
+use Rattle.validity.specs.Failing.{NotGiven, Unmade, FirstUnmade}
 use Rattle.validity.proofs.Deciding.{Decides, is-done, is-not, always, then, each-decides}
-use Rattle.validity.proofs.Steps.{named}
+use Rattle.validity.proofs.Values.{wants, defined-decides, value-decides, has-value}
 
 -- ---- what is evaluated
 
-abbrev wants : ℕ → Value → Outcome
-wants l (Is.Number z) = Done
-wants l Is.Undefined = Undefined l
-wants l Is.Range = Range l
-
-wants-decides : (l : ℕ) (v : Value) → Decides (IsNumber v) (NoNumber l v) (wants l v)
-wants-decides l (Is.Number z) = always
-wants-decides l Is.Undefined = named refl (λ n. n)
-wants-decides l Is.Range = named refl (λ n. n)
-
-given-decides : (how : Change) (l : ℕ) (old : List ℤ) (x : ℕ) → Decides (Given how (stored old x)) (NotGiven how l (stored old x)) (wants l (needed how old x))
+given-decides : (how : Change) (l : ℕ) (old : List ℤ) (x : ℕ) → Decides (Given how old x) (NotGiven how old x l) (wants l (needed how old x))
 given-decides assign l old x = always
-given-decides raise l old x = wants-decides l (stored old x)
-given-decides lower l old x = wants-decides l (stored old x)
+given-decides raise l old x = defined-decides l (numberAt old x)
+given-decides lower l old x = defined-decides l (numberAt old x)
 
 module _ (g : Grounds) (s : State) where
   abbrev evaluated : ℕ → List ℕ → Effect → Outcome
   evaluated l os (becomes yes′ r) = Done
   evaluated l os (changes how r e) = unless (wants l (valueOf g (s .numbers) os e)) (wants l (needed how (s .numbers) (numberOf g os r)))
 
-  evaluated-decides : (l : ℕ) (os : List ℕ) (e : Effect) → Decides (Evaluates g s os e) (Unmade g s l os e) (evaluated l os e)
+  evaluated-decides : (l : ℕ) (os : List ℕ) (e : Effect) → Decides (Doable g s os e) (Unmade g s l os e) (evaluated l os e)
   evaluated-decides l os (becomes yes′ r) = always
-  evaluated-decides l os (changes how r e) = then (wants-decides l (valueOf g (s .numbers) os e)) (given-decides how l (s .numbers) (numberOf g os r))
+  evaluated-decides l os (changes how r e) = then (value-decides g (s .numbers) os l e) (given-decides how l (s .numbers) (numberOf g os r))
 
   abbrev pub evaluatedBy : Point → Outcome
   evaluatedBy p = each (evaluated (lineOf p) (objectsOf p)) (effectsOf p)
@@ -51,6 +42,51 @@ module _ (g : Grounds) (s : State) where
       → Decides (All (Evaluable g s) ps) (λ w. First (Evaluable g s) (λ p. FirstUnmade g s p w) ps) (each evaluatedBy ps)
   evaluation-decides ps =
       each-decides evaluatedBy (λ p. each-decides (evaluated (lineOf p) (objectsOf p)) (evaluated-decides (lineOf p) (objectsOf p)) (effectsOf p)) ps
+
+-- ---- what is written
+
+-- 0 where there is no value; none such is executed
+abbrev amountOf : Value → ℤ
+amountOf (Is.Number z) = z
+amountOf Is.Undefined = pos 0
+amountOf Is.Range = pos 0
+
+module _ (g : Grounds) (s : State) where
+  abbrev pub written : List ℕ → List Effect → List Written
+  written os [] = []
+  written os (becomes yes′ r ∷ es) = written os es
+  written os (changes how r e ∷ es) =
+      record { how = how; index = numberOf g os r; amount = amountOf (valueOf g (s .numbers) os e) } ∷ written os es
+
+  abbrev pub allWritten : List Point → List Written
+  allWritten [] = []
+  allWritten (p ∷ ps) = written (objectsOf p) (effectsOf p) ++ allWritten ps
+
+  only-written : (os : List ℕ) (es : List Effect) (ws : List Written) → Writes g s os es ws → ws ≡ written os es
+  only-written os [] ws h = h
+  only-written os (becomes yes′ r ∷ es) ws h = only-written os es ws h
+  only-written os (changes how r e ∷ es) [] h = absurd h
+  only-written os (changes how r e ∷ es) (w ∷ ws) h =
+      let v : w .amount ≡ amountOf (valueOf g (s .numbers) os e) = sym (ap amountOf (has-value g (s .numbers) os e (w .amount) .1 (h .2))) in
+      λ i. record { how = h .0 i; index = h .1 i; amount = v i } ∷ only-written os es ws (h .3) i
+
+  is-written : (os : List ℕ) (es : List Effect) → All (Doable g s os) es → Writes g s os es (written os es)
+  is-written os [] a = refl
+  is-written os (becomes yes′ r ∷ es) a = is-written os es (a .1)
+  is-written os (changes how r e ∷ es) a =
+      let z = a .0 .0 .0 in
+      let h = a .0 .0 .1 in
+      (refl, refl, subst (HasValue g (s .numbers) os e) (sym (ap amountOf (has-value g (s .numbers) os e z .1 h))) h, is-written os es (a .1))
+
+  pub only-all-written : (ps : List Point) (ws : List Written) → AllWrite g s ps ws → ws ≡ allWritten ps
+  only-all-written [] ws h = h
+  only-all-written (p ∷ ps) ws (us, vs, q, a, b) =
+      q ∙ (λ i. only-written (objectsOf p) (effectsOf p) us a i ++ only-all-written ps vs b i)
+
+  pub is-all-written : (ps : List Point) → All (Evaluable g s) ps → AllWrite g s ps (allWritten ps)
+  is-all-written [] a = refl
+  is-all-written (p ∷ ps) a =
+      (written (objectsOf p) (effectsOf p), allWritten ps, refl, is-written (objectsOf p) (effectsOf p) (a .0), is-all-written ps (a .1))
 
 -- ---- what is made
 

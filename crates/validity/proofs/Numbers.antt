@@ -1,5 +1,5 @@
 -- The numbers after a happening: what the effects put one after the other is, number by number, what the definitions say, and only that. Assumes nothing.
-use mathlib.Core.Bool.{Bool, true, false, cond, true≢false, false≢true}
+use mathlib.Core.Bool.{Bool, true, false, cond, true≢false}
 use mathlib.Core.List.{List, [], _∷_}
 use mathlib.Core.Logic.{_⊎_, inl, inr}
 use mathlib.Core.Path.{_≡_, refl, sym, ap, subst, _∙_}
@@ -12,26 +12,16 @@ use lib.Seq.{getD-set-same, getD-set-other, lt-length-set, ext-getD}
 use borrow.Author.Tests.{eqb-true, eqb-false}
 use Rattle.grammar.specs.Effects.{Change, assign, raise, lower, Effect, becomes, changes}
 use Rattle.grammar.specs.Terms.{Ref, Expr}
-use Rattle.init.specs.State.{undefined}
+use Rattle.grammar.specs.First.{undefined}
 use Rattle.happenings.specs.State.{State, Grounds, numberAt, numberOf}
-use Rattle.happenings.specs.Writes.{markOf, marksOf}
-use Rattle.happenings.specs.Happening.{Point, objectsOf, effectsOf, marks, newNumber}
-use Rattle.happenings.specs.declared.Mark.the-variants.{Number}
+use Rattle.happenings.specs.Happening.{Point, objectsOf, effectsOf, newNumber}
 use Rattle.plans.proofs.Lists.{all-map, all-append}
 use Rattle.validity.specs.Lists.{All, Pairwise, _∈_}
-use Rattle.validity.specs.Happens.{Additive, Consistent, NonInterfering, Written, written, allWritten, signed, share, total, NewNumber}
+use Rattle.validity.specs.Reads.{Changes}
+use Rattle.validity.specs.Happens.{Additive, Consistent, NonInterfering, Written, signed, share, total, NewNumber}
 use Rattle.validity.proofs.Lists.{all-in, in-all, pairwise-append}
-use Rattle.validity.proofs.Made.{put, puts}
-
-abbrev assigns : Change → Bool
-assigns assign = true
-assigns raise = false
-assigns lower = false
-
-assigning : (how : Change) → assigns how ≡ true → how ≡ assign
-assigning assign e = refl
-assigning raise e = absurd (false≢true e)
-assigning lower e = absurd (false≢true e)
+use Rattle.validity.proofs.Marking.{assigns, assigning, assigns-not}
+use Rattle.validity.proofs.Made.{written, allWritten, put, puts}
 
 -- two that write one number only raise or lower it
 abbrev Together : Written → Written → Type 0
@@ -126,37 +116,40 @@ module _ (x : ℕ) where
 -- ---- the effects of the points of a happening go together
 
 module _ (g : Grounds) (s : State) where
-  mark-of : (os : List ℕ) (how : Change) (r : Ref) (e : Expr) → markOf g os (changes how r e) ≡ Number (assigns how) (numberOf g os r)
-  unfolding markOf
-  mark-of os assign r e = refl
-  mark-of os raise r e = refl
-  mark-of os lower r e = refl
+  -- the effect that writes
+  changed : (os : List ℕ) (es : List Effect) (w : Written) → w ∈ written g s os es
+      → (r : Ref) × (e : Expr) × (changes (w .how) r e ∈ es) × (numberOf g os r ≡ w .index)
+  changed os [] w i = absurd i
+  changed os (becomes yes′ r ∷ es) w i = let h = changed os es w i in (h .0, h .1, inr (h .2), h .3)
+  changed os (changes how r e ∷ es) w (inl p) = (r, e, inl (ap (λ (v : Written). changes (v .how) r e) p), sym (ap (λ (v : Written). v .index) p))
+  changed os (changes how r e ∷ es) w (inr i) = let h = changed os es w i in (h .0, h .1, inr (h .2), h .3)
 
-  marked : (os : List ℕ) (es : List Effect) (w : Written) → w ∈ written g s os es → Number (assigns (w .how)) (w .index) ∈ marksOf g os es
-  marked os [] w i = absurd i
-  marked os (becomes yes′ r ∷ es) w i = inr (marked os es w i)
-  marked os (changes how r e ∷ es) w (inl p) = inl (ap (λ (v : Written). Number (assigns (v .how)) (v .index)) p ∙ sym (mark-of os how r e))
-  marked os (changes how r e ∷ es) w (inr i) = inr (marked os es w i)
-
-  within-point : (os : List ℕ) (es : List Effect) → Pairwise Additive (marksOf g os es) → Pairwise Together (written g s os es)
+  within-point : (os : List ℕ) (es : List Effect) → Pairwise (Additive g os) es → Pairwise Together (written g s os es)
   within-point os [] a = tt
   within-point os (becomes yes′ r ∷ es) a = within-point os es (a .1)
   within-point os (changes how r e ∷ es) a = (
     in-all (written g s os es) (λ v i q.
-        all-in (Additive (markOf g os (changes how r e))) (marksOf g os es) (a .0) (Number (assigns (v .how)) (v .index)) (marked os es v i)
-        (assigns how) (assigns (v .how)) (v .index) (mark-of os how r e ∙ ap (Number (assigns how)) q) refl),
+        let h = changed os es v i in
+        let n = all-in (Additive g os (changes how r e)) es (a .0) (changes (v .how) (h .0) (h .1)) (h .2) (q ∙ sym (h .3)) in
+        (assigns-not how (n .0), assigns-not (v .how) (n .1))),
     within-point os es (a .1),
   )
 
   abbrev writtenBy : Point → List Written
   writtenBy p = written g s (objectsOf p) (effectsOf p)
 
+  changes-by : (p : Point) (w : Written) → w ∈ writtenBy p → Changes g p (w .how) (w .index)
+  changes-by p w i =
+      let h = changed (objectsOf p) (effectsOf p) w i in
+      record { target = h .0; amount = h .1; effect = h .2; index = h .3 }
+
   between-points : (p : Point) (ps : List Point) → All (NonInterfering g p) ps → (w : Written) → w ∈ writtenBy p → All (Together w) (allWritten g s ps)
   between-points p [] a w i = tt
   between-points p (q ∷ ps) a w i =
       all-append (Together w) (writtenBy q) (allWritten g s ps)
-      (in-all (writtenBy q) (λ v j e. a .0 .numbers (assigns (w .how)) (assigns (v .how)) (v .index)
-      (subst (λ (x : ℕ). Number (assigns (w .how)) x ∈ marks g p) e (marked (objectsOf p) (effectsOf p) w i)) (marked (objectsOf q) (effectsOf q) v j)))
+      (in-all (writtenBy q) (λ v j e.
+      let n = a .0 .numbers (w .how) (v .how) (v .index) (subst (Changes g p (w .how)) e (changes-by p w i)) (changes-by q v j) in
+      (assigns-not (w .how) (n .0), assigns-not (v .how) (n .1))))
       (between-points p ps (a .1) w i)
 
   together : (ps : List Point) → All (Consistent g) ps → Pairwise (NonInterfering g) ps → Pairwise Together (allWritten g s ps)

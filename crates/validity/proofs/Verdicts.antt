@@ -7,18 +7,15 @@ use lib.Dec.{eqb}
 use Rattle.grammar.specs.Conditions.{Cond}
 use Rattle.grammar.specs.Actions.{Action}
 use Rattle.happenings.specs.State.{State, Grounds}
-use Rattle.happenings.specs.Truths.{truthOf}
 use Rattle.happenings.specs.Happening as H
 use Rattle.happenings.specs.Happening.{noObjects}
 use Rattle.happenings.specs.declared.Outcome.{Outcome}
 use Rattle.happenings.specs.declared.Outcome.the-variants.{Goal}
-use Rattle.plans.specs.Lists.{keep}
-use Rattle.plans.specs.Plan.{Span, moment, lasting, Step, Point, time, ending, points, at, under, Run, going, failed, verdict}
+use Rattle.plans.specs.Plan.{Span, moment, lasting, Step, Point, time, ending, points, at, Run, going, failed, verdict}
 use Rattle.plans.specs.Promised.{Act, stepFor, pointFor}
 use Rattle.plans.proofs.Lists.{all-map}
-use Rattle.validity.specs.Lists.{All, _∈_}
-use Rattle.validity.specs.Happens.{Spans}
-use Rattle.validity.specs.Valid.{lastOf, timesOf, happeningAt, underWay, FailsAt, before, after, Executes, FailsFirst}
+use Rattle.validity.specs.Lists.{All}
+use Rattle.validity.specs.Valid.{lastOf, timesOf, happeningAt, Spanned, FailsAt, before, after, Executes, FailsFirst}
 use Rattle.validity.proofs.Lists.{all-in, all-kept, all-mapped, first-in}
 use Rattle.validity.proofs.Naming.{Names, not-so-names, fails-names, broken-names}
 use Rattle.validity.proofs.Instant.{runTime, runWord, rules}
@@ -66,18 +63,14 @@ module _ (g : Grounds) (goal : Cond) (as′ : List Action) (s0 : State) (plan : 
         all-mapped (λ (p : H.Point). L (H.lineOf p)) (pointFor as′) (at t (points plan))
         (all-kept (Lined L as′) (λ (p : Point Act). eqb (time p) t) (points plan) (points-lined L as′ plan lines))
 
-    steps-under : (t : ℕ) (x : H.Step) → x ∈ underWay g as′ plan t → L (x .line)
-    steps-under t =
-        all-in (λ (x : H.Step). L (x .line)) (underWay g as′ plan t)
-        (all-mapped (λ (x : H.Step). L (x .line)) (stepFor as′) (keep (under t) plan) (all-kept (λ (x : Step Act). L (x .line)) (under t) plan lines))
-
     instant-names : (t : ℕ) (s e : State) (w : Outcome) → FailsAt g as′ plan t s w e → Names L w
     instant-names t s e w (before x q) = fails-names L w g s (happeningAt g as′ plan t) (points-at t) x
-    instant-names t s e w (after x r a b) = first-in (Spans g e) (underWay g as′ plan t) (λ y i. broken-names L w g e y (steps-under t y i)) b
+    instant-names t s e w (after x r a b) =
+        first-in (Spanned g as′ plan t e) plan (λ y i h. broken-names L w g e (stepFor as′ y) (all-in (λ (z : Step Act). L (z .line)) plan lines y i) (h .1)) b
 
     failure-names : (e : State) (t : ℕ) (w : Outcome) → FailsFirst g as′ plan goal s0 e t w → Names L w
     failure-names e t w (inl x) = instant-names t (x .state) e w (x .fails)
-    failure-names e t w (inr x) = not-so-names L w Goal 0 tt zero-so (truthOf g e noObjects goal) (x .missed)
+    failure-names e t w (inr x) = not-so-names L w Goal 0 refl tt zero-so g e noObjects goal (x .missed)
 
     pub verdict-names : Names L (runWord (verdict (rules g goal as′ s0) plan))
     verdict-names = go (verdict (rules g goal as′ s0) plan) refl

@@ -9,72 +9,63 @@ use lib.IntN.{ℤ, pos, negℤ, _+ℤ_}
 use lib.ListN.{length, getD}
 use Rattle.grammar.specs.Effects.{Change, assign, raise, lower, Effect, becomes, changes}
 use Rattle.grammar.specs.Actions.{Lasting, moment, rule, whole}
-use Rattle.happenings.specs.State.{State, Grounds, inside, numberAt, stored, numberOf}
-use Rattle.happenings.specs.Truths.{valueOf}
-use Rattle.happenings.specs.Happening.{Step, Point, objectsOf, conditionsOf, effectsOf, ruleOf, partsFor, marks, allMarks, readsFact, readsNumber}
-use Rattle.happenings.specs.declared.Value.{Value}
-use Rattle.happenings.specs.declared.Value.the-variants as Is
-use Rattle.happenings.specs.declared.Mark.{Mark}
-use Rattle.happenings.specs.declared.Mark.the-variants as M
+use Rattle.happenings.specs.State.{State, Grounds, numberAt, numberOf}
+use Rattle.happenings.specs.Happening.{Step, Point, objectsOf, conditionsOf, effectsOf, ruleOf, partsFor}
 use Rattle.validity.specs.Lists.{All, Pairwise, _∈_}
+use Rattle.validity.specs.Values.{InRange, HasValue, Evaluates}
 use Rattle.validity.specs.Satisfied.{Holds}
+use Rattle.validity.specs.Reads.{ReadsFact, ReadsNumber, Makes, Changes}
 
 -- ---- step 1: "for a start, the duration rule; then its conditions"
 
 -- the rule's value is the duration
 abbrev pub Lasts : Grounds → State → Point → Lasting → Type 0
 Lasts g s p moment = Unit
-Lasts g s p (rule e) = valueOf g (s .numbers) (objectsOf p) e ≡ Is.Number (pos (p .step .duration))
+Lasts g s p (rule e) = HasValue g (s .numbers) (objectsOf p) e (pos (p .step .duration))
 
 abbrev pub Applicable : Grounds → State → Point → Type 0
 Applicable g s p = Lasts g s p (ruleOf p) × All (Holds g s (objectsOf p)) (conditionsOf p)
 
--- ---- what effects write: by its marks a point adds fact x (`Fact true x`) or deletes it (`Fact false x`), assigns number x (`Number true x`) or raises or
--- lowers it (`Number false x`)
-
 -- ---- step 2: "no number is assigned twice, or assigned and also raised or lowered"
 
 -- if two effects write one number, neither assigns it
-abbrev pub Additive : Mark → Mark → Type 0
-Additive m k = (a b : Bool) (x : ℕ) → m ≡ M.Number a x → k ≡ M.Number b x → (a ≡ false) × (b ≡ false)
+abbrev pub Additive : Grounds → List ℕ → Effect → Effect → Type 0
+Additive g os (becomes yes′ r) e = Unit
+Additive g os (changes h r a) (becomes yes′ q) = Unit
+Additive g os (changes h r a) (changes k q b) = numberOf g os r ≡ numberOf g os q → ¬ (h ≡ assign) × ¬ (k ≡ assign)
 
 abbrev pub Consistent : Grounds → Point → Type 0
-Consistent g p = Pairwise Additive (marks g p)
+Consistent g p = Pairwise (Additive g (objectsOf p)) (effectsOf p)
 
 -- ---- step 3: "Interference is Definition 12 of 000"
 
 -- never "a fact read by one's conditions is added or deleted by the other", nor "a number written by one is read by the other, in a condition, a duration
 -- rule or a right side": q leaves alone what p reads
 pub record Unmoved (g : Grounds) (p q : Point) : Type 0 where
-  pub facts : (a : Bool) (x : ℕ) → M.Fact a x ∈ marks g q → readsFact g p x ≡ false
-  pub numbers : (a : Bool) (x : ℕ) → M.Number a x ∈ marks g q → readsNumber g p x ≡ false
+  pub facts : (a : Bool) (x : ℕ) → Makes g q a x → ¬ (ReadsFact g p x)
+  pub numbers : (how : Change) (x : ℕ) → Changes g q how x → ¬ (ReadsNumber g p x)
 
 pub record NonInterfering (g : Grounds) (p q : Point) : Type 0 where
   pub first-reads : Unmoved g p q
   pub second-reads : Unmoved g q p
   -- never "one adds what the other deletes"
-  pub facts : (a b : Bool) (x : ℕ) → M.Fact a x ∈ marks g p → M.Fact b x ∈ marks g q → a ≡ b
+  pub facts : (a b : Bool) (x : ℕ) → Makes g p a x → Makes g q b x → a ≡ b
   -- never "both write one number, unless both only raise or lower it"
-  pub numbers : (a b : Bool) (x : ℕ) → M.Number a x ∈ marks g p → M.Number b x ∈ marks g q → (a ≡ false) × (b ≡ false)
+  pub numbers : (h k : Change) (x : ℕ) → Changes g p h x → Changes g q k x → ¬ (h ≡ assign) × ¬ (k ≡ assign)
 
 -- ---- step 4: "the right side evaluates, then a number to be raised or lowered must be defined"
 
-abbrev pub IsNumber : Value → Type 0
-IsNumber (Is.Number z) = Unit
-IsNumber Is.Undefined = ⊥
-IsNumber Is.Range = ⊥
+abbrev pub Given : Change → List ℤ → ℕ → Type 0
+Given assign ns x = Unit
+Given raise ns x = InRange (numberAt ns x)
+Given lower ns x = InRange (numberAt ns x)
 
-abbrev pub Given : Change → Value → Type 0
-Given assign v = Unit
-Given raise v = IsNumber v
-Given lower v = IsNumber v
-
-abbrev pub Evaluates : Grounds → State → List ℕ → Effect → Type 0
-Evaluates g s os (becomes yes′ r) = Unit
-Evaluates g s os (changes how r e) = IsNumber (valueOf g (s .numbers) os e) × Given how (stored (s .numbers) (numberOf g os r))
+abbrev pub Doable : Grounds → State → List ℕ → Effect → Type 0
+Doable g s os (becomes yes′ r) = Unit
+Doable g s os (changes how r e) = Evaluates g (s .numbers) os e × Given how (s .numbers) (numberOf g os r)
 
 abbrev pub Evaluable : Grounds → State → Point → Type 0
-Evaluable g s p = All (Evaluates g s (objectsOf p)) (effectsOf p)
+Evaluable g s p = All (Doable g s (objectsOf p)) (effectsOf p)
 
 -- ---- "Steps 1 to 4 see the state before it."
 
@@ -91,21 +82,19 @@ pub record Written : Type 0 where
   pub index : ℕ
   pub amount : ℤ
 
--- 0 where there is none; none such is executed
-abbrev pub amountOf : Value → ℤ
-amountOf (Is.Number z) = z
-amountOf Is.Undefined = pos 0
-amountOf Is.Range = pos 0
+-- ws is what effects write, in their order
+abbrev pub Writes : Grounds → State → List ℕ → List Effect → List Written → Type 0
+Writes g s os [] ws = ws ≡ []
+Writes g s os (becomes yes′ r ∷ es) ws = Writes g s os es ws
+Writes g s os (changes how r e ∷ es) [] = ⊥
+Writes g s os (changes how r e ∷ es) (w ∷ ws) =
+    (w .how ≡ how) × (w .index ≡ numberOf g os r) × HasValue g (s .numbers) os e (w .amount) × Writes g s os es ws
 
-abbrev pub written : Grounds → State → List ℕ → List Effect → List Written
-written g s os [] = []
-written g s os (becomes yes′ r ∷ es) = written g s os es
-written g s os (changes how r e ∷ es) =
-    record { how = how; index = numberOf g os r; amount = amountOf (valueOf g (s .numbers) os e) } ∷ written g s os es
-
-abbrev pub allWritten : Grounds → State → List Point → List Written
-allWritten g s [] = []
-allWritten g s (p ∷ ps) = written g s (objectsOf p) (effectsOf p) ++ allWritten g s ps
+-- the same of all points
+abbrev pub AllWrite : Grounds → State → List Point → List Written → Type 0
+AllWrite g s [] ws = ws ≡ []
+AllWrite g s (p ∷ ps) ws =
+    (us : List Written) × (vs : List Written) × (ws ≡ us ++ vs) × Writes g s (objectsOf p) (effectsOf p) us × AllWrite g s ps vs
 
 -- what an effect adds to a number
 abbrev pub signed : Change → ℤ → ℤ
@@ -126,11 +115,15 @@ total x (w ∷ ws) = share x w +ℤ total x ws
 abbrev pub factAt : State → ℕ → ℕ
 factAt s x = getD (s .facts) x 0
 
+-- some point makes fact x so
+abbrev pub SomeMakes : Grounds → List Point → Bool → ℕ → Type 0
+SomeMakes g ps yes′ x = (p : Point) × (p ∈ ps) × Makes g p yes′ x
+
 -- "facts become (old without deleted) with added"
-pub record NewFact (s t : State) (ms : List Mark) (x : ℕ) : Type 0 where
-  pub added : M.Fact true x ∈ ms → factAt t x ≡ 1
-  pub deleted : ¬ (M.Fact true x ∈ ms) → M.Fact false x ∈ ms → factAt t x ≡ 0
-  pub kept : ¬ (M.Fact true x ∈ ms) → ¬ (M.Fact false x ∈ ms) → factAt t x ≡ factAt s x
+pub record NewFact (g : Grounds) (s : State) (ps : List Point) (t : State) (x : ℕ) : Type 0 where
+  pub added : SomeMakes g ps true x → factAt t x ≡ 1
+  pub deleted : ¬ (SomeMakes g ps true x) → SomeMakes g ps false x → factAt t x ≡ 0
+  pub kept : ¬ (SomeMakes g ps true x) → ¬ (SomeMakes g ps false x) → factAt t x ≡ factAt s x
 
 -- "assigned numbers are set; the rest become old plus the exact sum of rises and falls"
 pub record NewNumber (s t : State) (ws : List Written) (x : ℕ) : Type 0 where
@@ -139,12 +132,14 @@ pub record NewNumber (s t : State) (ws : List Written) (x : ℕ) : Type 0 where
 
 -- t is the state that the happening makes of s
 pub record Result (g : Grounds) (s : State) (ps : List Point) (t : State) : Type 0 where
-  pub facts : (length (t .facts) ≡ length (s .facts)) × ((x : ℕ) → x < length (s .facts) → NewFact s t (allMarks g ps) x)
-  pub numbers : (length (t .numbers) ≡ length (s .numbers)) × ((x : ℕ) → x < length (s .numbers) → NewNumber s t (allWritten g s ps) x)
+  pub facts : (length (t .facts) ≡ length (s .facts)) × ((x : ℕ) → x < length (s .facts) → NewFact g s ps t x)
+  pub writes : List Written
+  pub written : AllWrite g s ps writes
+  pub numbers : (length (t .numbers) ≡ length (s .numbers)) × ((x : ℕ) → x < length (s .numbers) → NewNumber s t writes x)
 
 -- never "a new value outside" the range
 abbrev pub Within : Grounds → State → Point → Type 0
-Within g t p = (a : Bool) (x : ℕ) → M.Number a x ∈ marks g p → inside (numberAt (t .numbers) x) ≡ true
+Within g t p = (how : Change) (x : ℕ) → Changes g p how x → InRange (numberAt (t .numbers) x)
 
 -- ---- step 5: "In the new state, the `over all` conditions"
 

@@ -1,23 +1,21 @@
 -- A valid plan, Definitions 14 and 18 to 20 of source 000 as document 01 narrows them.
-use Prim.Native.Nat.{ℕ, _<_}
+use Prim.Native.Nat.{ℕ, _+_, _≤_, _<_}
 use mathlib.Core.List.{List, [], _∷_, map}
 use mathlib.Core.Logic.{_⊎_}
 use mathlib.Core.Path.{_≡_}
 use Rattle.grammar.specs.Conditions.{Cond}
 use Rattle.grammar.specs.Actions.{Action}
 use Rattle.happenings.specs.State.{State, Grounds}
-use Rattle.happenings.specs.Truths.{truthOf}
 use Rattle.happenings.specs.Happening as H
 use Rattle.happenings.specs.Happening.{noObjects}
 use Rattle.happenings.specs.declared.Outcome.{Outcome}
 use Rattle.happenings.specs.declared.Outcome.the-variants.{Goal}
-use Rattle.plans.specs.Lists.{keep}
-use Rattle.plans.specs.Plan.{Step, time, points, at, under}
+use Rattle.plans.specs.Plan.{lasting, Step, time, points, at}
 use Rattle.plans.specs.Promised.{Act, stepFor, pointFor}
 use Rattle.validity.specs.Lists.{All, First, _∈_, Ascending}
-use Rattle.validity.specs.Satisfied.{Holds}
+use Rattle.validity.specs.Satisfied.{Holds, NotSo}
 use Rattle.validity.specs.Happens.{Executable, Result, Within, Spans}
-use Rattle.validity.specs.Failing.{NotSo, Fails, Broken}
+use Rattle.validity.specs.Failing.{Fails, Broken}
 
 -- the time of the last of the happenings, "0.000 if none"
 abbrev pub lastOf : ℕ → List ℕ → ℕ
@@ -39,15 +37,25 @@ pub record HappeningsBelow (plan : List (Step Act)) (b : ℕ) (ts : List ℕ) : 
   pub every : All (λ t. t < b → t ∈ ts) (timesOf plan)
   pub only : All (λ t. (t < b) × (t ∈ timesOf plan)) ts
 
+-- "every durative line with start at or before, and end after, this time"
+pub record UnderWay (t : ℕ) (x : Step Act) : Type 0 where
+  pub duration : ℕ
+  pub durative : x .span ≡ lasting duration
+  pub started : x .start ≤ t
+  pub ending : t < x .start + duration
+
 -- as′ are the domain's actions
 module _ (g : Grounds) (as′ : List Action) (plan : List (Step Act)) where
   -- "All points of one time, by line number, form a happening."
   abbrev pub happeningAt : ℕ → List H.Point
   happeningAt t = map (pointFor as′) (at t (points plan))
 
-  -- "every durative line with start at or before, and end after, this time"
-  abbrev pub underWay : ℕ → List H.Step
-  underWay t = map (stepFor as′) (keep (under t) plan)
+  -- what the line asks of time t
+  abbrev pub Spanned : ℕ → State → Step Act → Type 0
+  Spanned t s x = UnderWay t x → Spans g s (stepFor as′ x)
+
+  abbrev pub Breaks : ℕ → State → Outcome → Step Act → Type 0
+  Breaks t s w x = UnderWay t x × Broken g s (stepFor as′ x) w
 
   -- ---- what goes well
 
@@ -56,7 +64,7 @@ module _ (g : Grounds) (as′ : List Action) (plan : List (Step Act)) where
     pub executable : Executable g s (happeningAt t)
     pub result : Result g s (happeningAt t) n
     pub within : All (Within g n) (happeningAt t)
-    pub spanned : All (Spans g n) (underWay t)
+    pub spanned : All (Spanned t n) plan
 
   -- "there is a sequence of states": from s through the happenings of these times to e
   abbrev pub Trace : State → List ℕ → State → Type 0
@@ -82,7 +90,7 @@ module _ (g : Grounds) (as′ : List Action) (plan : List (Step Act)) where
   pub data FailsAt (t : ℕ) (s : State) (w : Outcome) (e : State) : Type 0 where
     before : Fails g s (happeningAt t) w → s ≡ e → FailsAt t s w e
     after : Executable g s (happeningAt t) → Result g s (happeningAt t) e → All (Within g e) (happeningAt t)
-        → First (Spans g e) (λ x. Broken g e x w) (underWay t) → FailsAt t s w e
+        → First (Spanned t e) (Breaks t e w) plan → FailsAt t s w e
 
   -- all happenings before time t are executed, and that of time t fails
   pub record Stops (s e : State) (t : ℕ) (w : Outcome) : Type 0 where
@@ -96,7 +104,7 @@ module _ (g : Grounds) (as′ : List Action) (plan : List (Step Act)) where
   -- all happenings are executed, and the goal is not met
   pub record Misses (goal : Cond) (s e : State) (u : ℕ) (w : Outcome) : Type 0 where
     pub executes : Executes s e u
-    pub missed : NotSo Goal 0 (truthOf g e noObjects goal) w
+    pub missed : NotSo g e noObjects Goal 0 goal w
 
   abbrev pub FailsFirst : Cond → State → State → ℕ → Outcome → Type 0
   FailsFirst goal s e t w = Stops s e t w ⊎ Misses goal s e t w

@@ -1,14 +1,13 @@
 -- A sound step in its parts, and sound points by their places. Assumes nothing.
-use Prim.Native.Nat.{ℕ, zero, suc, _+_, _≤_, _<_}
-use mathlib.Core.Bool.{Bool, true, false, true≢false}
+use Prim.Native.Nat.{ℕ, zero, suc, _≤_, _<_}
+use mathlib.Core.Bool.{Bool, true, false}
 use mathlib.Core.List.{List, [], _∷_, _++_}
-use mathlib.Core.Path.{_≡_, refl, sym, _∙_}
-use native.Mathlib.Numerals.{add-one}
+use mathlib.Core.Path.{_≡_, refl}
 use native.Mathlib.Omega.{arith}
 use borrow.Author.Tests.{ltb-true, lt-ltb}
 use lib.Dec.{ltb}
 use lib.ListN.{length, take, getD}
-use lib.Seq.{take-suc, getD-take, length-take-le}
+use lib.Seq.{getD-take, length-take-le}
 use Rattle.words.proofs.Ranges.{both-0, both-1}
 use Rattle.text.proofs.Values.{both}
 use Rattle.plans.specs.Lists.{keep}
@@ -65,22 +64,11 @@ module _ (n : ℕ) where
       go true e ih = rw (e, both-0 (soundStep n (s .step)) (soundAll n ss) h, ih)
       go false e ih = rw (e, ih)
 
-  -- ---- by the places of a loop: the first i of the points, and one of the first m
+-- ---- points by their places
 
-  module _ (l : List Slot) (i : ℕ) where
-    pub sound-more : i < length l → soundAll n (take i l) ≡ true → soundStep n (getD l i noSlot .step) ≡ true → soundAll n (take (i + 1) l) ≡ true
-    sound-more h s t = rw (add-one, take-suc l i noSlot h) (sound-snoc (take i l) (getD l i noSlot) s t)
-
-    module _ (m : ℕ) (k : i < m) (h : m ≤ length l) where
-      pub sound-within : soundAll n (take m l) ≡ true → soundStep n (getD l i noSlot .step) ≡ true
-      sound-within s = rw (← getD-take m l i noSlot k) (sound-at n i (take m l) s (omega (arith, length-take-le m l h)))
-
-      pub unsound-within : soundStep n (getD l i noSlot .step) ≡ false → soundAll n (take m l) ≡ false
-      unsound-within s = go (soundAll n (take m l)) refl
-        where
-          go : (b : Bool) → soundAll n (take m l) ≡ b → soundAll n (take m l) ≡ false
-          go true e = absurd (true≢false (sym (sound-within e) ∙ s))
-          go false e = e
+module _ (n : ℕ) (l : List Slot) (i m : ℕ) (k : i < m) (h : m ≤ length l) where
+  sound-within : soundAll n (take m l) ≡ true → soundStep n (getD l i noSlot .step) ≡ true
+  sound-within s = rw (← getD-take m l i noSlot k) (sound-at n i (take m l) s (omega (arith, length-take-le m l h)))
 
 -- a place in use of a queue whose times are known
 pub timed-at : (q : Queue) (i : ℕ) → length (q .slots) ≡ 64 → Timed q → i < q .count → TimedStep (getD (q .slots) i noSlot .step)

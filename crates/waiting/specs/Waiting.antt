@@ -3,11 +3,12 @@ use mathlib.Core.Path.{_≡_}
 use Prim.Native.Nat.{ℕ, _-_, _≤_}
 use mathlib.Core.Bool.{Bool, true, false, _&&_}
 use mathlib.Core.List.{List, [], _∷_, _++_, map}
-use lib.Dec.{ltb}
+use lib.Dec.{ltb, leb}
 use lib.ListN.{length, take, replicate}
 use Rattle.plans.specs.Plan.{Point}
 use Rattle.plans.specs.Promised.{Act}
 use Rattle.plans.specs.Stored.{pointIn}
+use Rattle.plans.specs.Listed.{listedLine}
 use Rattle.plans.specs.declared.Step.{Step}
 use Rattle.plans.specs.declared.Slot.{Slot}
 use Rattle.waiting.specs.declared.Queue.{Queue}
@@ -36,6 +37,18 @@ soundStep n x = ltb (x .action) n && ltb (x .start) 1000000000000 && ltb (x .dur
 unfoldable pub soundAll : ℕ → List Slot → Bool
 soundAll n [] = true
 soundAll n (s ∷ ss) = soundStep n (s .step) && soundAll n ss
+
+-- its line is one of a plan, of at most 256 bytes
+unfoldable pub listedStep : Step → Bool
+listedStep x = listedLine (x .line) && leb (x .width) 256
+
+-- all that is tested of points
+abbrev pub stepFits : ℕ → Step → Bool
+stepFits n x = soundStep n x && listedStep x
+
+unfoldable pub slotsFit : ℕ → List Slot → Bool
+slotsFit n [] = true
+slotsFit n (s ∷ ss) = stepFits n (s .step) && slotsFit n ss
 
 abbrev pub Sound : ℕ → Queue → Type 0
 Sound n q = (q .count ≤ 64) × (soundAll n (used q) ≡ true)

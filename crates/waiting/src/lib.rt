@@ -9,7 +9,8 @@ ghost use Prim.Native.Nat.{_≤_};
 ghost use lib.ListN.{length};
 ghost use Rattle.plans.specs.Plan.{pointsOf};
 ghost use Rattle.plans.specs.Stored.{stepIn};
-ghost use Rattle.waiting.specs.Waiting.{used, queueOf, soundStep, soundAll};
+ghost use Rattle.plans.specs.Listed.{listedLine};
+ghost use Rattle.waiting.specs.Waiting.{used, queueOf, soundStep, listedStep, stepFits, slotsFit};
 
 pub struct Queue {
     pub slots: [Slot; 64],
@@ -76,16 +77,45 @@ fn sound_step(x: Step, n: usize) -> bool
     false
 }
 
-// Whether all of the points are.
-pub fn sound(q: Queue, n: usize) -> bool
+// Whether it is the number of a plan's line.
+pub fn is_line(l: usize) -> bool
+    ensures { λ r. ⌜ r ≡ listedLine l ⌝ }
+{
+    if 1 <= l {
+        return l <= 1000000;
+    }
+    false
+}
+
+// Whether a step's line is one of a plan, of at most 256 bytes.
+fn listed_step(x: Step) -> bool
+    ensures { λ r. ⌜ r ≡ listedStep x ⌝ }
+{
+    if is_line(x.line) {
+        return x.width <= 256;
+    }
+    false
+}
+
+fn step_fits(x: Step, n: usize) -> bool
+    ensures { λ r. ⌜ r ≡ stepFits n x ⌝ }
+{
+    if sound_step(x, n) {
+        return listed_step(x);
+    }
+    false
+}
+
+// Whether all of the points are so.
+pub fn slots_fit(q: Queue, n: usize) -> bool
     requires { ⌜ q .count ≤ 64 ⌝ }
-    ensures { λ r. ⌜ r ≡ soundAll n (used q) ⌝ }
+    ensures { λ r. ⌜ r ≡ slotsFit n (used q) ⌝ }
 {
     let m = q.count;
     let mut i = 0;
     while i < m {
         let s = q.slots[i];
-        if !sound_step(s.step, n) {
+        if !step_fits(s.step, n) {
             return false;
         }
         i += 1;

@@ -1,3 +1,2 @@
 -- The line written.
 pub mod Wording
-pub mod Examples

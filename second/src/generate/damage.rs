@@ -126,6 +126,18 @@ fn group(tokens: &mut Vec<String>, random: &mut Random) {
     }
 }
 
+/// The problem's init or goal before the section that is due first.
+pub fn early(tokens: &mut Vec<String>, random: &mut Random) {
+    let section = *random.pick(&[":init", ":goal"]);
+    let place = |word: &str| tokens.iter().position(|token| token == word);
+    let (Some(first), Some(word)) = (place(":domain"), place(section)) else {
+        return;
+    };
+    let (open, end) = (word - 1, behind(tokens, word - 1));
+    let moved: Vec<String> = tokens.drain(open..end).collect();
+    tokens.splice(first - 1..first - 1, moved);
+}
+
 #[derive(Clone, Copy, PartialEq)]
 enum Sort {
     Variable,

@@ -218,6 +218,7 @@ fn summed(random: &mut Random) -> Case {
     match random.below(8) {
         0 => damage::text(&mut draft.problem, random),
         1 => damage::at_refusal(&mut draft, random),
+        2 => damage::early(&mut draft.problem, random),
         _ => {}
     }
     draft.laid_out(random)

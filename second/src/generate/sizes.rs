@@ -137,7 +137,11 @@ pub fn summed(random: &mut Random) -> World {
     while world.objects.len() < base {
         invent::add_object(&mut world, random);
     }
-    world.constants = random.below(base + 1);
+    // With every object a constant a sum is passed before the problem begins.
+    world.constants = match random.chance(25) {
+        true => base,
+        false => random.below(base + 1),
+    };
     let heads = powers(&world, &digits(total, base, arguments), random);
     if facts {
         world.predicates = heads;

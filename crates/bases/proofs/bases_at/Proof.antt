@@ -7,10 +7,10 @@ use lib.Seq.{sets}
 use borrow.Author.Needs.{needs}
 use Rattle.text.specs.Runs.{part}
 use Rattle.grammar.specs.Tables.{Table}
-use Rattle.grammar.specs.Problem.{firstOf}
+use Rattle.indexes.specs.Firsts.{firstOf}
 use Rattle.rows.specs.Held.{Holds}
 use Rattle.terms.specs.Scoped.{AllSigned}
-use Rattle.bases.specs.Bases.{basesFrom, basesOf}
+use Rattle.grammar.specs.Indexes.{basesFrom, basesOf}
 use Rattle.bases.proofs.Places.{bases-start, bases-step, bases-end}
 use Rattle.bases.proofs.bases_at.Statement.{statement}
 use Rattle.bases.proofs.bases_at.Tie as tie

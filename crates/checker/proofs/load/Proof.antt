@@ -2,7 +2,8 @@
 use mathlib.Core.Path.{_≡_}
 use lib.ListN.{length}
 use denote.Ref.{now}
-use Rattle.checker.proofs.Loading.{Declares, loaded-declares, facts-signed, numbers-signed, opened-refused, opened-loaded}
+use Rattle.domain.proofs.Declaring.{Declares, loaded-declares, facts-signed, numbers-signed}
+use Rattle.checker.proofs.Loading.{opened-refused, opened-loaded}
 use borrow.Author.Needs.{needs}
 use Rattle.checker.proofs.load.Statement.{statement}
 use Rattle.checker.proofs.load.Tie as tie

@@ -1,6 +1,6 @@
 -- `domain::fixed` meets its contract. Assumes nothing.
 use mathlib.Core.Path.{refl}
-use Rattle.init.specs.State.{noFacts, noNumbers}
+use Rattle.grammar.specs.First.{noFacts, noNumbers}
 use Rattle.domain.specs.Load.{fixedOf}
 use Rattle.domain.proofs.fixed.Statement.{statement}
 use Rattle.domain.proofs.fixed.Tie as tie

@@ -3,16 +3,16 @@ use mathlib.Core.Path.{refl, ap, _∙_}
 use denote.Ref.{now}
 use Prim.Native.Nat.{ℕ, _-_}
 use native.Mathlib.Omega.{arith}
-use Rattle.rows.specs.Held.{rowsOf, padded}
+use Rattle.rows.specs.Held.{rowsOf}
 use Rattle.grammar.specs.Problem.{scopeOf}
-use Rattle.init.specs.State.{noFacts, noNumbers}
+use Rattle.grammar.specs.First.{noFacts, noNumbers}
 use Rattle.premises.proofs.Judging.{predicates-signed, functions-signed}
 use Rattle.domain.specs.Load.{zeros}
 use Rattle.domain.proofs.Joined.{tables-are}
 use Rattle.domain.proofs.Loading.{understood, no-domain, no-problem, understands, same-model, both-loaded}
 use lib.Seq.{sets}
 use Rattle.terms.specs.declared.scope.Counts.{Counts}
-use Rattle.bases.specs.Bases.{basesOf}
+use Rattle.grammar.specs.Indexes.{basesOf, padded}
 use Rattle.premises.specs.Grounded.{withObjects}
 use Rattle.domains.specs.Knowing.{countsIn}
 use borrow.Author.Needs.{needs}

@@ -1,7 +1,8 @@
 -- `due::word_due` meets its contract. Assumes nothing.
-use mathlib.Core.Path.{sym, _∙_}
+use mathlib.Core.Path.{refl, sym, _∙_}
 use denote.Ref.{now}
 use Rattle.due.proofs.Dues.{word-else, word-read, word-other}
+use Rattle.text.proofs.Words.{word-is}
 use borrow.Author.Needs.{needs}
 use Rattle.due.proofs.word_due.Statement.{statement}
 use Rattle.due.proofs.word_due.Tie as tie
@@ -18,17 +19,17 @@ refusal-requires c κs = search needs
 returns : tie.Need-returns
 returns c = word-else (now (c .before .before .before .before .before .args .text)) (c .before .before .before .before .before .args .d) (c .before .before .before .before .before .args .from) (now (c .before .before .before .before .before .args .w)) (c .before .before .token-at .result) (c .refusal .result) (c .before .before .token-at .ensures) (c .before .match .keys2) (c .refusal .ensures)
 
-part-of-requires : tie.Need-part-of-requires
-part-of-requires c κs = search needs
+word-of-requires : tie.Need-word-of-requires
+word-of-requires c κs = search needs
 
 same-word-requires : tie.Need-same-word-requires
 same-word-requires c κs = search needs
 
 returns-2 : tie.Need-returns-2
-returns-2 c = word-read (now (c .before .before .before .before .before .before .before .before .before .args .text)) (c .before .before .before .before .before .before .before .before .before .args .d) (c .before .before .before .before .before .before .before .before .before .args .from) (now (c .before .before .before .before .before .before .before .before .before .args .w)) _ _ _ (c .before .before .before .before .before .before .before .before .before .pre) (sym (c .before .before .before .before .before .before .token-at .ensures) ∙ c .before .before .before .before .t .given .1) (rw (c .before .before .part-of .ensures) at (sym (c .before .same-word .ensures) ∙ c .if1 .taken))
+returns-2 c = word-read (now (c .before .before .before .before .before .before .before .before .before .args .text)) (c .before .before .before .before .before .before .before .before .before .args .d) (c .before .before .before .before .before .before .before .before .before .args .from) (now (c .before .before .before .before .before .before .before .before .before .args .w)) _ _ _ (c .before .before .before .before .before .before .before .before .before .pre) (sym (c .before .before .before .before .before .before .token-at .ensures) ∙ c .before .before .before .before .t .given .1) (rw (c .before .before .word-of .ensures ∙ word-is _ _ _ _ _ refl) at (sym (c .before .same-word .ensures) ∙ c .if1 .taken))
 
 returns-3 : tie.Need-returns-3
-returns-3 c = word-other (now (c .before .before .before .before .before .before .before .before .before .args .text)) (c .before .before .before .before .before .before .before .before .before .args .d) (c .before .before .before .before .before .before .before .before .before .args .from) (now (c .before .before .before .before .before .before .before .before .before .args .w)) _ _ _ (sym (c .before .before .before .before .before .before .token-at .ensures) ∙ c .before .before .before .before .t .given .1) (rw (c .before .before .part-of .ensures) at (sym (c .before .same-word .ensures) ∙ c .if1 .left))
+returns-3 c = word-other (now (c .before .before .before .before .before .before .before .before .before .args .text)) (c .before .before .before .before .before .before .before .before .before .args .d) (c .before .before .before .before .before .before .before .before .before .args .from) (now (c .before .before .before .before .before .before .before .before .before .args .w)) _ _ _ (sym (c .before .before .before .before .before .before .token-at .ensures) ∙ c .before .before .before .before .t .given .1) (rw (c .before .before .word-of .ensures ∙ word-is _ _ _ _ _ refl) at (sym (c .before .same-word .ensures) ∙ c .if1 .left))
 
 pub word-due-spec : {M : Type 1} → statement M
 word-due-spec =
@@ -38,7 +39,7 @@ word-due-spec =
     enum-known-t
     refusal-requires
     returns
-    part-of-requires
+    word-of-requires
     same-word-requires
     returns-2
     returns-3)

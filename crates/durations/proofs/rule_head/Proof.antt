@@ -1,8 +1,9 @@
 -- `durations::rule_head` meets its contract. Assumes nothing.
-use mathlib.Core.Path.{sym, _∙_}
+use mathlib.Core.Path.{refl, sym, _∙_}
 use denote.Ref.{now}
 use Rattle.words.specs.Bytes.{bytes}
 use Rattle.durations.proofs.Heads.{head-long, head-refused, head-else, head-equals, head-other}
+use Rattle.text.proofs.Words.{word-is}
 use borrow.Author.Needs.{needs}
 use Rattle.durations.proofs.rule_head.Statement.{statement}
 use Rattle.durations.proofs.rule_head.Tie as tie
@@ -25,8 +26,8 @@ refusal-requires c κs = search needs
 returns-3 : tie.Need-returns-3
 returns-3 c = head-else (now (c .before .before .before .before .args .text)) (c .before .before .before .before .args .t) (c .refusal .result) (c .before .before .match .keys2) (c .before .match2 .keys2) (c .refusal .ensures)
 
-part-of-requires : tie.Need-part-of-requires
-part-of-requires c κs = search needs
+word-of-requires : tie.Need-word-of-requires
+word-of-requires c κs = search needs
 
 slice-aggregate-same-word : tie.Need-slice-aggregate-same-word
 slice-aggregate-same-word c = search needs
@@ -36,11 +37,11 @@ same-word-requires c κs = search needs
 
 returns-4 : tie.Need-returns-4
 unfolding bytes
-returns-4 c = head-equals (now (c .before .before .before .before .before .before .before .before .before .args .text)) (c .before .before .before .before .before .before .before .before .before .args .t) _ _ _ (c .before .before .before .before .before .t2 .given .1) (rw (c .before .before .before .part-of .ensures) at (sym (c .before .same-word .ensures) ∙ c .if2 .taken))
+returns-4 c = head-equals (now (c .before .before .before .before .before .before .before .before .before .args .text)) (c .before .before .before .before .before .before .before .before .before .args .t) _ _ _ (c .before .before .before .before .before .t2 .given .1) (rw (c .before .before .before .word-of .ensures ∙ word-is _ _ _ _ _ refl) at (sym (c .before .same-word .ensures) ∙ c .if2 .taken))
 
 returns-5 : tie.Need-returns-5
 unfolding bytes
-returns-5 c = head-other (now (c .before .before .before .before .before .before .before .before .before .args .text)) (c .before .before .before .before .before .before .before .before .before .args .t) _ _ _ (c .before .before .before .before .before .t2 .given .1) (rw (c .before .before .before .part-of .ensures) at (sym (c .before .same-word .ensures) ∙ c .if2 .left))
+returns-5 c = head-other (now (c .before .before .before .before .before .before .before .before .before .args .text)) (c .before .before .before .before .before .before .before .before .before .args .t) _ _ _ (c .before .before .before .before .before .t2 .given .1) (rw (c .before .before .before .word-of .ensures ∙ word-is _ _ _ _ _ refl) at (sym (c .before .same-word .ensures) ∙ c .if2 .left))
 
 pub rule-head-spec : {M : Type 1} → statement M
 rule-head-spec =
@@ -52,7 +53,7 @@ rule-head-spec =
     enum-known-t-2
     refusal-requires
     returns-3
-    part-of-requires
+    word-of-requires
     slice-aggregate-same-word
     same-word-requires
     returns-4

@@ -4,7 +4,8 @@ use native.Mathlib.Omega.{arith}
 use denote.Ref.{now}
 use Rattle.due.specs.Answers.{Ahead}
 use Rattle.due.proofs.Dues.{ahead-done, ahead-refused}
-use Rattle.rows.specs.Held.{rowsOf, padded}
+use Rattle.rows.specs.Held.{rowsOf}
+use Rattle.grammar.specs.Indexes.{padded}
 use Rattle.lists.proofs.Outcomes.{outcome-done, outcome-refused}
 use Rattle.lists.proofs.Declaring.{signs-refused, signs-done}
 use Rattle.headers.proofs.Owning.{types-held, types-stand, owned, unowned}

@@ -4,7 +4,7 @@ use Prim.Native.Nat.{ℕ, _-_, _*_, _≤_}
 use native.Mathlib.Omega.{arith}
 use Rattle.text.specs.Runs.{part}
 use Rattle.grammar.specs.Tables.{Table}
-use Rattle.grammar.specs.Problem.{firstOf}
+use Rattle.indexes.specs.Firsts.{firstOf}
 use Rattle.rows.specs.Held.{Holds}
 use Rattle.terms.specs.Scoped.{AllSigned}
 use Rattle.terms.proofs.Wanted.{wanted-count, wanted-few}

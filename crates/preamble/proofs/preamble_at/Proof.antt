@@ -5,7 +5,8 @@ use denote.Ref.{now}
 use lib.ListN.{length}
 use Rattle.words.specs.Bytes.{bytes}
 use Rattle.due.proofs.Dues.{answer-done}
-use Rattle.rows.specs.Held.{rowsOf, padded}
+use Rattle.rows.specs.Held.{rowsOf}
+use Rattle.grammar.specs.Indexes.{padded}
 use Rattle.rows.proofs.Rows.{length-rows}
 use Rattle.preamble.proofs.Stored.{declares}
 use Rattle.preamble.proofs.Ways.{titled-in, untitled, flags-refused, onwards-done}

@@ -3,7 +3,6 @@ use mathlib.Core.Path.{refl, sym, ap, _∙_}
 use native.Mathlib.Omega.{arith}
 use denote.Ref.{now}
 use Rattle.words.specs.Bytes.{bytes}
-use Rattle.grammar.specs.Problem.{scopeOf}
 use Rattle.due.specs.Answers.{answerOf}
 use Rattle.due.proofs.Dues.{ahead-done, ahead-refused, answer-refused, any-named, name-refused}
 use Rattle.premises.proofs.Naming.{of-undue, of-unnamed, of-other, of-same, ahead-further, read-by, same-as}
@@ -25,7 +24,7 @@ enum-told c = search needs
 
 returns : tie.Need-returns
 unfolding bytes
-returns c = (λ d h e. c .enum-told .given .1 ∙ sym (ap answerOf (of-undue (now (c .before .before .before .before .before .before .before .args .text)) d (c .before .before .before .before .before .before .before .args .from) _ _ (answer-refused _ _ _ (sym (c .before .before .section-due .ensures .0 (scopeOf d (d .constants)) h) ∙ c .enum-told .given .1)))), ahead-refused _ _ _ _ _ (c .enum-told .given .1))
+returns c = (λ d e. c .enum-told .given .1 ∙ sym (ap answerOf (of-undue (now (c .before .before .before .before .before .before .args .text)) d (c .before .before .before .before .before .before .args .from) _ _ (answer-refused _ _ _ (sym (c .before .before .section-due .ensures .0) ∙ c .enum-told .given .1)))), ahead-refused _ _ _ _ _ (c .enum-told .given .1))
 
 any-name-requires : tie.Need-any-name-requires
 any-name-requires c κs = let a = ahead-done _ _ _ _ _ (c .before .s .given .1) (c .before .before .before .section-due .ensures .1) in a .1
@@ -38,7 +37,7 @@ enum-told-2 c = search needs
 
 returns-2 : tie.Need-returns-2
 unfolding bytes
-returns-2 c = (λ d h e. c .enum-told2 .given .1 ∙ sym (ap answerOf (of-unnamed (now (c .before .before .before .before .before .before .before .before .before .before .before .args .text)) d (c .before .before .before .before .before .before .before .before .before .before .before .args .from) _ _ (read-by _ _ _ _ (c .before .before .before .before .before .before .section-due .ensures .0 (scopeOf d (d .constants)) h) (c .before .before .before .before .s .given .1)) _ _ (name-refused _ _ _ (sym (c .before .before .any-name .ensures .0) ∙ c .enum-told2 .given .1)))), ahead-refused _ _ _ _ _ (c .enum-told2 .given .1))
+returns-2 c = (λ d e. c .enum-told2 .given .1 ∙ sym (ap answerOf (of-unnamed (now (c .before .before .before .before .before .before .before .before .before .before .args .text)) d (c .before .before .before .before .before .before .before .before .before .before .args .from) _ _ (read-by _ _ _ _ (c .before .before .before .before .before .before .section-due .ensures .0) (c .before .before .before .before .s .given .1)) _ _ (name-refused _ _ _ (sym (c .before .before .any-name .ensures .0) ∙ c .enum-told2 .given .1)))), ahead-refused _ _ _ _ _ (c .enum-told2 .given .1))
 
 part-of-requires : tie.Need-part-of-requires
 part-of-requires c κs = search needs
@@ -51,11 +50,11 @@ closing-requires c κs = let a = ahead-done _ _ _ _ _ (c .before .before .before
 
 returns-3 : tie.Need-returns-3
 unfolding bytes
-returns-3 c = let a = ahead-done _ _ _ _ _ (c .before .before .before .before .before .before .before .before .before .s .given .1) (c .before .before .before .before .before .before .before .before .before .before .before .section-due .ensures .1) in let b = ahead-done _ _ _ _ _ (c .before .before .before .before .before .n .given .1) (c .before .before .before .before .before .before .before .any-name .ensures .1) in (λ d h e. c .closing .ensures .0 ∙ sym (ap answerOf (of-same (now (c .before .before .before .before .before .before .before .before .before .before .before .before .before .before .before .before .args .text)) d (c .before .before .before .before .before .before .before .before .before .before .before .before .before .before .before .before .args .from) _ _ (read-by _ _ _ _ (c .before .before .before .before .before .before .before .before .before .before .before .section-due .ensures .0 (scopeOf d (d .constants)) h) (c .before .before .before .before .before .before .before .before .before .s .given .1)) _ _ (any-named _ _ _ _ _ (sym (c .before .before .before .before .before .before .before .any-name .ensures .0) ∙ c .before .before .before .before .before .n .given .1) .is) (same-as _ _ _ _ _ _ (c .before .before .same-word .ensures) (c .before .before .before .part-of .ensures) e (c .before .if1 .taken)))), ahead-further _ _ _ _ (omega arith) (c .closing .ensures .1))
+returns-3 c = let a = ahead-done _ _ _ _ _ (c .before .before .before .before .before .before .before .before .before .s .given .1) (c .before .before .before .before .before .before .before .before .before .before .before .section-due .ensures .1) in let b = ahead-done _ _ _ _ _ (c .before .before .before .before .before .n .given .1) (c .before .before .before .before .before .before .before .any-name .ensures .1) in (λ d e. c .closing .ensures .0 ∙ sym (ap answerOf (of-same (now (c .before .before .before .before .before .before .before .before .before .before .before .before .before .before .before .args .text)) d (c .before .before .before .before .before .before .before .before .before .before .before .before .before .before .before .args .from) _ _ (read-by _ _ _ _ (c .before .before .before .before .before .before .before .before .before .before .before .section-due .ensures .0) (c .before .before .before .before .before .before .before .before .before .s .given .1)) _ _ (any-named _ _ _ _ _ (sym (c .before .before .before .before .before .before .before .any-name .ensures .0) ∙ c .before .before .before .before .before .n .given .1) .is) (same-as _ _ _ _ _ _ (c .before .before .same-word .ensures) (c .before .before .before .part-of .ensures) e (c .before .if1 .taken)))), ahead-further _ _ _ _ (omega arith) (c .closing .ensures .1))
 
 returns-4 : tie.Need-returns-4
 unfolding bytes
-returns-4 c = (λ d h e. sym (ap answerOf (of-other (now (c .before .before .before .before .before .before .before .before .before .before .before .before .before .before .before .args .text)) d (c .before .before .before .before .before .before .before .before .before .before .before .before .before .before .before .args .from) _ _ (read-by _ _ _ _ (c .before .before .before .before .before .before .before .before .before .before .section-due .ensures .0 (scopeOf d (d .constants)) h) (c .before .before .before .before .before .before .before .before .s .given .1)) _ _ (any-named _ _ _ _ _ (sym (c .before .before .before .before .before .before .any-name .ensures .0) ∙ c .before .before .before .before .n .given .1) .is) (same-as _ _ _ _ _ _ (c .before .same-word .ensures) (c .before .before .part-of .ensures) e (c .if1 .left)))), ahead-refused _ _ _ _ _ refl)
+returns-4 c = (λ d e. sym (ap answerOf (of-other (now (c .before .before .before .before .before .before .before .before .before .before .before .before .before .before .args .text)) d (c .before .before .before .before .before .before .before .before .before .before .before .before .before .before .args .from) _ _ (read-by _ _ _ _ (c .before .before .before .before .before .before .before .before .before .before .section-due .ensures .0) (c .before .before .before .before .before .before .before .before .s .given .1)) _ _ (any-named _ _ _ _ _ (sym (c .before .before .before .before .before .before .any-name .ensures .0) ∙ c .before .before .before .before .n .given .1) .is) (same-as _ _ _ _ _ _ (c .before .same-word .ensures) (c .before .before .part-of .ensures) e (c .if1 .left)))), ahead-refused _ _ _ _ _ refl)
 
 pub of-domain-spec : {M : Type 1} → statement M
 of-domain-spec =

@@ -21,7 +21,7 @@ enum-known-h : tie.Need-enum-known-h
 enum-known-h c = search needs
 
 of-domain-requires : tie.Need-of-domain-requires
-of-domain-requires c κs = (titled-end _ _ _ _ _ (c .before .before .h .given .1) (c .before .before .before .before .heading-at .ensures .1), c .before .before .before .before .before .before .before .before .before .pre .0)
+of-domain-requires c κs = titled-end _ _ _ _ _ (c .before .h .given .1) (c .before .before .before .heading-at .ensures .1)
 
 enum-known-n : tie.Need-enum-known-n
 enum-known-n c = search needs
@@ -29,25 +29,22 @@ enum-known-n c = search needs
 enum-told : tie.Need-enum-told
 enum-told c = search needs
 
-same-length : tie.Need-same-length
-same-length c = search needs
-
 returns : tie.Need-returns
 unfolding bytes
-returns c = (λ d h e. grounded-refused _ _ _ d _ _ _ (before-domain (now (c .before .before .before .before .before .before .before .before .before .before .before .before .args .text)) d _ (headed _ _ _ _ (sym (c .before .before .before .before .before .before .before .heading-at .ensures .0) ∙ c .before .before .before .before .before .h .given .1)) _ _ (answer-refused _ _ _ (sym (c .before .before .of-domain .ensures .0 d h e) ∙ c .enum-told .given .1))) (c .enum-told .given .1), onwards-refused _ _ _ _ _ (c .enum-told .given .1))
+returns c = (λ d h e. grounded-refused _ _ _ d _ _ _ (before-domain (now (c .before .before .before .before .before .before .before .before .before .before .before .args .text)) d _ (headed _ _ _ _ (sym (c .before .before .before .before .before .before .heading-at .ensures .0) ∙ c .before .before .before .before .h .given .1)) _ _ (answer-refused _ _ _ (sym (c .before .before .of-domain .ensures .0 d e) ∙ c .enum-told .given .1))) (c .enum-told .given .1), onwards-refused _ _ _ _ _ (c .enum-told .given .1))
 
 objects-section-requires : tie.Need-objects-section-requires
-objects-section-requires c κs = let a = ahead-done _ _ _ _ _ (c .before .before .n .given .1) (c .before .before .before .before .of-domain .ensures .1) in (a .1, c .before .before .before .before .before .before .before .before .before .before .before .before .before .before .pre .0, c .before .before .before .before .before .before .before .before .before .before .before .before .before .before .pre .1)
+objects-section-requires c κs = let a = ahead-done _ _ _ _ _ (c .before .before .n .given .1) (c .before .before .before .before .of-domain .ensures .1) in (a .1, c .before .before .before .before .before .before .before .before .before .before .before .before .before .pre .0, c .before .before .before .before .before .before .before .before .before .before .before .before .before .pre .1)
 
 enum-known-h-2 : tie.Need-enum-known-h-2
 enum-known-h-2 c = search needs
 
-same-length-2 : tie.Need-same-length-2
-same-length-2 c = search needs
+same-length : tie.Need-same-length
+same-length c = search needs
 
 returns-2 : tie.Need-returns-2
 unfolding bytes
-returns-2 c = let x = (headed _ _ _ _ (sym (c .before .before .before .before .before .before .before .before .before .before .before .before .heading-at .ensures .0) ∙ c .before .before .before .before .before .before .before .before .before .before .h .given .1)) in let a = ahead-done _ _ _ _ _ (c .before .before .before .before .before .n .given .1) (c .before .before .before .before .before .before .before .of-domain .ensures .1) in (λ d h e. grounded-by _ _ _ d _ _ (behind-domain (now (c .before .before .before .before .before .before .before .before .before .before .before .before .before .before .before .before .before .args .text)) d _ x _ _ (answer-done _ _ _ (sym (c .before .before .before .before .before .before .before .of-domain .ensures .0 d h e) ∙ c .before .before .before .before .before .n .given .1))) (c .before .before .objects-section .ensures .0 d h), onwards-further _ _ _ _ (omega (arith, heading-past (now (c .before .before .before .before .before .before .before .before .before .before .before .before .before .before .before .before .before .args .text)) (bytes "problem") _ _ (x .is), a .0)) (c .before .before .objects-section .ensures .1))
+returns-2 c = let x = (headed _ _ _ _ (sym (c .before .before .before .before .before .before .before .before .before .before .before .heading-at .ensures .0) ∙ c .before .before .before .before .before .before .before .before .before .h .given .1)) in let a = ahead-done _ _ _ _ _ (c .before .before .before .before .before .n .given .1) (c .before .before .before .before .before .before .before .of-domain .ensures .1) in (λ d h e. grounded-by _ _ _ d _ _ (behind-domain (now (c .before .before .before .before .before .before .before .before .before .before .before .before .before .before .before .before .args .text)) d _ x _ _ (answer-done _ _ _ (sym (c .before .before .before .before .before .before .before .of-domain .ensures .0 d e) ∙ c .before .before .before .before .before .n .given .1))) (c .before .before .objects-section .ensures .0 d h), onwards-further _ _ _ _ (omega (arith, heading-past (now (c .before .before .before .before .before .before .before .before .before .before .before .before .before .before .before .before .args .text)) (bytes "problem") _ _ (x .is), a .0)) (c .before .before .objects-section .ensures .1))
 
 returns-3 : tie.Need-returns-3
 unfolding bytes
@@ -63,10 +60,9 @@ premises-at-spec =
     of-domain-requires
     enum-known-n
     enum-told
-    same-length
     returns
     objects-section-requires
     enum-known-h-2
-    same-length-2
+    same-length
     returns-2
     returns-3)

@@ -1,7 +1,8 @@
 -- `sections::flag_of` meets its contract. Assumes nothing.
-use mathlib.Core.Path.{sym, _∙_}
+use mathlib.Core.Path.{refl, sym, _∙_}
 use denote.Ref.{now}
 use Rattle.sections.proofs.Frames.{flag-long, flag-name, flag-refused, flag-else, flag-other, flag-carried, flag-missing}
+use Rattle.text.proofs.Words.{word-is}
 use borrow.Author.Needs.{needs}
 use Rattle.sections.proofs.flag_of.Statement.{statement}
 use Rattle.sections.proofs.flag_of.Tie as tie
@@ -36,17 +37,17 @@ enum-told c = search needs
 returns-5 : tie.Need-returns-5
 returns-5 c = flag-other (now (c .before .before .before .before .before .before .args .text)) (c .before .before .before .before .before .before .args .t) _ _ _ (c .before .before .t2 .given .1) (c .match3 .keys2)
 
-part-of-requires : tie.Need-part-of-requires
-part-of-requires c κs = search needs
+word-of-requires : tie.Need-word-of-requires
+word-of-requires c κs = search needs
 
 is-flag-requires : tie.Need-is-flag-requires
 is-flag-requires c κs = search needs
 
 returns-6 : tie.Need-returns-6
-returns-6 c = flag-carried (now (c .before .before .before .before .before .before .before .before .before .before .args .text)) (c .before .before .before .before .before .before .before .before .before .before .args .t) _ _ _ (c .before .before .before .before .before .before .t2 .given .1) (c .before .before .before .enum-told .given .1) (rw (c .before .before .part-of .ensures) at (sym (c .before .is-flag .ensures) ∙ c .if3 .taken))
+returns-6 c = flag-carried (now (c .before .before .before .before .before .before .before .before .before .before .args .text)) (c .before .before .before .before .before .before .before .before .before .before .args .t) _ _ _ (c .before .before .before .before .before .before .t2 .given .1) (c .before .before .before .enum-told .given .1) (rw (c .before .before .word-of .ensures ∙ word-is _ _ _ _ _ refl) at (sym (c .before .is-flag .ensures) ∙ c .if3 .taken))
 
 returns-7 : tie.Need-returns-7
-returns-7 c = flag-missing (now (c .before .before .before .before .before .before .before .before .before .before .args .text)) (c .before .before .before .before .before .before .before .before .before .before .args .t) _ _ _ (c .before .before .before .before .before .before .t2 .given .1) (c .before .before .before .enum-told .given .1) (rw (c .before .before .part-of .ensures) at (sym (c .before .is-flag .ensures) ∙ c .if3 .left))
+returns-7 c = flag-missing (now (c .before .before .before .before .before .before .before .before .before .before .args .text)) (c .before .before .before .before .before .before .before .before .before .before .args .t) _ _ _ (c .before .before .before .before .before .before .t2 .given .1) (c .before .before .before .enum-told .given .1) (rw (c .before .before .word-of .ensures ∙ word-is _ _ _ _ _ refl) at (sym (c .before .is-flag .ensures) ∙ c .if3 .left))
 
 pub flag-of-spec : {M : Type 1} → statement M
 flag-of-spec =
@@ -62,7 +63,7 @@ flag-of-spec =
     returns-4
     enum-told
     returns-5
-    part-of-requires
+    word-of-requires
     is-flag-requires
     returns-6
     returns-7)

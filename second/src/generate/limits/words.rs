@@ -102,6 +102,19 @@ pub fn sums(list: &mut List) {
             let passed = domain_text(&section.replace('@', "(zz)"));
             list.add("sum passed", 12, passed, problem_text(&sections));
         }
+        // Passed by the constants already: 12 at `:init`, else `:goal`, in its turn; before it 3.
+        let constants = format!("(:constants {objects})");
+        let passed = domain_text(&format!("{constants} {}", section.replace('@', "(zz)")));
+        for early in ["(^:init)", "(^:goal (and))"] {
+            let first = format!("(define (problem q) {early} (:domain d))\n");
+            list.add("section before its turn", 3, passed.clone(), first);
+            list.add(
+                "sum of constants passed",
+                12,
+                passed.clone(),
+                problem_text(early),
+            );
+        }
     }
 }
 

@@ -1,6 +1,6 @@
 -- `checker::forming::refused_check` meets its contract. Assumes nothing.
 use borrow.Author.Needs.{needs}
-use Rattle.init.specs.State.{noFacts, noNumbers}
+use Rattle.grammar.specs.First.{noFacts, noNumbers}
 use Rattle.feeding.specs.Feeding.{refusedIn}
 use Rattle.checker.specs.Calls.{refusedFrom}
 use Rattle.checker.proofs.Padding.{zeros-padded}

@@ -4,7 +4,7 @@ use mathlib.Core.Path.{_≡_}
 use native.Mathlib.Omega.{arith}
 use denote.Ref.{now}
 use lib.ListN.{take}
-use Rattle.rows.specs.Held.{padded}
+use Rattle.grammar.specs.Indexes.{padded}
 use Rattle.checker.proofs.Padding.{zeros-padded, padded-more}
 use Rattle.checker.proofs.forming.tidy_line.Statement.{statement}
 use Rattle.checker.proofs.forming.tidy_line.Tie as tie

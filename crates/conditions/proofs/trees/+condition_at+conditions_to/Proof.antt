@@ -1,5 +1,5 @@
--- The proof of the cycle of calls {condition_at, conditions_to}. The measure is twice the number of levels of brackets that are left,
--- and one more for a list. Assumes nothing.
+-- The proof of the cycle of calls {condition_at, conditions_to}. The measure is twice the number of bytes of the text that remain,
+-- and one more for a list, which calls the condition reader where it stands itself. Assumes nothing.
 use mathlib.Core.Path.{_≡_, refl, sym, _∙_}
 use mathlib.Core.Bool.{true}
 use denote.Ref.{now}
@@ -35,10 +35,10 @@ use Rattle.conditions.proofs.trees.+condition_at+conditions_to.{stateme
 use Rattle.conditions.proofs.trees.+condition_at+conditions_to.Tie.{close}
 
 abbrev μ-condition-at : Measures 3 condition-at-kinds.ps ℕ
-μ-condition-at κs a = 2 * a .1 .1 .0
+μ-condition-at κs a = 2 * (length (a .0 .now) - a .1 .0)
 
 abbrev μ-conditions-to : Measures 3 conditions-to-kinds.ps ℕ
-μ-conditions-to κs a = 2 * a .1 .1 .0 + 1
+μ-conditions-to κs a = 2 * (length (a .0 .now) - a .1 .0) + 1
 
 abbrev condition-at-at : ℕ → In 3 condition-at-kinds.ps
 condition-at-at t =
@@ -80,7 +80,7 @@ condition-at-add-conditions-to : (t : ℕ) → condition-at-lts.Need-add-conditi
 condition-at-add-conditions-to t c = omega (arith, c .before .before .before .before .before .before .before .before .before .before .before .before .pre .1 .2)
 
 condition-at-conditions-to-requires : (t : ℕ) → condition-at-lts.Need-conditions-to-requires (begun-at-reads.Asked, begun-at-reads.Learnt, put-reads.Asked, put-reads.Learnt, conditions-to-below t, conditions-to.Post, negation-at-reads.Asked, negation-at-reads.Learnt, atom-at-reads.Asked, atom-at-reads.Learnt, compared-at-reads.Asked, compared-at-reads.Learnt, progress-of-reads.Asked, progress-of-reads.Learnt) (condition-at-at t) condition-at.Post
-condition-at-conditions-to-requires t c κs = let w = and-place _ _ _ _ _ _ (c .before .before .before .before .before .before .h .given .1) (c .before .before .before .before .before .before .before .before .begun-at .ensures .1) in (omega (arith, c .before .before .before .before .before .before .before .before .before .before .before .before .pre .0, w .2), (w .1, c .before .before .before .before .before .before .before .before .before .before .before .before .pre .1 .1, omega (arith, w .0, w .1, c .before .before .before .before .before .before .before .before .before .before .before .before .pre .1 .2)))
+condition-at-conditions-to-requires t c κs = let w = and-place _ _ _ _ _ _ (c .before .before .before .before .before .before .h .given .1) (c .before .before .before .before .before .before .before .before .begun-at .ensures .1) in (omega (arith, c .before .before .before .before .before .before .before .before .before .before .before .before .pre .0, w .0, w .1), (w .1, c .before .before .before .before .before .before .before .before .before .before .before .before .pre .1 .1, omega (arith, w .0, w .1, c .before .before .before .before .before .before .before .before .before .before .before .before .pre .1 .2)))
 
 condition-at-enum-known-h-2 : (t : ℕ) → condition-at-lts.Need-enum-known-h-2 (begun-at-reads.Asked, begun-at-reads.Learnt, put-reads.Asked, put-reads.Learnt, conditions-to-below t, conditions-to.Post, negation-at-reads.Asked, negation-at-reads.Learnt, atom-at-reads.Asked, atom-at-reads.Learnt, compared-at-reads.Asked, compared-at-reads.Learnt, progress-of-reads.Asked, progress-of-reads.Learnt) (condition-at-at t) condition-at.Post
 condition-at-enum-known-h-2 t c = c .match .keys2
@@ -170,7 +170,7 @@ conditions-to-returns : (t : ℕ) → conditions-to-lts.Need-returns (token-at-r
 conditions-to-returns t c = let w = close-in (now (c .before .before .before .before .before .before .before .before .before .before .before .before .args .text)) (c .before .before .before .before .before .before .before .before .loop .at) (c .before .before .before .before .before .before .before .before .loop .inv .1) _ _ (sym (c .before .before .before .before .before .before .before .token-at .ensures) ∙ c .before .before .before .before .before .t .given .1) in (λ x k g q. onward-end (now (c .before .before .before .before .before .before .before .before .before .before .before .before .args .text)) (c .before .before .before .before .before .before .before .before .before .before .before .before .args .d) (condition (c .before .before .before .before .before .before .before .before .before .before .before .before .args .d) (now (c .before .before .before .before .before .before .before .before .before .before .before .before .args .text)) x) (c .before .before .before .before .before .before .before .before .before .before .before .before .args .from) (now (c .before .before .before .before .before .before .before .before .before .before .before .before .args .code)) (c .before .before .before .before .before .before .before .before .before .before .before .before .args .used) (c .before .before .before .before .before .before .before .before .before .before .before .before .args .left) (c .before .before .before .before .before .before .before .before .loop .code) (c .before .before .before .before .before .before .before .before .loop .at) (c .before .before .before .before .before .before .before .before .loop .u) (c .before .before .before .before .before .before .before .before .loop .l) (c .before .before .before .before .before .before .before .before .loop .inv .5 x g) k q _ _ _ (sym (c .before .before .before .before .before .before .before .token-at .ensures) ∙ c .before .before .before .before .before .t .given .1) (c .before .before .put .ensures), spent-done _ _ _ _ _ _ (omega (arith, w .0, c .before .before .before .before .before .before .before .before .loop .inv .0)) (w .1) (omega (arith, c .before .before .before .before .before .before .before .before .loop .inv .3)) (omega (arith, w .0, c .before .before .before .before .before .before .before .before .loop .inv .4)))
 
 conditions-to-condition-at-requires : (t : ℕ) → conditions-to-lts.Need-condition-at-requires (token-at-reads.Asked, token-at-reads.Learnt, put-reads.Asked, put-reads.Learnt, condition-at-below t, condition-at.Post) (conditions-to-at t) conditions-to.Post conditions-to-Inv-loop conditions-to-μ-loop
-conditions-to-condition-at-requires t c κs = (omega (arith, c .before .before .before .before .before .before .before .pre .0), (c .before .before .before .loop .inv .1, c .before .before .before .before .before .before .before .pre .1 .1, omega (arith, c .before .before .before .before .before .before .before .pre .1 .2, c .before .before .before .loop .inv .0, c .before .before .before .loop .inv .1, c .before .before .before .loop .inv .4)))
+conditions-to-condition-at-requires t c κs = (omega (arith, c .before .before .before .before .before .before .before .pre .0, c .before .before .before .loop .inv .0, c .before .before .before .loop .inv .1), (c .before .before .before .loop .inv .1, c .before .before .before .before .before .before .before .pre .1 .1, omega (arith, c .before .before .before .before .before .before .before .pre .1 .2, c .before .before .before .loop .inv .0, c .before .before .before .loop .inv .1, c .before .before .before .loop .inv .4)))
 
 conditions-to-enum-known-x : (t : ℕ) → conditions-to-lts.Need-enum-known-x (token-at-reads.Asked, token-at-reads.Learnt, put-reads.Asked, put-reads.Learnt, condition-at-below t, condition-at.Post) (conditions-to-at t) conditions-to.Post conditions-to-Inv-loop conditions-to-μ-loop
 conditions-to-enum-known-x t c = c .match2 .keys1

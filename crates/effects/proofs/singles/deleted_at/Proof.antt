@@ -9,6 +9,7 @@ use Rattle.expressions.specs.Codes.{passed}
 use Rattle.expressions.proofs.Ends.{written-refused, spent-refused}
 use Rattle.effects.proofs.Facts.{spent-from}
 use Rattle.effects.proofs.Deleting.{deleted-else, deleted-other, deleted-list, deleted-fact}
+use Rattle.text.proofs.Words.{word-is}
 use borrow.Author.Needs.{needs}
 use Rattle.effects.proofs.singles.deleted_at.Statement.{statement}
 use Rattle.effects.proofs.singles.deleted_at.Tie as tie
@@ -34,8 +35,8 @@ enum-told c = search needs
 returns-2 : tie.Need-returns-2
 returns-2 c = (λ x h. written-refused effectsCells _ _ _ _ _ 3 _ (deleted-other (now (c .before .before .before .before .before .before .before .before .args .text)) (c .before .before .before .before .before .before .before .before .args .d) x (c .before .before .before .before .before .before .before .before .args .left) (c .before .before .before .before .before .before .before .before .args .from) _ _ _ (sym (c .before .before .before .before .token-at .ensures) ∙ c .before .before .t .given .1) (c .match2 .keys2)) refl, spent-refused _ _ _ _ _ 3 _ refl)
 
-part-of-requires : tie.Need-part-of-requires
-part-of-requires c κs = search needs
+word-of-requires : tie.Need-word-of-requires
+word-of-requires c κs = search needs
 
 head-of-requires : tie.Need-head-of-requires
 head-of-requires c κs = search needs
@@ -44,7 +45,7 @@ enum-told-2 : tie.Need-enum-told-2
 enum-told-2 c = search needs
 
 returns-3 : tie.Need-returns-3
-returns-3 c = (λ x h. written-refused effectsCells _ _ _ _ _ 11 _ (deleted-list (now (c .before .before .before .before .before .before .before .before .before .before .before .before .before .args .text)) (c .before .before .before .before .before .before .before .before .before .before .before .before .before .args .d) x (c .before .before .before .before .before .before .before .before .before .before .before .before .before .args .left) (c .before .before .before .before .before .before .before .before .before .before .before .before .before .args .from) _ _ _ (sym (c .before .before .before .before .before .before .before .before .before .token-at .ensures) ∙ c .before .before .before .before .before .before .before .t .given .1) (c .before .before .before .before .enum-told .given .1) (rw (c .before .before .head-of .ensures, c .before .before .before .part-of .ensures) at (c .enum-told2 .given .1))) refl, spent-refused _ _ _ _ _ 11 _ refl)
+returns-3 c = (λ x h. written-refused effectsCells _ _ _ _ _ 11 _ (deleted-list (now (c .before .before .before .before .before .before .before .before .before .before .before .before .before .args .text)) (c .before .before .before .before .before .before .before .before .before .before .before .before .before .args .d) x (c .before .before .before .before .before .before .before .before .before .before .before .before .before .args .left) (c .before .before .before .before .before .before .before .before .before .before .before .before .before .args .from) _ _ _ (sym (c .before .before .before .before .before .before .before .before .before .token-at .ensures) ∙ c .before .before .before .before .before .before .before .t .given .1) (c .before .before .before .before .enum-told .given .1) (rw (c .before .before .head-of .ensures, (c .before .before .before .word-of .ensures ∙ word-is _ _ _ _ _ refl)) at (c .enum-told2 .given .1))) refl, spent-refused _ _ _ _ _ 11 _ refl)
 
 becomes-at-requires : tie.Need-becomes-at-requires
 becomes-at-requires c κs = let w = word-in (now (c .before .before .before .before .before .before .before .before .before .before .before .before .before .args .text)) (c .before .before .before .before .before .before .before .before .before .before .before .before .before .args .from) (c .before .before .before .before .before .before .before .before .before .before .before .before .before .pre .0) _ _ _ (sym (c .before .before .before .before .before .before .before .before .before .token-at .ensures) ∙ c .before .before .before .before .before .before .before .t .given .1) in (w .2, c .before .before .before .before .before .before .before .before .before .before .before .before .before .pre .1, omega arith, omega (arith, w .0, w .1, w .2, c .before .before .before .before .before .before .before .before .before .before .before .before .before .pre .2))
@@ -53,7 +54,7 @@ same-length : tie.Need-same-length
 same-length c = search needs
 
 returns-4 : tie.Need-returns-4
-returns-4 c = let w = word-in (now (c .before .before .before .before .before .before .before .before .before .before .before .before .before .before .before .before .args .text)) (c .before .before .before .before .before .before .before .before .before .before .before .before .before .before .before .before .args .from) (c .before .before .before .before .before .before .before .before .before .before .before .before .before .before .before .before .pre .0) _ _ _ (sym (c .before .before .before .before .before .before .before .before .before .before .before .before .token-at .ensures) ∙ c .before .before .before .before .before .before .before .before .before .before .t .given .1) in (λ x h. rw (deleted-fact (now (c .before .before .before .before .before .before .before .before .before .before .before .before .before .before .before .before .args .text)) (c .before .before .before .before .before .before .before .before .before .before .before .before .before .before .before .before .args .d) x (c .before .before .before .before .before .before .before .before .before .before .before .before .before .before .before .before .args .left) (c .before .before .before .before .before .before .before .before .before .before .before .before .before .before .before .before .args .from) _ _ _ (sym (c .before .before .before .before .before .before .before .before .before .before .before .before .token-at .ensures) ∙ c .before .before .before .before .before .before .before .before .before .before .t .given .1) (c .before .before .before .before .before .before .before .enum-told .given .1) (rw (c .before .before .before .before .before .head-of .ensures, c .before .before .before .before .before .before .part-of .ensures) at (c .before .before .before .before .match3 .keys2))) (c .before .before .becomes-at .ensures .0 x false h refl), spent-from (c .before .before .becomes-at .result) _ _ _ _ _ _ _ (omega (arith, w .0, w .1)) (omega arith) (omega (arith, w .0, w .1)) (c .before .before .becomes-at .ensures .1))
+returns-4 c = let w = word-in (now (c .before .before .before .before .before .before .before .before .before .before .before .before .before .before .before .before .args .text)) (c .before .before .before .before .before .before .before .before .before .before .before .before .before .before .before .before .args .from) (c .before .before .before .before .before .before .before .before .before .before .before .before .before .before .before .before .pre .0) _ _ _ (sym (c .before .before .before .before .before .before .before .before .before .before .before .before .token-at .ensures) ∙ c .before .before .before .before .before .before .before .before .before .before .t .given .1) in (λ x h. rw (deleted-fact (now (c .before .before .before .before .before .before .before .before .before .before .before .before .before .before .before .before .args .text)) (c .before .before .before .before .before .before .before .before .before .before .before .before .before .before .before .before .args .d) x (c .before .before .before .before .before .before .before .before .before .before .before .before .before .before .before .before .args .left) (c .before .before .before .before .before .before .before .before .before .before .before .before .before .before .before .before .args .from) _ _ _ (sym (c .before .before .before .before .before .before .before .before .before .before .before .before .token-at .ensures) ∙ c .before .before .before .before .before .before .before .before .before .before .t .given .1) (c .before .before .before .before .before .before .before .enum-told .given .1) (rw (c .before .before .before .before .before .head-of .ensures, (c .before .before .before .before .before .before .word-of .ensures ∙ word-is _ _ _ _ _ refl)) at (c .before .before .before .before .match3 .keys2))) (c .before .before .becomes-at .ensures .0 x false h refl), spent-from (c .before .before .becomes-at .result) _ _ _ _ _ _ _ (omega (arith, w .0, w .1)) (omega arith) (omega (arith, w .0, w .1)) (c .before .before .becomes-at .ensures .1))
 
 pub deleted-at-spec : {M : Type 1} → statement M
 deleted-at-spec =
@@ -66,7 +67,7 @@ deleted-at-spec =
     returns
     enum-told
     returns-2
-    part-of-requires
+    word-of-requires
     head-of-requires
     enum-told-2
     returns-3

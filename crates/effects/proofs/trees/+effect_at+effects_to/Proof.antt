@@ -1,5 +1,5 @@
--- The proof of the cycle of calls {effect_at, effects_to}. The measure is the number of levels of brackets that are left, twice;
--- a list has one more than its effects. Assumes nothing.
+-- The proof of the cycle of calls {effect_at, effects_to}. The measure is twice the number of bytes of the text that remain,
+-- and one more for a list, which calls the effect reader where it stands itself. Assumes nothing.
 use mathlib.Core.Path.{_≡_, refl, sym, _∙_}
 use mathlib.Core.Bool.{true}
 use lib.ListN.{length}
@@ -34,10 +34,10 @@ use Rattle.effects.proofs.trees.+effect_at+effects_to.{statement}
 use Rattle.effects.proofs.trees.+effect_at+effects_to.Tie.{close}
 
 abbrev μ-effect-at : Measures 3 effect-at-kinds.ps ℕ
-μ-effect-at κs a = 2 * a .1 .1 .0
+μ-effect-at κs a = 2 * (length (a .0 .now) - a .1 .0)
 
 abbrev μ-effects-to : Measures 3 effects-to-kinds.ps ℕ
-μ-effects-to κs a = 2 * a .1 .1 .0 + 1
+μ-effects-to κs a = 2 * (length (a .0 .now) - a .1 .0) + 1
 
 abbrev effect-at-at : ℕ → In 3 effect-at-kinds.ps
 effect-at-at t = and 3 effect-at-kinds.ps (is 3 effect-at-kinds.ps μ-effect-at t) effect-at.Pre
@@ -64,7 +64,7 @@ effect-at-sub-effects-to : (t : ℕ) → effect-at-lts.Need-sub-effects-to (begu
 effect-at-sub-effects-to t c = let w = all-place _ _ _ _ _ (c .before .b .given .1) (c .before .before .before .begun-at .ensures .1) in omega (arith, w .2)
 
 effect-at-effects-to-requires : (t : ℕ) → effect-at-lts.Need-effects-to-requires (begun-at-reads.Asked, begun-at-reads.Learnt, effects-to-below t, effects-to.Post, deletion-at-reads.Asked, deletion-at-reads.Learnt, change-at-reads.Asked, change-at-reads.Learnt, becomes-at-reads.Asked, becomes-at-reads.Learnt, progress-of-reads.Asked, progress-of-reads.Learnt) (effect-at-at t) effect-at.Post
-effect-at-effects-to-requires t c κs = let w = all-place _ _ _ _ _ (c .before .before .b .given .1) (c .before .before .before .before .begun-at .ensures .1) in (omega (arith, c .before .before .before .before .before .before .before .before .pre .0, w .2), (w .1, c .before .before .before .before .before .before .before .before .pre .1 .1, omega (arith, w .0, w .1, c .before .before .before .before .before .before .before .before .pre .1 .2)))
+effect-at-effects-to-requires t c κs = let w = all-place _ _ _ _ _ (c .before .before .b .given .1) (c .before .before .before .before .begun-at .ensures .1) in (omega (arith, c .before .before .before .before .before .before .before .before .pre .0, w .0, w .1), (w .1, c .before .before .before .before .before .before .before .before .pre .1 .1, omega (arith, w .0, w .1, c .before .before .before .before .before .before .before .before .pre .1 .2)))
 
 effect-at-enum-known-b-2 : (t : ℕ) → effect-at-lts.Need-enum-known-b-2 (begun-at-reads.Asked, begun-at-reads.Learnt, effects-to-below t, effects-to.Post, deletion-at-reads.Asked, deletion-at-reads.Learnt, change-at-reads.Asked, change-at-reads.Learnt, becomes-at-reads.Asked, becomes-at-reads.Learnt, progress-of-reads.Asked, progress-of-reads.Learnt) (effect-at-at t) effect-at.Post
 effect-at-enum-known-b-2 t c = c .match .keys2
@@ -148,7 +148,7 @@ effects-to-returns : (t : ℕ) → effects-to-lts.Need-returns (token-at-reads.A
 effects-to-returns t c = let w = close-in (now (c .before .before .before .before .before .before .before .before .args .text)) (c .before .before .before .before .loop .at) (c .before .before .before .before .loop .inv .1) _ _ (sym (c .before .before .before .token-at .ensures) ∙ c .before .t .given .1) in (λ x k h q. onward-closed (now (c .before .before .before .before .before .before .before .before .args .text)) (c .before .before .before .before .before .before .before .before .args .d) (effect (c .before .before .before .before .before .before .before .before .args .d) (now (c .before .before .before .before .before .before .before .before .args .text)) x) (now (c .before .before .before .before .before .before .before .before .args .code)) (c .before .before .before .before .before .before .before .before .args .used) (c .before .before .before .before .before .before .before .before .args .left) (c .before .before .before .before .before .before .before .before .args .from) k (c .before .before .before .before .loop .code) (c .before .before .before .before .loop .u) (c .before .before .before .before .loop .n) (c .before .before .before .before .loop .at) (c .before .before .before .before .loop .inv .5 x k h q) _ _ (sym (c .before .before .before .token-at .ensures) ∙ c .before .t .given .1), spent-done _ _ _ _ _ _ (omega (arith, w .0, c .before .before .before .before .loop .inv .0)) (w .1) (c .before .before .before .before .loop .inv .3) (omega (arith, c .before .before .before .before .loop .inv .4, w .0)))
 
 effects-to-effect-at-requires : (t : ℕ) → effects-to-lts.Need-effect-at-requires (token-at-reads.Asked, token-at-reads.Learnt, effect-at-below t, effect-at.Post) (effects-to-at t) effects-to.Post effects-to-Inv-loop effects-to-μ-loop
-effects-to-effect-at-requires t c κs = (omega (arith, c .before .before .before .before .before .before .before .pre .0), (c .before .before .before .loop .inv .1, c .before .before .before .before .before .before .before .pre .1 .1, omega (arith, c .before .before .before .loop .inv .0, c .before .before .before .loop .inv .1, c .before .before .before .loop .inv .4, c .before .before .before .before .before .before .before .pre .1 .2)))
+effects-to-effect-at-requires t c κs = (omega (arith, c .before .before .before .before .before .before .before .pre .0, c .before .before .before .loop .inv .0, c .before .before .before .loop .inv .1), (c .before .before .before .loop .inv .1, c .before .before .before .before .before .before .before .pre .1 .1, omega (arith, c .before .before .before .loop .inv .0, c .before .before .before .loop .inv .1, c .before .before .before .loop .inv .4, c .before .before .before .before .before .before .before .pre .1 .2)))
 
 effects-to-enum-known-x : (t : ℕ) → effects-to-lts.Need-enum-known-x (token-at-reads.Asked, token-at-reads.Learnt, effect-at-below t, effect-at.Post) (effects-to-at t) effects-to.Post effects-to-Inv-loop effects-to-μ-loop
 effects-to-enum-known-x t c = c .match2 .keys1

@@ -5,13 +5,14 @@ use borrow.Author.Needs.{needs}
 use Rattle.codes.specs.Decode.{exprAt}
 use Rattle.grounds.specs.Grounded.{objectsIn, groundsIn}
 use Rattle.evaluation.proofs.Shapes.{expr-none, expr-past, expr-leaf, expr-minus, expr-less, expr-plus}
-use Rattle.evaluation.proofs.Valuing.{zero-ranged, valued-ranged, value-none, value-same, value-minus, value-less, value-plus}
+use Rattle.evaluation.proofs.Valuing.{valued-ranged, value-none, value-same, value-minus, value-less, value-plus}
 use Prim.Native.Nat.{ℕ, _<_}
 use borrow.Fn.Kinds.{In}
 use borrow.Fn.PlainCycle.{Measures, is, falls, and}
 use Rattle.evaluation.proofs.values.expr.Reads as expr
 use Rattle.evaluation.proofs.values.expr.Kinds as expr-kinds
 use Rattle.evaluation.proofs.values.+expr.Lts-expr as expr-lts
+use Rattle.amounts.proofs.minus.Reads as minus-reads
 use Rattle.amounts.proofs.less.Reads as less-reads
 use Rattle.amounts.proofs.plus.Reads as plus-reads
 use Rattle.evaluation.proofs.values.leaf.Reads as leaf-reads
@@ -35,6 +36,8 @@ expr-returns : (t : ℕ) → expr-lts.Need-returns (
   leaf-reads.Learnt,
   expr-below t,
   expr.Post,
+  minus-reads.Asked,
+  minus-reads.Learnt,
   less-reads.Asked,
   less-reads.Learnt,
   plus-reads.Asked,
@@ -49,6 +52,8 @@ expr-returns-2 : (t : ℕ) → expr-lts.Need-returns-2 (
   leaf-reads.Learnt,
   expr-below t,
   expr.Post,
+  minus-reads.Asked,
+  minus-reads.Learnt,
   less-reads.Asked,
   less-reads.Learnt,
   plus-reads.Asked,
@@ -63,6 +68,8 @@ expr-cell-requires : (t : ℕ) → expr-lts.Need-cell-requires (
   leaf-reads.Learnt,
   expr-below t,
   expr.Post,
+  minus-reads.Asked,
+  minus-reads.Learnt,
   less-reads.Asked,
   less-reads.Learnt,
   plus-reads.Asked,
@@ -77,6 +84,8 @@ expr-leaf-requires : (t : ℕ) → expr-lts.Need-leaf-requires (
   leaf-reads.Learnt,
   expr-below t,
   expr.Post,
+  minus-reads.Asked,
+  minus-reads.Learnt,
   less-reads.Asked,
   less-reads.Learnt,
   plus-reads.Asked,
@@ -91,6 +100,8 @@ expr-returns-3 : (t : ℕ) → expr-lts.Need-returns-3 (
   leaf-reads.Learnt,
   expr-below t,
   expr.Post,
+  minus-reads.Asked,
+  minus-reads.Learnt,
   less-reads.Asked,
   less-reads.Learnt,
   plus-reads.Asked,
@@ -105,6 +116,8 @@ expr-add-expr : (t : ℕ) → expr-lts.Need-add-expr (
   leaf-reads.Learnt,
   expr-below t,
   expr.Post,
+  minus-reads.Asked,
+  minus-reads.Learnt,
   less-reads.Asked,
   less-reads.Learnt,
   plus-reads.Asked,
@@ -119,6 +132,8 @@ expr-sub-expr : (t : ℕ) → expr-lts.Need-sub-expr (
   leaf-reads.Learnt,
   expr-below t,
   expr.Post,
+  minus-reads.Asked,
+  minus-reads.Learnt,
   less-reads.Asked,
   less-reads.Learnt,
   plus-reads.Asked,
@@ -133,6 +148,8 @@ expr-expr-requires : (t : ℕ) → expr-lts.Need-expr-requires (
   leaf-reads.Learnt,
   expr-below t,
   expr.Post,
+  minus-reads.Asked,
+  minus-reads.Learnt,
   less-reads.Asked,
   less-reads.Learnt,
   plus-reads.Asked,
@@ -140,19 +157,21 @@ expr-expr-requires : (t : ℕ) → expr-lts.Need-expr-requires (
 ) (expr-at t) expr.Post
 expr-expr-requires t c κs = (omega arith, search needs)
 
-expr-less-requires : (t : ℕ) → expr-lts.Need-less-requires (
+expr-minus-requires : (t : ℕ) → expr-lts.Need-minus-requires (
   cell-reads.Asked,
   cell-reads.Learnt,
   leaf-reads.Asked,
   leaf-reads.Learnt,
   expr-below t,
   expr.Post,
+  minus-reads.Asked,
+  minus-reads.Learnt,
   less-reads.Asked,
   less-reads.Learnt,
   plus-reads.Asked,
   plus-reads.Learnt,
 ) (expr-at t) expr.Post
-expr-less-requires t c κs = (zero-ranged, valued-ranged (groundsIn (c .before .before .before .before .before .before .before .before .args .firsts .now)) (c .before .before .before .before .before .before .before .before .args .numbers .now) (objectsIn (c .before .before .before .before .before .before .before .before .args .who)) (exprAt (c .before .before .before .before .before .before .before .before .args .depth - 1) (c .before .before .before .before .before .before .before .before .args .code .now) (c .before .before .before .before .before .before .before .before .args .at + 1)) (c .before .expr .ensures))
+expr-minus-requires t c κs = valued-ranged (groundsIn (c .before .before .before .before .before .before .before .before .args .firsts .now)) (c .before .before .before .before .before .before .before .before .args .numbers .now) (objectsIn (c .before .before .before .before .before .before .before .before .args .who)) (exprAt (c .before .before .before .before .before .before .before .before .args .depth - 1) (c .before .before .before .before .before .before .before .before .args .code .now) (c .before .before .before .before .before .before .before .before .args .at + 1)) (c .before .expr .ensures)
 
 expr-returns-4 : (t : ℕ) → expr-lts.Need-returns-4 (
   cell-reads.Asked,
@@ -161,12 +180,14 @@ expr-returns-4 : (t : ℕ) → expr-lts.Need-returns-4 (
   leaf-reads.Learnt,
   expr-below t,
   expr.Post,
+  minus-reads.Asked,
+  minus-reads.Learnt,
   less-reads.Asked,
   less-reads.Learnt,
   plus-reads.Asked,
   plus-reads.Learnt,
 ) (expr-at t) expr.Post
-expr-returns-4 t c = value-minus (groundsIn (c .before .before .before .before .before .before .before .before .before .args .firsts .now)) (c .before .before .before .before .before .before .before .before .before .args .numbers .now) (objectsIn (c .before .before .before .before .before .before .before .before .before .args .who)) (exprAt (c .before .before .before .before .before .before .before .before .before .args .depth - 1) (c .before .before .before .before .before .before .before .before .before .args .code .now) (c .before .before .before .before .before .before .before .before .before .args .at + 1)) (expr-minus (c .before .before .before .before .before .before .before .before .before .args .code .now) (c .before .before .before .before .before .before .before .before .before .args .at) (c .before .before .before .before .before .before .before .before .before .args .depth) (c .before .before .before .before .before .before .if1 .left) (omega arith) (c .before .before .before .before .cell .ensures .0) (c .before .if4 .taken)) (c .before .before .expr .ensures) (c .less .ensures)
+expr-returns-4 t c = value-minus (groundsIn (c .before .before .before .before .before .before .before .before .before .args .firsts .now)) (c .before .before .before .before .before .before .before .before .before .args .numbers .now) (objectsIn (c .before .before .before .before .before .before .before .before .before .args .who)) (exprAt (c .before .before .before .before .before .before .before .before .before .args .depth - 1) (c .before .before .before .before .before .before .before .before .before .args .code .now) (c .before .before .before .before .before .before .before .before .before .args .at + 1)) (expr-minus (c .before .before .before .before .before .before .before .before .before .args .code .now) (c .before .before .before .before .before .before .before .before .before .args .at) (c .before .before .before .before .before .before .before .before .before .args .depth) (c .before .before .before .before .before .before .if1 .left) (omega arith) (c .before .before .before .before .cell .ensures .0) (c .before .if4 .taken)) (c .before .before .expr .ensures) (c .minus .ensures)
 
 expr-sub-expr-2 : (t : ℕ) → expr-lts.Need-sub-expr-2 (
   cell-reads.Asked,
@@ -175,6 +196,8 @@ expr-sub-expr-2 : (t : ℕ) → expr-lts.Need-sub-expr-2 (
   leaf-reads.Learnt,
   expr-below t,
   expr.Post,
+  minus-reads.Asked,
+  minus-reads.Learnt,
   less-reads.Asked,
   less-reads.Learnt,
   plus-reads.Asked,
@@ -189,6 +212,8 @@ expr-expr-requires-2 : (t : ℕ) → expr-lts.Need-expr-requires-2 (
   leaf-reads.Learnt,
   expr-below t,
   expr.Post,
+  minus-reads.Asked,
+  minus-reads.Learnt,
   less-reads.Asked,
   less-reads.Learnt,
   plus-reads.Asked,
@@ -196,19 +221,21 @@ expr-expr-requires-2 : (t : ℕ) → expr-lts.Need-expr-requires-2 (
 ) (expr-at t) expr.Post
 expr-expr-requires-2 t c κs = (omega arith, search needs)
 
-expr-less-requires-2 : (t : ℕ) → expr-lts.Need-less-requires-2 (
+expr-less-requires : (t : ℕ) → expr-lts.Need-less-requires (
   cell-reads.Asked,
   cell-reads.Learnt,
   leaf-reads.Asked,
   leaf-reads.Learnt,
   expr-below t,
   expr.Post,
+  minus-reads.Asked,
+  minus-reads.Learnt,
   less-reads.Asked,
   less-reads.Learnt,
   plus-reads.Asked,
   plus-reads.Learnt,
 ) (expr-at t) expr.Post
-expr-less-requires-2 t c κs = (valued-ranged (groundsIn (c .before .before .before .before .before .before .before .before .before .before .args .firsts .now)) (c .before .before .before .before .before .before .before .before .before .before .args .numbers .now) (objectsIn (c .before .before .before .before .before .before .before .before .before .before .args .who)) (exprAt (c .before .before .before .before .before .before .before .before .before .before .args .depth - 1) (c .before .before .before .before .before .before .before .before .before .before .args .code .now) (c .before .before .before .before .before .before .before .before .before .before .args .at + 1)) (c .before .before .before .expr .ensures), valued-ranged (groundsIn (c .before .before .before .before .before .before .before .before .before .before .args .firsts .now)) (c .before .before .before .before .before .before .before .before .before .before .args .numbers .now) (objectsIn (c .before .before .before .before .before .before .before .before .before .before .args .who)) (exprAt (c .before .before .before .before .before .before .before .before .before .before .args .depth - 1) (c .before .before .before .before .before .before .before .before .before .before .args .code .now) (c .before .before .before .expr .result .next)) (c .before .expr2 .ensures))
+expr-less-requires t c κs = (valued-ranged (groundsIn (c .before .before .before .before .before .before .before .before .before .before .args .firsts .now)) (c .before .before .before .before .before .before .before .before .before .before .args .numbers .now) (objectsIn (c .before .before .before .before .before .before .before .before .before .before .args .who)) (exprAt (c .before .before .before .before .before .before .before .before .before .before .args .depth - 1) (c .before .before .before .before .before .before .before .before .before .before .args .code .now) (c .before .before .before .before .before .before .before .before .before .before .args .at + 1)) (c .before .before .before .expr .ensures), valued-ranged (groundsIn (c .before .before .before .before .before .before .before .before .before .before .args .firsts .now)) (c .before .before .before .before .before .before .before .before .before .before .args .numbers .now) (objectsIn (c .before .before .before .before .before .before .before .before .before .before .args .who)) (exprAt (c .before .before .before .before .before .before .before .before .before .before .args .depth - 1) (c .before .before .before .before .before .before .before .before .before .before .args .code .now) (c .before .before .before .expr .result .next)) (c .before .expr2 .ensures))
 
 expr-returns-5 : (t : ℕ) → expr-lts.Need-returns-5 (
   cell-reads.Asked,
@@ -217,12 +244,14 @@ expr-returns-5 : (t : ℕ) → expr-lts.Need-returns-5 (
   leaf-reads.Learnt,
   expr-below t,
   expr.Post,
+  minus-reads.Asked,
+  minus-reads.Learnt,
   less-reads.Asked,
   less-reads.Learnt,
   plus-reads.Asked,
   plus-reads.Learnt,
 ) (expr-at t) expr.Post
-expr-returns-5 t c = value-less (groundsIn (c .before .before .before .before .before .before .before .before .before .before .before .args .firsts .now)) (c .before .before .before .before .before .before .before .before .before .before .before .args .numbers .now) (objectsIn (c .before .before .before .before .before .before .before .before .before .before .before .args .who)) (exprAt (c .before .before .before .before .before .before .before .before .before .before .before .args .depth - 1) (c .before .before .before .before .before .before .before .before .before .before .before .args .code .now) (c .before .before .before .before .before .before .before .before .before .before .before .args .at + 1)) (exprAt (c .before .before .before .before .before .before .before .before .before .before .before .args .depth - 1) (c .before .before .before .before .before .before .before .before .before .before .before .args .code .now)) (expr-less (c .before .before .before .before .before .before .before .before .before .before .before .args .code .now) (c .before .before .before .before .before .before .before .before .before .before .before .args .at) (c .before .before .before .before .before .before .before .before .before .before .before .args .depth) (c .before .before .before .before .before .before .before .before .if1 .left) (omega arith) (c .before .before .before .before .before .before .cell .ensures .0) (c .before .if5 .taken)) (c .before .before .before .before .expr .ensures) (c .before .before .expr2 .ensures) (c .less2 .ensures)
+expr-returns-5 t c = value-less (groundsIn (c .before .before .before .before .before .before .before .before .before .before .before .args .firsts .now)) (c .before .before .before .before .before .before .before .before .before .before .before .args .numbers .now) (objectsIn (c .before .before .before .before .before .before .before .before .before .before .before .args .who)) (exprAt (c .before .before .before .before .before .before .before .before .before .before .before .args .depth - 1) (c .before .before .before .before .before .before .before .before .before .before .before .args .code .now) (c .before .before .before .before .before .before .before .before .before .before .before .args .at + 1)) (exprAt (c .before .before .before .before .before .before .before .before .before .before .before .args .depth - 1) (c .before .before .before .before .before .before .before .before .before .before .before .args .code .now)) (expr-less (c .before .before .before .before .before .before .before .before .before .before .before .args .code .now) (c .before .before .before .before .before .before .before .before .before .before .before .args .at) (c .before .before .before .before .before .before .before .before .before .before .before .args .depth) (c .before .before .before .before .before .before .before .before .if1 .left) (omega arith) (c .before .before .before .before .before .before .cell .ensures .0) (c .before .if5 .taken)) (c .before .before .before .before .expr .ensures) (c .before .before .expr2 .ensures) (c .less .ensures)
 
 expr-plus-requires : (t : ℕ) → expr-lts.Need-plus-requires (
   cell-reads.Asked,
@@ -231,6 +260,8 @@ expr-plus-requires : (t : ℕ) → expr-lts.Need-plus-requires (
   leaf-reads.Learnt,
   expr-below t,
   expr.Post,
+  minus-reads.Asked,
+  minus-reads.Learnt,
   less-reads.Asked,
   less-reads.Learnt,
   plus-reads.Asked,
@@ -245,6 +276,8 @@ expr-returns-6 : (t : ℕ) → expr-lts.Need-returns-6 (
   leaf-reads.Learnt,
   expr-below t,
   expr.Post,
+  minus-reads.Asked,
+  minus-reads.Learnt,
   less-reads.Asked,
   less-reads.Learnt,
   plus-reads.Asked,
@@ -260,6 +293,8 @@ pub +expr-spec : {M : Type 1} → statement M
   leaf-reads.Learnt,
   expr-below t,
   expr.Post,
+  minus-reads.Asked,
+  minus-reads.Learnt,
   less-reads.Asked,
   less-reads.Learnt,
   plus-reads.Asked,
@@ -275,11 +310,11 @@ pub +expr-spec : {M : Type 1} → statement M
     (expr-add-expr t)
     (expr-sub-expr t)
     (expr-expr-requires t)
-    (expr-less-requires t)
+    (expr-minus-requires t)
     (expr-returns-4 t)
     (expr-sub-expr-2 t)
     (expr-expr-requires-2 t)
-    (expr-less-requires-2 t)
+    (expr-less-requires t)
     (expr-returns-5 t)
     (expr-plus-requires t)
     (expr-returns-6 t)

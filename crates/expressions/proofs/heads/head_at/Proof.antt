@@ -4,6 +4,7 @@ use denote.Ref.{now}
 use native.Mathlib.Omega.{arith}
 use Rattle.expressions.proofs.Beginning.{bracket-refused, bracket-by, bracket-name, head-else, head-word, inside-other, inside-function, inside-from}
 use Rattle.due.proofs.Dues.{word-in}
+use Rattle.text.proofs.Words.{word-is}
 use borrow.Author.Needs.{needs}
 use Rattle.expressions.proofs.heads.head_at.Statement.{statement}
 use Rattle.expressions.proofs.heads.head_at.Tie as tie
@@ -26,8 +27,8 @@ enum-told c = search needs
 enum-told-2 : tie.Need-enum-told-2
 enum-told-2 c = search needs
 
-part-of-requires : tie.Need-part-of-requires
-part-of-requires c κs = search needs
+word-of-requires : tie.Need-word-of-requires
+word-of-requires c κs = search needs
 
 head-of-requires : tie.Need-head-of-requires
 head-of-requires c κs = search needs
@@ -45,7 +46,7 @@ returns-2 : tie.Need-returns-2
 returns-2 c = let w = word-in (now (c .before .before .before .before .before .before .before .args .text)) (c .before .before .before .before .before .before .before .args .from) (c .before .before .before .before .before .before .before .pre) _ _ _ (sym (c .before .before .before .before .before .token-at .ensures) ∙ c .before .before .before .t .given .1) in (λ x f. bracket-name (now (c .before .before .before .before .before .before .before .args .text)) (c .before .before .before .before .before .before .before .args .d) x f (c .before .before .before .before .before .before .before .args .left) _ _ _ (head-word (now (c .before .before .before .before .before .before .before .args .text)) (c .before .before .before .before .before .before .before .args .d) x f (c .before .before .before .before .before .before .before .args .left) (c .before .before .before .before .before .before .before .args .from) _ _ _ _ (sym (c .before .before .before .before .before .token-at .ensures) ∙ c .before .before .before .t .given .1) (c .enum-told .given .1)), inside-function _ _ _ _ (omega arith) (w .2))
 
 returns-3 : tie.Need-returns-3
-returns-3 c = let w = word-in (now (c .before .before .before .before .before .before .before .before .before .before .args .text)) (c .before .before .before .before .before .before .before .before .before .before .args .from) (c .before .before .before .before .before .before .before .before .before .before .pre) _ _ _ (sym (c .before .before .before .before .before .before .before .before .token-at .ensures) ∙ c .before .before .before .before .before .before .t .given .1) in (λ x f. bracket-by (now (c .before .before .before .before .before .before .before .before .before .before .args .text)) (c .before .before .before .before .before .before .before .before .before .before .args .d) x f (c .before .before .before .before .before .before .before .before .before .before .args .left) (c .operation-of .result) _ _ (head-word (now (c .before .before .before .before .before .before .before .before .before .before .args .text)) (c .before .before .before .before .before .before .before .before .before .before .args .d) x f (c .before .before .before .before .before .before .before .before .before .before .args .left) (c .before .before .before .before .before .before .before .before .before .before .args .from) _ _ _ _ (sym (c .before .before .before .before .before .before .before .before .token-at .ensures) ∙ c .before .before .before .before .before .before .t .given .1) (c .before .before .before .enum-told2 .given .1)) (rw (c .before .head-of .ensures, c .before .before .part-of .ensures) at (c .operation-of .ensures .0 (now (c .before .before .before .before .before .before .before .before .before .before .args .text)) (c .before .before .before .before .before .before .before .before .before .before .args .d) x f)), inside-from (c .operation-of .result) _ _ _ _ (w .0) (w .2) (c .operation-of .ensures .1))
+returns-3 c = let w = word-in (now (c .before .before .before .before .before .before .before .before .before .before .args .text)) (c .before .before .before .before .before .before .before .before .before .before .args .from) (c .before .before .before .before .before .before .before .before .before .before .pre) _ _ _ (sym (c .before .before .before .before .before .before .before .before .token-at .ensures) ∙ c .before .before .before .before .before .before .t .given .1) in (λ x f. bracket-by (now (c .before .before .before .before .before .before .before .before .before .before .args .text)) (c .before .before .before .before .before .before .before .before .before .before .args .d) x f (c .before .before .before .before .before .before .before .before .before .before .args .left) (c .operation-of .result) _ _ (head-word (now (c .before .before .before .before .before .before .before .before .before .before .args .text)) (c .before .before .before .before .before .before .before .before .before .before .args .d) x f (c .before .before .before .before .before .before .before .before .before .before .args .left) (c .before .before .before .before .before .before .before .before .before .before .args .from) _ _ _ _ (sym (c .before .before .before .before .before .before .before .before .token-at .ensures) ∙ c .before .before .before .before .before .before .t .given .1) (c .before .before .before .enum-told2 .given .1)) (rw (c .before .head-of .ensures, (c .before .before .word-of .ensures ∙ word-is _ _ _ _ _ refl)) at (c .operation-of .ensures .0 (now (c .before .before .before .before .before .before .before .before .before .before .args .text)) (c .before .before .before .before .before .before .before .before .before .before .args .d) x f)), inside-from (c .operation-of .result) _ _ _ _ (w .0) (w .2) (c .operation-of .ensures .1))
 
 returns-4 : tie.Need-returns-4
 returns-4 c = (λ x f. bracket-refused (now (c .before .before .before .before .before .before .before .args .text)) (c .before .before .before .before .before .before .before .args .d) x f (c .before .before .before .before .before .before .before .args .left) _ 3 _ _ refl (head-word (now (c .before .before .before .before .before .before .before .args .text)) (c .before .before .before .before .before .before .before .args .d) x f (c .before .before .before .before .before .before .before .args .left) (c .before .before .before .before .before .before .before .args .from) _ _ _ _ (sym (c .before .before .before .before .before .token-at .ensures) ∙ c .before .before .before .t .given .1) (c .enum-told3 .given .1)), inside-other _ _ _)
@@ -63,7 +64,7 @@ head-at-spec =
     returns
     enum-told
     enum-told-2
-    part-of-requires
+    word-of-requires
     head-of-requires
     operation-of-requires
     enum-told-3

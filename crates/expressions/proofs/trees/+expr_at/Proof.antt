@@ -1,4 +1,4 @@
--- The proof of the cycle of calls {expr_at}. The measure is the number of levels of brackets that are left.
+-- The proof of the cycle of calls {expr_at}. The measure is the number of bytes of the text that remain.
 -- Assumes nothing.
 use denote.Ref.{now}
 use native.Mathlib.Omega.{arith}
@@ -8,7 +8,8 @@ use mir.ValLaws.{toZ-ofZ}
 use Rattle.expressions.proofs.Ends.{spent-refused}
 use Rattle.expressions.proofs.Operands.{spent-by, spent-at, spent-within}
 use Rattle.expressions.proofs.Whole.{number-place, function-place, operation-place, lone-in, whole-number, whole-function, whole-other, spent-other, whole-first, whole-lone, whole-second, whole-two}
-use Prim.Native.Nat.{ℕ, _<_}
+use Prim.Native.Nat.{ℕ, _-_, _<_}
+use lib.ListN.{length}
 use borrow.Fn.Kinds.{In}
 use borrow.Fn.PlainCycle.{Measures, is, falls, and}
 use Rattle.expressions.proofs.trees.expr_at.Reads as expr-at
@@ -25,7 +26,7 @@ use Rattle.expressions.proofs.trees.+expr_at.{statement}
 use Rattle.expressions.proofs.trees.+expr_at.Tie.{close}
 
 abbrev μ-expr-at : Measures 3 expr-at-kinds.ps ℕ
-μ-expr-at κs a = a .1 .1 .0
+μ-expr-at κs a = length (a .0 .now) - a .1 .0
 
 abbrev expr-at-at : ℕ → In 3 expr-at-kinds.ps
 expr-at-at t = and 3 expr-at-kinds.ps (is 3 expr-at-kinds.ps μ-expr-at t) expr-at.Pre
@@ -67,7 +68,7 @@ expr-at-add-expr-at : (t : ℕ) → expr-at-lts.Need-add-expr-at (begun-at-reads
 expr-at-add-expr-at t c = omega (arith, c .before .before .before .before .before .before .before .before .pre .1 .2)
 
 expr-at-expr-at-requires : (t : ℕ) → expr-at-lts.Need-expr-at-requires (begun-at-reads.Asked, begun-at-reads.Learnt, put-number-reads.Asked, put-number-reads.Learnt, function-at-reads.Asked, function-at-reads.Learnt, progress-of-reads.Asked, progress-of-reads.Learnt, expr-at-below t, expr-at.Post, lone-end-reads.Asked, lone-end-reads.Learnt, put-reads.Asked, put-reads.Learnt, joined-at-reads.Asked, joined-at-reads.Learnt) (expr-at-at t) expr-at.Post
-expr-at-expr-at-requires t c κs = let w = operation-place _ _ _ _ _ _ _ (c .before .before .b4 .given .1) (c .before .before .before .before .begun-at .ensures .1) in (omega (arith, c .before .before .before .before .before .before .before .before .pre .0, w .2), (w .1, c .before .before .before .before .before .before .before .before .pre .1 .1, omega (arith, w .0, w .1, c .before .before .before .before .before .before .before .before .pre .1 .2)))
+expr-at-expr-at-requires t c κs = let w = operation-place _ _ _ _ _ _ _ (c .before .before .b4 .given .1) (c .before .before .before .before .begun-at .ensures .1) in (omega (arith, c .before .before .before .before .before .before .before .before .pre .0, w .0, w .1), (w .1, c .before .before .before .before .before .before .before .before .pre .1 .1, omega (arith, w .0, w .1, c .before .before .before .before .before .before .before .before .pre .1 .2)))
 
 expr-at-enum-known-x : (t : ℕ) → expr-at-lts.Need-enum-known-x (begun-at-reads.Asked, begun-at-reads.Learnt, put-number-reads.Asked, put-number-reads.Learnt, function-at-reads.Asked, function-at-reads.Learnt, progress-of-reads.Asked, progress-of-reads.Learnt, expr-at-below t, expr-at.Post, lone-end-reads.Asked, lone-end-reads.Learnt, put-reads.Asked, put-reads.Learnt, joined-at-reads.Asked, joined-at-reads.Learnt) (expr-at-at t) expr-at.Post
 expr-at-enum-known-x t c = c .match2 .keys1
@@ -103,7 +104,7 @@ expr-at-sub-expr-at-2 : (t : ℕ) → expr-at-lts.Need-sub-expr-at-2 (begun-at-r
 expr-at-sub-expr-at-2 t c = let w = operation-place _ _ _ _ _ _ _ (c .before .before .before .before .before .before .before .before .before .before .before .b4 .given .1) (c .before .before .before .before .before .before .before .before .before .before .before .before .before .begun-at .ensures .1) in omega (arith, w .2)
 
 expr-at-expr-at-requires-2 : (t : ℕ) → expr-at-lts.Need-expr-at-requires-2 (begun-at-reads.Asked, begun-at-reads.Learnt, put-number-reads.Asked, put-number-reads.Learnt, function-at-reads.Asked, function-at-reads.Learnt, progress-of-reads.Asked, progress-of-reads.Learnt, expr-at-below t, expr-at.Post, lone-end-reads.Asked, lone-end-reads.Learnt, put-reads.Asked, put-reads.Learnt, joined-at-reads.Asked, joined-at-reads.Learnt) (expr-at-at t) expr-at.Post
-expr-at-expr-at-requires-2 t c κs = let w = operation-place _ _ _ _ _ _ _ (c .before .before .before .before .before .before .before .before .before .before .before .before .b4 .given .1) (c .before .before .before .before .before .before .before .before .before .before .before .before .before .before .begun-at .ensures .1) in let sx = spent-at 1 _ _ _ _ _ _ _ (c .before .before .before .before .before .x .given .1) (c .before .before .before .before .before .before .before .before .before .expr-at .ensures .1) in (omega (arith, c .before .before .before .before .before .before .before .before .before .before .before .before .before .before .before .before .before .before .pre .0, w .2), (sx .1, c .before .before .before .before .before .before .before .before .before .before .before .before .before .before .before .before .before .before .pre .1 .1, omega (arith, w .0, w .1, sx .0, sx .1, sx .2, sx .3, c .before .before .before .before .before .before .before .before .before .before .before .before .before .before .before .before .before .before .pre .1 .2)))
+expr-at-expr-at-requires-2 t c κs = let w = operation-place _ _ _ _ _ _ _ (c .before .before .before .before .before .before .before .before .before .before .before .before .b4 .given .1) (c .before .before .before .before .before .before .before .before .before .before .before .before .before .before .begun-at .ensures .1) in let sx = spent-at 1 _ _ _ _ _ _ _ (c .before .before .before .before .before .x .given .1) (c .before .before .before .before .before .before .before .before .before .expr-at .ensures .1) in (omega (arith, c .before .before .before .before .before .before .before .before .before .before .before .before .before .before .before .before .before .before .pre .0, w .0, sx .0, sx .1), (sx .1, c .before .before .before .before .before .before .before .before .before .before .before .before .before .before .before .before .before .before .pre .1 .1, omega (arith, w .0, w .1, sx .0, sx .1, sx .2, sx .3, c .before .before .before .before .before .before .before .before .before .before .before .before .before .before .before .before .before .before .pre .1 .2)))
 
 expr-at-enum-known-y : (t : ℕ) → expr-at-lts.Need-enum-known-y (begun-at-reads.Asked, begun-at-reads.Learnt, put-number-reads.Asked, put-number-reads.Learnt, function-at-reads.Asked, function-at-reads.Learnt, progress-of-reads.Asked, progress-of-reads.Learnt, expr-at-below t, expr-at.Post, lone-end-reads.Asked, lone-end-reads.Learnt, put-reads.Asked, put-reads.Learnt, joined-at-reads.Asked, joined-at-reads.Learnt) (expr-at-at t) expr-at.Post
 expr-at-enum-known-y t c = c .match4 .keys1

@@ -5,6 +5,7 @@ use native.Mathlib.Omega.{arith}
 use denote.Ref.{now}
 use Rattle.due.proofs.Dues.{word-in, ahead-done, ahead-refused}
 use Rattle.init.proofs.Ways.{ahead-later, entry-shut, entry-else, entry-fact, entry-number, entry-operator, entry-variable, entry-keyword}
+use Rattle.text.proofs.Words.{word-is}
 use borrow.Author.Needs.{needs}
 use Rattle.init.proofs.entries.entry_at.Statement.{statement}
 use Rattle.init.proofs.entries.entry_at.Tie as tie
@@ -42,8 +43,8 @@ fact-at-requires c κs = let v = ahead-done _ _ _ _ _ (c .before .before .before
 enum-told-3 : tie.Need-enum-told-3
 enum-told-3 c = search needs
 
-part-of-requires : tie.Need-part-of-requires
-part-of-requires c κs = search needs
+word-of-requires : tie.Need-word-of-requires
+word-of-requires c κs = search needs
 
 slice-aggregate-same-word : tie.Need-slice-aggregate-same-word
 slice-aggregate-same-word c = search needs
@@ -59,7 +60,7 @@ same-length c = search needs
 
 returns-3 : tie.Need-returns-3
 unfolding bytes
-returns-3 c = (λ x y k o f st. entry-number (now (c .before .before .before .before .before .before .before .before .before .before .before .before .before .before .before .before .before .before .before .before .args .text)) x y (c .before .before .before .before .before .before .before .before .before .before .before .before .before .before .before .before .before .before .before .before .args .from) (c .before .before .before .before .before .before .before .before .before .before .before .before .before .before .before .before .opening .result) (c .before .before .before .before .before .before .before .before .before .before .before .before .before .before .before .before .opening .ensures .0) _ _ _ _ (c .before .before .before .before .before .before .before .before .before .before .before .before .before .before .o .given .1) _ _ _ (sym (c .before .before .before .before .before .before .before .before .before .before .before .before .token-at .ensures) ∙ c .before .before .before .before .before .before .before .before .before .before .t .given .1) (c .before .number-at .result) (c .before .before .before .before .before .before .before .enum-told3 .given .1) (rw (c .before .before .before .before .before .before .part-of .ensures) at (sym (c .before .before .before .before .same-word .ensures) ∙ c .before .before .before .if1 .taken)) (c .before .number-at .ensures .0 x y (now (c .before .before .before .before .before .before .before .before .before .before .before .before .before .before .before .before .before .before .before .before .args .facts)) k o f st), let v = ahead-done _ _ _ _ _ (c .before .before .before .before .before .before .before .before .before .before .before .before .before .before .o .given .1) (c .before .before .before .before .before .before .before .before .before .before .before .before .before .before .before .before .opening .ensures .1) in let u = word-in (now (c .before .before .before .before .before .before .before .before .before .before .before .before .before .before .before .before .before .before .before .before .args .text)) _ (v .1) _ _ _ (sym (c .before .before .before .before .before .before .before .before .before .before .before .before .token-at .ensures) ∙ c .before .before .before .before .before .before .before .before .before .before .t .given .1) in ahead-later _ _ _ _ (omega (arith, u .0, u .1, v .0)) (c .before .number-at .ensures .1))
+returns-3 c = (λ x y k o f st. entry-number (now (c .before .before .before .before .before .before .before .before .before .before .before .before .before .before .before .before .before .before .before .before .args .text)) x y (c .before .before .before .before .before .before .before .before .before .before .before .before .before .before .before .before .before .before .before .before .args .from) (c .before .before .before .before .before .before .before .before .before .before .before .before .before .before .before .before .opening .result) (c .before .before .before .before .before .before .before .before .before .before .before .before .before .before .before .before .opening .ensures .0) _ _ _ _ (c .before .before .before .before .before .before .before .before .before .before .before .before .before .before .o .given .1) _ _ _ (sym (c .before .before .before .before .before .before .before .before .before .before .before .before .token-at .ensures) ∙ c .before .before .before .before .before .before .before .before .before .before .t .given .1) (c .before .number-at .result) (c .before .before .before .before .before .before .before .enum-told3 .given .1) (rw (c .before .before .before .before .before .before .word-of .ensures ∙ word-is _ _ _ _ _ refl) at (sym (c .before .before .before .before .same-word .ensures) ∙ c .before .before .before .if1 .taken)) (c .before .number-at .ensures .0 x y (now (c .before .before .before .before .before .before .before .before .before .before .before .before .before .before .before .before .before .before .before .before .args .facts)) k o f st), let v = ahead-done _ _ _ _ _ (c .before .before .before .before .before .before .before .before .before .before .before .before .before .before .o .given .1) (c .before .before .before .before .before .before .before .before .before .before .before .before .before .before .before .before .opening .ensures .1) in let u = word-in (now (c .before .before .before .before .before .before .before .before .before .before .before .before .before .before .before .before .before .before .before .before .args .text)) _ (v .1) _ _ _ (sym (c .before .before .before .before .before .before .before .before .before .before .before .before .token-at .ensures) ∙ c .before .before .before .before .before .before .before .before .before .before .t .given .1) in ahead-later _ _ _ _ (omega (arith, u .0, u .1, v .0)) (c .before .number-at .ensures .1))
 
 enum-told-4 : tie.Need-enum-told-4
 enum-told-4 c = search needs
@@ -75,7 +76,7 @@ returns-4 c = (λ x y k o f st. entry-fact (now (c .before .before .before .befo
 
 returns-5 : tie.Need-returns-5
 unfolding bytes
-returns-5 c = (λ x y k o f st. entry-operator (now (c .before .before .before .before .before .before .before .before .before .before .before .before .before .before .before .before .before .args .text)) x y (c .before .before .before .before .before .before .before .before .before .before .before .before .before .before .before .before .before .args .from) (c .before .before .before .before .before .before .before .before .before .before .before .before .before .opening .result) (c .before .before .before .before .before .before .before .before .before .before .before .before .before .opening .ensures .0) _ _ _ _ (c .before .before .before .before .before .before .before .before .before .before .before .o .given .1) _ _ _ (sym (c .before .before .before .before .before .before .before .before .before .token-at .ensures) ∙ c .before .before .before .before .before .before .before .t .given .1) (c .before .before .before .before .enum-told3 .given .1) (rw (c .before .before .before .part-of .ensures) at (sym (c .before .same-word .ensures) ∙ c .if1 .left)), ahead-refused _ _ 3 _ _ refl)
+returns-5 c = (λ x y k o f st. entry-operator (now (c .before .before .before .before .before .before .before .before .before .before .before .before .before .before .before .before .before .args .text)) x y (c .before .before .before .before .before .before .before .before .before .before .before .before .before .before .before .before .before .args .from) (c .before .before .before .before .before .before .before .before .before .before .before .before .before .opening .result) (c .before .before .before .before .before .before .before .before .before .before .before .before .before .opening .ensures .0) _ _ _ _ (c .before .before .before .before .before .before .before .before .before .before .before .o .given .1) _ _ _ (sym (c .before .before .before .before .before .before .before .before .before .token-at .ensures) ∙ c .before .before .before .before .before .before .before .t .given .1) (c .before .before .before .before .enum-told3 .given .1) (rw (c .before .before .before .word-of .ensures ∙ word-is _ _ _ _ _ refl) at (sym (c .before .same-word .ensures) ∙ c .if1 .left)), ahead-refused _ _ 3 _ _ refl)
 
 returns-6 : tie.Need-returns-6
 returns-6 c = (λ x y k o f st. entry-variable (now (c .before .before .before .before .before .before .before .before .before .before .before .before .before .args .text)) x y (c .before .before .before .before .before .before .before .before .before .before .before .before .before .args .from) (c .before .before .before .before .before .before .before .before .before .opening .result) (c .before .before .before .before .before .before .before .before .before .opening .ensures .0) _ _ _ _ (c .before .before .before .before .before .before .before .o .given .1) _ _ _ (sym (c .before .before .before .before .before .token-at .ensures) ∙ c .before .before .before .t .given .1) (c .enum-told4 .given .1), ahead-refused _ _ 3 _ _ refl)
@@ -98,7 +99,7 @@ entry-at-spec =
     enum-told-2
     fact-at-requires
     enum-told-3
-    part-of-requires
+    word-of-requires
     slice-aggregate-same-word
     same-word-requires
     number-at-requires

@@ -38,7 +38,7 @@ add-t20 : tie.Need-add-t20
 add-t20 c = omega (arith, c .before .numeral-of .ensures .1, c .first-of .ensures .1)
 
 returns-2 : tie.Need-returns-2
-returns-2 c = (λ x m to t k o h g. let few = wanted-few t (c .before .before .before .before .before .before .before .before .before .before .before .args .i) g (omega (arith, c .before .before .before .before .before .before .before .before .before .before .before .pre .3, h .count)) in behind-done (now (c .before .before .before .before .before .before .before .before .before .before .before .args .text)) (c .before .before .before .before .before .before .before .before .before .before .before .args .d) x t (c .before .before .before .before .before .before .before .before .before .before .before .args .i) (c .before .before .before .before .before .before .before .before .before .before .before .args .from) o _ (c .before .before .before .before .before .before .before .arguments-at .result) _ _ _ (c .before .before .before .before .before .before .before .before .before .before .before .args .counts .objects) (c .first-of .result) (c .before .numeral-of .result) refl few (c .before .before .before .before .before .before .before .arguments-at .ensures .0 x m to t k h g) (c .before .before .before .before .a .given .1) (k .objects .count) (c .first-of .ensures .0 m to t h g) (c .before .numeral-of .ensures .0), let w = ahead-done _ _ _ _ _ (c .before .before .before .before .a .given .1) (c .before .before .before .before .before .before .before .arguments-at .ensures .1) in ahead-by _ _ _ _ (w .0) (w .1))
+returns-2 c = (λ x m to t k o h g. let few = wanted-few t (c .before .before .before .before .before .before .before .before .before .before .before .args .i) g (omega (arith, c .before .before .before .before .before .before .before .before .before .before .before .pre .3, h .count)) in behind-done (now (c .before .before .before .before .before .before .before .before .before .before .before .args .text)) (c .before .before .before .before .before .before .before .before .before .before .before .args .d) x t (c .before .before .before .before .before .before .before .before .before .before .before .args .i) (c .before .before .before .before .before .before .before .before .before .before .before .args .from) o _ (c .before .before .before .before .before .before .before .arguments-at .result) _ _ _ (c .before .before .before .before .before .before .before .before .before .before .before .args .counts .objects) (c .first-of .result) (c .before .numeral-of .result) refl few (omega (arith, c .before .before .before .before .before .before .before .before .before .before .before .pre .3, h .count)) (c .before .before .before .before .before .before .before .arguments-at .ensures .0 x m to t k h g) (c .before .before .before .before .a .given .1) (k .objects .count) (c .first-of .ensures .0 m to t h g) (c .before .numeral-of .ensures .0), let w = ahead-done _ _ _ _ _ (c .before .before .before .before .a .given .1) (c .before .before .before .before .before .before .before .arguments-at .ensures .1) in ahead-by _ _ _ _ (w .0) (w .1))
 
 pub index-at-spec : {M : Type 1} → statement M
 index-at-spec =

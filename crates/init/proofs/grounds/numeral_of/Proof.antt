@@ -5,13 +5,13 @@ use native.Mathlib.Omega.{arith}
 use denote.Ref.{now}
 use borrow.Author.Needs.{needs}
 use lib.ListN.{take, drop}
-use Rattle.init.specs.Parts.{numeral}
+use Rattle.grammar.specs.Indexes.{digits}
 use Rattle.init.proofs.Digits.{numeral-step, numeral-end, numeral-room, numeral-small, product-small}
 use Rattle.init.proofs.grounds.numeral_of.Statement.{statement}
 use Rattle.init.proofs.grounds.numeral_of.Tie as tie
 
 abbrev Inv-loop : tie.InvT-loop
-Inv-loop cells k n acc₀ i₀ acc i = (i ≤ k) × (acc < 256 ^ i) × (numeral n acc (drop i (take k cells)) ≡ numeral n 0 (take k cells))
+Inv-loop cells k n acc₀ i₀ acc i = (i ≤ k) × (acc < 256 ^ i) × (digits n acc (drop i (take k cells)) ≡ digits n 0 (take k cells))
 
 abbrev μ-loop : tie.MeasureT-loop
 μ-loop cells k n acc₀ i₀ acc i = k - i

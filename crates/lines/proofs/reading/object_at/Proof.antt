@@ -1,8 +1,9 @@
 -- `lines::reading::object_at` meets its contract. Assumes nothing.
-use mathlib.Core.Path.{sym, _∙_}
+use mathlib.Core.Path.{refl, sym, _∙_}
 use denote.Ref.{now}
 use Rattle.lines.specs.Knowing.{objectsIn}
 use Rattle.lines.proofs.Marks.{named-else, named-missing, named-found}
+use Rattle.text.proofs.Words.{word-is}
 use borrow.Author.Needs.{needs}
 use Rattle.lines.proofs.reading.object_at.Statement.{statement}
 use Rattle.lines.proofs.reading.object_at.Tie as tie
@@ -16,8 +17,8 @@ refusal-requires c κs = search needs
 returns : tie.Need-returns
 returns c = named-else (now (c .before .before .before .before .args .text)) (objectsIn (now (c .before .before .before .before .args .tables)) (c .before .before .before .before .args .counts)) (c .before .before .before .before .args .t) (c .refusal .result) (c .before .match .keys2) (c .refusal .ensures)
 
-part-of-requires : tie.Need-part-of-requires
-part-of-requires c κs = search needs
+word-of-requires : tie.Need-word-of-requires
+word-of-requires c κs = search needs
 
 object-of-requires : tie.Need-object-of-requires
 object-of-requires c κs = c .before .before .before .before .before .before .pre
@@ -29,10 +30,10 @@ enum-told : tie.Need-enum-told
 enum-told c = search needs
 
 returns-2 : tie.Need-returns-2
-returns-2 c = named-missing (now (c .before .before .before .before .before .before .before .before .before .args .text)) (objectsIn (now (c .before .before .before .before .before .before .before .before .before .args .tables)) (c .before .before .before .before .before .before .before .before .before .args .counts)) (c .before .before .before .before .before .before .before .before .before .args .t) _ _ _ (c .before .before .before .before .before .t .given .1) (rw (c .before .before .before .part-of .ensures) at (sym (c .before .before .object-of .ensures) ∙ c .enum-told .given .1))
+returns-2 c = named-missing (now (c .before .before .before .before .before .before .before .before .before .args .text)) (objectsIn (now (c .before .before .before .before .before .before .before .before .before .args .tables)) (c .before .before .before .before .before .before .before .before .before .args .counts)) (c .before .before .before .before .before .before .before .before .before .args .t) _ _ _ (c .before .before .before .before .before .t .given .1) (rw (c .before .before .before .word-of .ensures ∙ word-is _ _ _ _ _ refl) at (sym (c .before .before .object-of .ensures) ∙ c .enum-told .given .1))
 
 returns-3 : tie.Need-returns-3
-returns-3 c = named-found (now (c .before .before .before .before .before .before .before .before .before .before .args .text)) (objectsIn (now (c .before .before .before .before .before .before .before .before .before .before .args .tables)) (c .before .before .before .before .before .before .before .before .before .before .args .counts)) (c .before .before .before .before .before .before .before .before .before .before .args .t) _ _ _ _ (c .before .before .before .before .before .before .t .given .1) (rw (c .before .before .before .before .part-of .ensures) at (sym (c .before .before .before .object-of .ensures) ∙ c .before .f .given .1))
+returns-3 c = named-found (now (c .before .before .before .before .before .before .before .before .before .before .args .text)) (objectsIn (now (c .before .before .before .before .before .before .before .before .before .before .args .tables)) (c .before .before .before .before .before .before .before .before .before .before .args .counts)) (c .before .before .before .before .before .before .before .before .before .before .args .t) _ _ _ _ (c .before .before .before .before .before .before .t .given .1) (rw (c .before .before .before .before .word-of .ensures ∙ word-is _ _ _ _ _ refl) at (sym (c .before .before .before .object-of .ensures) ∙ c .before .f .given .1))
 
 pub object-at-spec : {M : Type 1} → statement M
 object-at-spec =
@@ -41,7 +42,7 @@ object-at-spec =
     enum-known-t
     refusal-requires
     returns
-    part-of-requires
+    word-of-requires
     object-of-requires
     enum-known-f
     enum-told

@@ -6,7 +6,8 @@ use native.Mathlib.Omega.{arith}
 use denote.Ref.{now}
 use lib.ListN.{length}
 use Rattle.due.proofs.Dues.{answer-done, answer-refused, ahead-done, ahead-refused, ahead-by}
-use Rattle.rows.specs.Held.{rowsOf, padded}
+use Rattle.rows.specs.Held.{rowsOf}
+use Rattle.grammar.specs.Indexes.{padded}
 use Rattle.lists.proofs.Outcomes.{refuses, reads, room-done}
 use Rattle.due.proofs.Dues.{name-refused}
 use Rattle.rows.proofs.Rows.{length-rows}
@@ -40,7 +41,7 @@ same-length : tie.Need-same-length
 same-length c = search needs
 
 returns-2 : tie.Need-returns-2
-returns-2 c = (λ ts t i h. refuses _ _ _ _ _ _ (declaration-known (now (c .before .before .before .before .before .before .before .before .before .before .before .args .text)) ts (c .before .before .before .before .before .before .before .before .before .before .before .args .max) (c .before .before .before .before .before .before .before .before .before .before .before .args .most) t (c .before .before .before .before .before .before .before .before .before .before .before .args .from) (c .before .before .before .before .before .h .given .0 .1 .0) (c .before .before .before .before .before .h .given .0 .0) (named (now (c .before .before .before .before .before .before .before .before .before .before .before .args .text)) 1 (c .before .before .before .before .before .before .before .before .before .before .before .args .from) (c .before .before .before .before .before .h .given .0 .1 .0) (c .before .before .before .before .before .h .given .0 .0) (sym (c .before .before .before .before .before .before .before .new-name .ensures .0) ∙ c .before .before .before .before .before .h .given .1)) _ _ (answer-refused _ _ _ (sym (c .before .before .fresh-at .ensures .0 (c .before .before .before .before .before .before .before .before .before .before .before .args .max) t h) ∙ c .enum-told3 .given .1))) (c .enum-told3 .given .1), ahead-refused _ _ _ _ _ (c .enum-told3 .given .1))
+returns-2 c = (λ ts t i h. refuses _ _ _ _ _ _ (declaration-known (now (c .before .before .before .before .before .before .before .before .before .before .before .args .text)) ts (c .before .before .before .before .before .before .before .before .before .before .before .args .max) (c .before .before .before .before .before .before .before .before .before .before .before .args .most) t (c .before .before .before .before .before .before .before .before .before .before .before .args .from) (c .before .before .before .before .before .h .given .0 .1 .0) (c .before .before .before .before .before .h .given .0 .0) (named (now (c .before .before .before .before .before .before .before .before .before .before .before .args .text)) 13 (c .before .before .before .before .before .before .before .before .before .before .before .args .from) (c .before .before .before .before .before .h .given .0 .1 .0) (c .before .before .before .before .before .h .given .0 .0) (sym (c .before .before .before .before .before .before .before .new-name .ensures .0) ∙ c .before .before .before .before .before .h .given .1)) _ _ (answer-refused _ _ _ (sym (c .before .before .fresh-at .ensures .0 (c .before .before .before .before .before .before .before .before .before .before .before .args .max) t h) ∙ c .enum-told3 .given .1))) (c .enum-told3 .given .1), ahead-refused _ _ _ _ _ (c .enum-told3 .given .1))
 
 mul-width : tie.Need-mul-width
 mul-width c = search needs
@@ -69,7 +70,7 @@ same-length-2 : tie.Need-same-length-2
 same-length-2 c = search needs
 
 returns-3 : tie.Need-returns-3
-returns-3 c = (λ ts t i h. refuses _ _ _ _ _ _ (declaration-refused (now (c .before .before .before .before .before .before .before .before .before .before .before .before .before .before .before .before .before .before .args .text)) ts (c .before .before .before .before .before .before .before .before .before .before .before .before .before .before .before .before .before .before .args .max) (c .before .before .before .before .before .before .before .before .before .before .before .before .before .before .before .before .before .before .args .most) t (c .before .before .before .before .before .before .before .before .before .before .before .before .before .before .before .before .before .before .args .from) (c .before .before .before .before .before .before .before .before .before .before .before .before .h .given .0 .1 .0) (c .before .before .before .before .before .before .before .before .before .before .before .before .h .given .0 .0) (named (now (c .before .before .before .before .before .before .before .before .before .before .before .before .before .before .before .before .before .before .args .text)) 1 (c .before .before .before .before .before .before .before .before .before .before .before .before .before .before .before .before .before .before .args .from) (c .before .before .before .before .before .before .before .before .before .before .before .before .h .given .0 .1 .0) (c .before .before .before .before .before .before .before .before .before .before .before .before .h .given .0 .0) (sym (c .before .before .before .before .before .before .before .before .before .before .before .before .before .before .new-name .ensures .0) ∙ c .before .before .before .before .before .before .before .before .before .before .before .before .h .given .1)) _ _ (answer-done _ _ _ (sym (c .before .before .before .before .before .before .before .before .before .fresh-at .ensures .0 (c .before .before .before .before .before .before .before .before .before .before .before .before .before .before .before .before .before .before .args .max) t h) ∙ c .before .before .before .before .before .before .before .enum-told2 .given .1)) _ _ (signed-refused _ (c .before .before .before .before .before .before .before .before .before .before .before .before .before .before .before .before .before .before .args .most) _ (0 ∷ 0 ∷ 0 ∷ 0 ∷ []) _ _ _ (c .before .before .before .before .signature-to .ensures .0 ts i) (c .enum-told4 .given .1))) (c .enum-told4 .given .1), ahead-refused _ _ _ _ _ (c .enum-told4 .given .1))
+returns-3 c = (λ ts t i h. refuses _ _ _ _ _ _ (declaration-refused (now (c .before .before .before .before .before .before .before .before .before .before .before .before .before .before .before .before .before .before .args .text)) ts (c .before .before .before .before .before .before .before .before .before .before .before .before .before .before .before .before .before .before .args .max) (c .before .before .before .before .before .before .before .before .before .before .before .before .before .before .before .before .before .before .args .most) t (c .before .before .before .before .before .before .before .before .before .before .before .before .before .before .before .before .before .before .args .from) (c .before .before .before .before .before .before .before .before .before .before .before .before .h .given .0 .1 .0) (c .before .before .before .before .before .before .before .before .before .before .before .before .h .given .0 .0) (named (now (c .before .before .before .before .before .before .before .before .before .before .before .before .before .before .before .before .before .before .args .text)) 13 (c .before .before .before .before .before .before .before .before .before .before .before .before .before .before .before .before .before .before .args .from) (c .before .before .before .before .before .before .before .before .before .before .before .before .h .given .0 .1 .0) (c .before .before .before .before .before .before .before .before .before .before .before .before .h .given .0 .0) (sym (c .before .before .before .before .before .before .before .before .before .before .before .before .before .before .new-name .ensures .0) ∙ c .before .before .before .before .before .before .before .before .before .before .before .before .h .given .1)) _ _ (answer-done _ _ _ (sym (c .before .before .before .before .before .before .before .before .before .fresh-at .ensures .0 (c .before .before .before .before .before .before .before .before .before .before .before .before .before .before .before .before .before .before .args .max) t h) ∙ c .before .before .before .before .before .before .before .enum-told2 .given .1)) _ _ (signed-refused _ (c .before .before .before .before .before .before .before .before .before .before .before .before .before .before .before .before .before .before .args .most) _ (0 ∷ 0 ∷ 0 ∷ 0 ∷ []) _ _ _ (c .before .before .before .before .signature-to .ensures .0 ts i) (c .enum-told4 .given .1))) (c .enum-told4 .given .1), ahead-refused _ _ _ _ _ (c .enum-told4 .given .1))
 
 add-m : tie.Need-add-m
 add-m c = let b : (c .before .before .before .before .before .before .before .before .before .before .before .before .before .before .before .before .before .before .before .args .most) < 4 = omega (arith, c .before .before .before .before .before .before .before .before .before .before .before .before .before .before .before .before .before .before .before .pre .3) in let x = signed-done _ (c .before .before .before .before .before .before .before .before .before .before .before .before .before .before .before .before .before .before .before .args .most) _ (0 ∷ 0 ∷ 0 ∷ 0 ∷ []) _ _ _ (c .before .before .before .before .before .signature-to .ensures .0 (c .before .before .before .before .before .before .before .before .before .before .before .before .before .before .before .before .before .before .before .pre .1 .0) (c .before .before .before .before .before .before .before .before .before .before .before .before .before .before .before .before .before .before .before .pre .1 .1)) (c .before .a .given .1) b in omega (arith, x .fits)
@@ -84,7 +85,7 @@ slice-aggregate-enter : tie.Need-slice-aggregate-enter
 slice-aggregate-enter c = let b : (c .before .before .before .before .before .before .before .before .before .before .before .before .before .before .before .before .before .before .before .before .before .before .args .most) < 4 = omega (arith, c .before .before .before .before .before .before .before .before .before .before .before .before .before .before .before .before .before .before .before .before .before .before .pre .3) in let x = signed-done _ (c .before .before .before .before .before .before .before .before .before .before .before .before .before .before .before .before .before .before .before .before .before .before .args .most) _ (0 ∷ 0 ∷ 0 ∷ 0 ∷ []) _ _ _ (c .before .before .before .before .before .before .before .before .signature-to .ensures .0 (c .before .before .before .before .before .before .before .before .before .before .before .before .before .before .before .before .before .before .before .before .before .before .pre .1 .0) (c .before .before .before .before .before .before .before .before .before .before .before .before .before .before .before .before .before .before .before .before .before .before .pre .1 .1)) (c .before .before .before .before .a .given .1) b in sym (x .long)
 
 enter-requires : tie.Need-enter-requires
-enter-requires c κs = let b : (c .before .before .before .before .before .before .before .before .before .before .before .before .before .before .before .before .before .before .before .before .before .before .args .most) < 4 = omega (arith, c .before .before .before .before .before .before .before .before .before .before .before .before .before .before .before .before .before .before .before .before .before .before .pre .3) in let x = signed-done _ (c .before .before .before .before .before .before .before .before .before .before .before .before .before .before .before .before .before .before .before .before .before .before .args .most) _ (0 ∷ 0 ∷ 0 ∷ 0 ∷ []) _ _ _ (c .before .before .before .before .before .before .before .before .signature-to .ensures .0 (c .before .before .before .before .before .before .before .before .before .before .before .before .before .before .before .before .before .before .before .before .before .before .pre .1 .0) (c .before .before .before .before .before .before .before .before .before .before .before .before .before .before .before .before .before .before .before .before .before .before .pre .1 .1)) (c .before .before .before .before .a .given .1) b in (c .before .before .before .before .before .before .before .before .before .before .before .before .before .before .before .before .before .before .before .before .before .before .pre .2, room-done _ _ _ _ _ (c .before .before .before .before .before .before .before .before .before .before .before .enum-told2 .given .1) (c .before .before .before .before .before .before .before .before .before .before .before .before .before .fresh-at .ensures .1), rw (c .before .part-of .ensures) (name-short (now (c .before .before .before .before .before .before .before .before .before .before .before .before .before .before .before .before .before .before .before .before .before .before .args .text)) 1 (c .before .before .before .before .before .before .before .before .before .before .before .before .before .before .before .before .before .before .before .before .before .before .args .from) (c .before .before .before .before .before .before .before .before .before .before .before .before .before .before .before .before .h .given .0 .1 .0) (c .before .before .before .before .before .before .before .before .before .before .before .before .before .before .before .before .h .given .0 .0) (sym (c .before .before .before .before .before .before .before .before .before .before .before .before .before .before .before .before .before .before .new-name .ensures .0) ∙ c .before .before .before .before .before .before .before .before .before .before .before .before .before .before .before .before .h .given .1) (c .before .before .before .before .before .before .before .before .before .before .before .before .before .before .before .before .before .before .before .before .before .before .pre .0)), omega (arith, x .long, x .fits))
+enter-requires c κs = let b : (c .before .before .before .before .before .before .before .before .before .before .before .before .before .before .before .before .before .before .before .before .before .before .args .most) < 4 = omega (arith, c .before .before .before .before .before .before .before .before .before .before .before .before .before .before .before .before .before .before .before .before .before .before .pre .3) in let x = signed-done _ (c .before .before .before .before .before .before .before .before .before .before .before .before .before .before .before .before .before .before .before .before .before .before .args .most) _ (0 ∷ 0 ∷ 0 ∷ 0 ∷ []) _ _ _ (c .before .before .before .before .before .before .before .before .signature-to .ensures .0 (c .before .before .before .before .before .before .before .before .before .before .before .before .before .before .before .before .before .before .before .before .before .before .pre .1 .0) (c .before .before .before .before .before .before .before .before .before .before .before .before .before .before .before .before .before .before .before .before .before .before .pre .1 .1)) (c .before .before .before .before .a .given .1) b in (c .before .before .before .before .before .before .before .before .before .before .before .before .before .before .before .before .before .before .before .before .before .before .pre .2, room-done _ _ _ _ _ (c .before .before .before .before .before .before .before .before .before .before .before .enum-told2 .given .1) (c .before .before .before .before .before .before .before .before .before .before .before .before .before .fresh-at .ensures .1), rw (c .before .part-of .ensures) (name-short (now (c .before .before .before .before .before .before .before .before .before .before .before .before .before .before .before .before .before .before .before .before .before .before .args .text)) 13 (c .before .before .before .before .before .before .before .before .before .before .before .before .before .before .before .before .before .before .before .before .before .before .args .from) (c .before .before .before .before .before .before .before .before .before .before .before .before .before .before .before .before .h .given .0 .1 .0) (c .before .before .before .before .before .before .before .before .before .before .before .before .before .before .before .before .h .given .0 .0) (sym (c .before .before .before .before .before .before .before .before .before .before .before .before .before .before .before .before .before .before .new-name .ensures .0) ∙ c .before .before .before .before .before .before .before .before .before .before .before .before .before .before .before .before .h .given .1) (c .before .before .before .before .before .before .before .before .before .before .before .before .before .before .before .before .before .before .before .before .before .before .pre .0)), omega (arith, x .long, x .fits))
 
 add-t32 : tie.Need-add-t32
 add-t32 c = let q : (c .before .before .before .before .before .before .before .before .before .before .before .before .before .before .before .before .before .before .before .before .before .before .before .before .before .args .n) < (c .before .before .before .before .before .before .before .before .before .before .before .before .before .before .before .before .before .before .before .before .before .before .before .before .before .args .max) = room-done _ _ _ _ _ (c .before .before .before .before .before .before .before .before .before .before .before .before .before .before .enum-told2 .given .1) (c .before .before .before .before .before .before .before .before .before .before .before .before .before .before .before .before .fresh-at .ensures .1) in omega (arith, c .before .before .before .before .before .before .before .before .before .before .before .before .before .before .before .before .before .before .before .before .before .before .before .before .before .fits)
@@ -93,7 +94,7 @@ same-length-3 : tie.Need-same-length-3
 same-length-3 c = search needs
 
 returns-4 : tie.Need-returns-4
-returns-4 c = let q = ahead-done _ _ _ _ _ (c .before .before .before .before .before .before .before .before .before .before .before .before .before .before .before .before .before .before .before .h .given .1) (c .before .before .before .before .before .before .before .before .before .before .before .before .before .before .before .before .before .before .before .before .before .new-name .ensures .1) in let p = ahead-done _ _ _ _ _ (c .before .before .before .before .before .before .before .a .given .1) (c .before .before .before .before .before .before .before .before .before .before .before .signature-to .ensures .1) in (λ ts t i h. let b : (c .before .before .before .before .before .before .before .before .before .before .before .before .before .before .before .before .before .before .before .before .before .before .before .before .before .args .most) < 4 = omega (arith, c .before .before .before .before .before .before .before .before .before .before .before .before .before .before .before .before .before .before .before .before .before .before .before .before .before .pre .3) in let x = signed-done _ (c .before .before .before .before .before .before .before .before .before .before .before .before .before .before .before .before .before .before .before .before .before .before .before .before .before .args .most) _ (0 ∷ 0 ∷ 0 ∷ 0 ∷ []) _ _ _ (c .before .before .before .before .before .before .before .before .before .before .before .signature-to .ensures .0 ts i) (c .before .before .before .before .before .before .before .a .given .1) b in reads _ _ _ _ _ _ (declaration-done (now (c .before .before .before .before .before .before .before .before .before .before .before .before .before .before .before .before .before .before .before .before .before .before .before .before .before .args .text)) ts (c .before .before .before .before .before .before .before .before .before .before .before .before .before .before .before .before .before .before .before .before .before .before .before .before .before .args .max) (c .before .before .before .before .before .before .before .before .before .before .before .before .before .before .before .before .before .before .before .before .before .before .before .before .before .args .most) t (c .before .before .before .before .before .before .before .before .before .before .before .before .before .before .before .before .before .before .before .before .before .before .before .before .before .args .from) (c .before .before .before .before .before .before .before .before .before .before .before .before .before .before .before .before .before .before .before .h .given .0 .1 .0) (c .before .before .before .before .before .before .before .before .before .before .before .before .before .before .before .before .before .before .before .h .given .0 .0) (named (now (c .before .before .before .before .before .before .before .before .before .before .before .before .before .before .before .before .before .before .before .before .before .before .before .before .before .args .text)) 1 (c .before .before .before .before .before .before .before .before .before .before .before .before .before .before .before .before .before .before .before .before .before .before .before .before .before .args .from) (c .before .before .before .before .before .before .before .before .before .before .before .before .before .before .before .before .before .before .before .h .given .0 .1 .0) (c .before .before .before .before .before .before .before .before .before .before .before .before .before .before .before .before .before .before .before .h .given .0 .0) (sym (c .before .before .before .before .before .before .before .before .before .before .before .before .before .before .before .before .before .before .before .before .before .new-name .ensures .0) ∙ c .before .before .before .before .before .before .before .before .before .before .before .before .before .before .before .before .before .before .before .h .given .1)) _ _ (answer-done _ _ _ (sym (c .before .before .before .before .before .before .before .before .before .before .before .before .before .before .before .before .fresh-at .ensures .0 (c .before .before .before .before .before .before .before .before .before .before .before .before .before .before .before .before .before .before .before .before .before .before .before .before .before .args .max) t h) ∙ c .before .before .before .before .before .before .before .before .before .before .before .before .before .before .enum-told2 .given .1)) (x .table) _ (x .is)) (rw (c .before .before .before .before .part-of .ensures, x .numbers) at (c .before .before .enter .ensures t h)), ahead-by _ _ _ _ (omega arith) (p .1))
+returns-4 c = let q = ahead-done _ _ _ _ _ (c .before .before .before .before .before .before .before .before .before .before .before .before .before .before .before .before .before .before .before .h .given .1) (c .before .before .before .before .before .before .before .before .before .before .before .before .before .before .before .before .before .before .before .before .before .new-name .ensures .1) in let p = ahead-done _ _ _ _ _ (c .before .before .before .before .before .before .before .a .given .1) (c .before .before .before .before .before .before .before .before .before .before .before .signature-to .ensures .1) in (λ ts t i h. let b : (c .before .before .before .before .before .before .before .before .before .before .before .before .before .before .before .before .before .before .before .before .before .before .before .before .before .args .most) < 4 = omega (arith, c .before .before .before .before .before .before .before .before .before .before .before .before .before .before .before .before .before .before .before .before .before .before .before .before .before .pre .3) in let x = signed-done _ (c .before .before .before .before .before .before .before .before .before .before .before .before .before .before .before .before .before .before .before .before .before .before .before .before .before .args .most) _ (0 ∷ 0 ∷ 0 ∷ 0 ∷ []) _ _ _ (c .before .before .before .before .before .before .before .before .before .before .before .signature-to .ensures .0 ts i) (c .before .before .before .before .before .before .before .a .given .1) b in reads _ _ _ _ _ _ (declaration-done (now (c .before .before .before .before .before .before .before .before .before .before .before .before .before .before .before .before .before .before .before .before .before .before .before .before .before .args .text)) ts (c .before .before .before .before .before .before .before .before .before .before .before .before .before .before .before .before .before .before .before .before .before .before .before .before .before .args .max) (c .before .before .before .before .before .before .before .before .before .before .before .before .before .before .before .before .before .before .before .before .before .before .before .before .before .args .most) t (c .before .before .before .before .before .before .before .before .before .before .before .before .before .before .before .before .before .before .before .before .before .before .before .before .before .args .from) (c .before .before .before .before .before .before .before .before .before .before .before .before .before .before .before .before .before .before .before .h .given .0 .1 .0) (c .before .before .before .before .before .before .before .before .before .before .before .before .before .before .before .before .before .before .before .h .given .0 .0) (named (now (c .before .before .before .before .before .before .before .before .before .before .before .before .before .before .before .before .before .before .before .before .before .before .before .before .before .args .text)) 13 (c .before .before .before .before .before .before .before .before .before .before .before .before .before .before .before .before .before .before .before .before .before .before .before .before .before .args .from) (c .before .before .before .before .before .before .before .before .before .before .before .before .before .before .before .before .before .before .before .h .given .0 .1 .0) (c .before .before .before .before .before .before .before .before .before .before .before .before .before .before .before .before .before .before .before .h .given .0 .0) (sym (c .before .before .before .before .before .before .before .before .before .before .before .before .before .before .before .before .before .before .before .before .before .new-name .ensures .0) ∙ c .before .before .before .before .before .before .before .before .before .before .before .before .before .before .before .before .before .before .before .h .given .1)) _ _ (answer-done _ _ _ (sym (c .before .before .before .before .before .before .before .before .before .before .before .before .before .before .before .before .fresh-at .ensures .0 (c .before .before .before .before .before .before .before .before .before .before .before .before .before .before .before .before .before .before .before .before .before .before .before .before .before .args .max) t h) ∙ c .before .before .before .before .before .before .before .before .before .before .before .before .before .before .enum-told2 .given .1)) (x .table) _ (x .is)) (rw (c .before .before .before .before .part-of .ensures, x .numbers) at (c .before .before .enter .ensures t h)), ahead-by _ _ _ _ (omega arith) (p .1))
 
 pub declaration-at-spec : {M : Type 1} → statement M
 declaration-at-spec =

@@ -8,7 +8,7 @@ use lib.ListN.{length}
 use Rattle.grammar.specs.Tables.{Table}
 use Rattle.due.proofs.Dues.{ahead-done, ahead-refused, ahead-by}
 use Rattle.rows.specs.Held.{Holds}
-use Rattle.lists.proofs.Next.{item-close, item-dash, item-name, item-refused}
+use Rattle.lists.proofs.Next.{item-close, item-dash, item-name, item-other}
 use Rattle.lists.proofs.Going.{Going, going-start, going-close, going-refused, going-group, going-group-refused, going-name, going-name-refused}
 use Rattle.lists.proofs.typed.typed_list.Statement.{statement}
 use Rattle.lists.proofs.typed.typed_list.Tie as tie
@@ -82,14 +82,14 @@ loop-less-2 c = let r = item-name (now (c .before .before .before .before .befor
 loop-again-2 : tie.Need-loop-again-2 Inv-loop μ-loop
 loop-again-2 c = let r = item-name (now (c .before .before .before .before .before .before .before .before .before .before .before .before .before .before .before .args .text)) (c .before .before .before .before .before .before .before .before .before .before .before .before .before .before .before .args .var) (c .before .before .before .before .before .before .before .before .before .before .before .loop .at) (c .before .before .before .before .before .before .before .before .before .before .before .loop .inv .1) (c .before .before .before .before .before .before .before .before .before .before .item-at .result) (c .before .before .before .before .before .before .before .before .before .before .item-at .ensures) _ _ _ (c .before .before .before .before .before .before .before .before .place .given .1) in (omega (arith, c .before .before .before .before .before .before .before .before .before .before .before .loop .inv .0), r .2, search needs, λ ts t i h. going-name (now (c .before .before .before .before .before .before .before .before .before .before .before .before .before .before .before .args .text)) (c .before .before .before .before .before .before .before .before .before .before .before .before .before .before .before .args .var) (c .before .before .before .before .before .before .before .before .before .before .before .before .before .before .before .args .own) ts (c .before .before .before .before .before .before .before .before .before .before .before .before .before .before .before .args .max) t (c .before .before .before .before .before .before .before .before .before .before .before .before .before .before .before .args .n) (c .before .before .before .before .before .before .before .before .before .before .before .before .before .before .before .args .at) (c .before .before .before .before .before .before .before .before .before .before .before .loop .rows) (c .before .before .before .before .before .before .before .before .before .before .before .loop .n) (c .before .before .before .before .before .before .before .before .before .before .before .loop .g) (c .before .before .before .before .before .before .before .before .before .before .before .loop .at) (c .before .before .before .before .before .before .before .before .before .before .before .loop .inv .3 ts t i h) (c .before .before .before .before .before .before .before .before .place .given .0 .0) (c .before .before .before .before .before .before .before .before .place .given .0 .1 .0) (c .before .before .before .before .before .before .before .before .place .given .0 .1 .1 .0) ((item-name (now (c .before .before .before .before .before .before .before .before .before .before .before .before .before .before .before .args .text)) (c .before .before .before .before .before .before .before .before .before .before .before .before .before .before .before .args .var) (c .before .before .before .before .before .before .before .before .before .before .before .loop .at) (c .before .before .before .before .before .before .before .before .before .before .before .loop .inv .1) (c .before .before .before .before .before .before .before .before .before .before .item-at .result) (c .before .before .before .before .before .before .before .before .before .before .item-at .ensures) _ _ _ (c .before .before .before .before .before .before .before .before .place .given .1)) .0) (c .before .before .before .before .before .declare-name .result) _ (c .before .before .before .before .before .declare-name .ensures (c .before .before .before .before .before .before .before .before .before .before .before .loop .inv .3 ts t i h .table) (c .before .before .before .before .before .before .before .before .before .before .before .loop .inv .3 ts t i h .holds)) _ _ (c .before .a2 .given .1) (r .1) (r .2))
 
-enum-known-k : tie.Need-enum-known-k Inv-loop μ-loop
-enum-known-k c = c .match .keys4
+enum-known-a-3 : tie.Need-enum-known-a-3 Inv-loop μ-loop
+enum-known-a-3 c = c .match .keys4
 
 same-length-4 : tie.Need-same-length-4 Inv-loop μ-loop
 same-length-4 c = search needs
 
 returns-4 : tie.Need-returns-4 Inv-loop μ-loop
-returns-4 c = (λ ts t k i h. going-refused (now (c .before .before .before .before .before .before .before .before .args .text)) (c .before .before .before .before .before .before .before .before .args .var) (c .before .before .before .before .before .before .before .before .args .own) ts (c .before .before .before .before .before .before .before .before .args .max) t (c .before .before .before .before .before .before .before .before .args .n) (c .before .before .before .before .before .before .before .before .args .at) (c .before .before .before .before .loop .rows) (c .before .before .before .before .loop .n) (c .before .before .before .before .loop .g) (c .before .before .before .before .loop .at) (c .before .before .before .before .loop .inv .3 ts t i h) _ _ _ (item-refused (now (c .before .before .before .before .before .before .before .before .args .text)) (c .before .before .before .before .before .before .before .before .args .var) (c .before .before .before .before .loop .at) (c .before .before .before .before .loop .inv .1) (c .before .before .before .item-at .result) (c .before .before .before .item-at .ensures) _ _ (c .before .k .given .1)) k, ahead-refused _ _ _ _ _ refl)
+returns-4 c = let w = item-other (now (c .before .before .before .before .before .before .before .before .args .text)) (c .before .before .before .before .before .before .before .before .args .var) (c .before .before .before .before .loop .at) (c .before .before .before .before .loop .inv .1) (c .before .before .before .item-at .result) (c .before .before .before .item-at .ensures) _ (c .before .a3 .given .1) in (λ ts t k i h. rw (w .2) (going-refused (now (c .before .before .before .before .before .before .before .before .args .text)) (c .before .before .before .before .before .before .before .before .args .var) (c .before .before .before .before .before .before .before .before .args .own) ts (c .before .before .before .before .before .before .before .before .args .max) t (c .before .before .before .before .before .before .before .before .args .n) (c .before .before .before .before .before .before .before .before .args .at) (c .before .before .before .before .loop .rows) (c .before .before .before .before .loop .n) (c .before .before .before .before .loop .g) (c .before .before .before .before .loop .at) (c .before .before .before .before .loop .inv .3 ts t i h) (w .0) (w .1) _ (w .3) k), ahead-refused _ _ _ _ _ (w .2))
 
 pub typed-list-spec : {M : Type 1} → statement M
 typed-list-spec =
@@ -118,6 +118,6 @@ typed-list-spec =
     returns-3
     loop-less-2
     loop-again-2
-    enum-known-k
+    enum-known-a-3
     same-length-4
     returns-4)

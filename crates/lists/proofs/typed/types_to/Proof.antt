@@ -9,7 +9,8 @@ use lib.ListN.{length}
 use Rattle.words.specs.Bytes.{bytes}
 use Rattle.grammar.specs.Tables.{entry}
 use Rattle.grammar.specs.Lists.{typesTo}
-use Rattle.rows.specs.Held.{rowsOf, padded}
+use Rattle.rows.specs.Held.{rowsOf}
+use Rattle.grammar.specs.Indexes.{padded}
 use Rattle.lists.proofs.Outcomes.{holds-none}
 use Rattle.lists.proofs.typed.types_to.Statement.{statement}
 use Rattle.lists.proofs.typed.types_to.Tie as tie

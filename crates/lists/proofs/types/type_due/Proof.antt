@@ -7,6 +7,7 @@ use Rattle.due.proofs.Dues.{word-in, word-as, ahead-refused, ahead-by}
 use Rattle.lists.specs.Outcome.{Below}
 use Rattle.lists.proofs.Outcomes.{below-refused, below-most, found}
 use Rattle.lists.proofs.Typing.{never-ahead, type-else, type-other, type-unknown, type-late, type-known}
+use Rattle.text.proofs.Words.{word-is}
 use borrow.Author.Needs.{needs}
 use Rattle.lists.proofs.types.type_due.Statement.{statement}
 use Rattle.lists.proofs.types.type_due.Tie as tie
@@ -29,8 +30,8 @@ enum-told c = search needs
 returns-2 : tie.Need-returns-2
 returns-2 c = (λ m t h. type-other (now (c .before .before .before .before .before .before .before .args .text)) t (c .before .before .before .before .before .before .before .args .b) (c .before .before .before .before .before .before .before .args .from) _ _ _ (sym (c .before .before .before .before .token-at .ensures) ∙ c .before .before .t .given .1) (c .match2 .keys2), ahead-refused _ _ _ _ _ refl, below-refused _ _ _ _ refl)
 
-part-of-requires : tie.Need-part-of-requires
-part-of-requires c κs = search needs
+word-of-requires : tie.Need-word-of-requires
+word-of-requires c κs = search needs
 
 find-requires : tie.Need-find-requires
 find-requires c κs = search needs
@@ -42,14 +43,14 @@ enum-told-2 : tie.Need-enum-told-2
 enum-told-2 c = search needs
 
 returns-3 : tie.Need-returns-3
-returns-3 c = (λ m t h. type-unknown (now (c .before .before .before .before .before .before .before .before .before .before .before .before .args .text)) t (c .before .before .before .before .before .before .before .before .before .before .before .before .args .b) (c .before .before .before .before .before .before .before .before .before .before .before .before .args .from) _ _ (word-as _ _ _ _ _ (sym (c .before .before .before .before .before .before .before .before .before .token-at .ensures) ∙ c .before .before .before .before .before .before .before .t .given .1) (c .before .before .before .before .enum-told .given .1)) (found m (now (c .before .before .before .before .before .before .before .before .before .before .before .before .args .rows)) (c .before .before .before .before .before .before .before .before .before .before .before .before .args .n) t _ _ (c .before .before .find .result) _ h (c .before .before .find .ensures) (c .before .before .before .part-of .ensures) (c .enum-told2 .given .1)), ahead-refused _ _ _ _ _ refl, below-refused _ _ _ _ refl)
+returns-3 c = (λ m t h. type-unknown (now (c .before .before .before .before .before .before .before .before .before .before .before .before .args .text)) t (c .before .before .before .before .before .before .before .before .before .before .before .before .args .b) (c .before .before .before .before .before .before .before .before .before .before .before .before .args .from) _ _ (word-as _ _ _ _ _ (sym (c .before .before .before .before .before .before .before .before .before .token-at .ensures) ∙ c .before .before .before .before .before .before .before .t .given .1) (c .before .before .before .before .enum-told .given .1)) (found m (now (c .before .before .before .before .before .before .before .before .before .before .before .before .args .rows)) (c .before .before .before .before .before .before .before .before .before .before .before .before .args .n) t _ _ (c .before .before .find .result) _ h (c .before .before .find .ensures) (c .before .before .before .word-of .ensures ∙ word-is _ _ _ _ _ refl) (c .enum-told2 .given .1)), ahead-refused _ _ _ _ _ refl, below-refused _ _ _ _ refl)
 
 returns-4 : tie.Need-returns-4
-returns-4 c = (λ m t h. type-late (now (c .before .before .before .before .before .before .before .before .before .before .before .before .before .before .args .text)) t (c .before .before .before .before .before .before .before .before .before .before .before .before .before .before .args .b) (c .before .before .before .before .before .before .before .before .before .before .before .before .before .before .args .from) _ _ (word-as _ _ _ _ _ (sym (c .before .before .before .before .before .before .before .before .before .before .before .token-at .ensures) ∙ c .before .before .before .before .before .before .before .before .before .t .given .1) (c .before .before .before .before .before .before .enum-told .given .1)) _ (found m (now (c .before .before .before .before .before .before .before .before .before .before .before .before .before .before .args .rows)) (c .before .before .before .before .before .before .before .before .before .before .before .before .before .before .args .n) t _ _ (c .before .before .before .before .find .result) _ h (c .before .before .before .before .find .ensures) (c .before .before .before .before .before .part-of .ensures) (c .before .before .f .given .1)) (c .if1 .taken), ahead-refused _ _ _ _ _ refl, below-refused _ _ _ _ refl)
+returns-4 c = (λ m t h. type-late (now (c .before .before .before .before .before .before .before .before .before .before .before .before .before .before .args .text)) t (c .before .before .before .before .before .before .before .before .before .before .before .before .before .before .args .b) (c .before .before .before .before .before .before .before .before .before .before .before .before .before .before .args .from) _ _ (word-as _ _ _ _ _ (sym (c .before .before .before .before .before .before .before .before .before .before .before .token-at .ensures) ∙ c .before .before .before .before .before .before .before .before .before .t .given .1) (c .before .before .before .before .before .before .enum-told .given .1)) _ (found m (now (c .before .before .before .before .before .before .before .before .before .before .before .before .before .before .args .rows)) (c .before .before .before .before .before .before .before .before .before .before .before .before .before .before .args .n) t _ _ (c .before .before .before .before .find .result) _ h (c .before .before .before .before .find .ensures) (c .before .before .before .before .before .word-of .ensures ∙ word-is _ _ _ _ _ refl) (c .before .before .f .given .1)) (c .if1 .taken), ahead-refused _ _ _ _ _ refl, below-refused _ _ _ _ refl)
 
 returns-5 : tie.Need-returns-5
 unfolding Below
-returns-5 c = let w = word-in (now (c .before .before .before .before .before .before .before .before .before .before .before .before .before .before .args .text)) (c .before .before .before .before .before .before .before .before .before .before .before .before .before .before .args .from) (c .before .before .before .before .before .before .before .before .before .before .before .before .before .before .pre) _ _ _ (sym (c .before .before .before .before .before .before .before .before .before .before .before .token-at .ensures) ∙ c .before .before .before .before .before .before .before .before .before .t .given .1) in (λ m t h. type-known (now (c .before .before .before .before .before .before .before .before .before .before .before .before .before .before .args .text)) t (c .before .before .before .before .before .before .before .before .before .before .before .before .before .before .args .b) (c .before .before .before .before .before .before .before .before .before .before .before .before .before .before .args .from) _ _ (word-as _ _ _ _ _ (sym (c .before .before .before .before .before .before .before .before .before .before .before .token-at .ensures) ∙ c .before .before .before .before .before .before .before .before .before .t .given .1) (c .before .before .before .before .before .before .enum-told .given .1)) _ (found m (now (c .before .before .before .before .before .before .before .before .before .before .before .before .before .before .args .rows)) (c .before .before .before .before .before .before .before .before .before .before .before .before .before .before .args .n) t _ _ (c .before .before .before .before .find .result) _ h (c .before .before .before .before .find .ensures) (c .before .before .before .before .before .part-of .ensures) (c .before .before .f .given .1)) (c .if1 .left), ahead-by _ _ _ _ (omega arith) (w .2), c .if1 .left)
+returns-5 c = let w = word-in (now (c .before .before .before .before .before .before .before .before .before .before .before .before .before .before .args .text)) (c .before .before .before .before .before .before .before .before .before .before .before .before .before .before .args .from) (c .before .before .before .before .before .before .before .before .before .before .before .before .before .before .pre) _ _ _ (sym (c .before .before .before .before .before .before .before .before .before .before .before .token-at .ensures) ∙ c .before .before .before .before .before .before .before .before .before .t .given .1) in (λ m t h. type-known (now (c .before .before .before .before .before .before .before .before .before .before .before .before .before .before .args .text)) t (c .before .before .before .before .before .before .before .before .before .before .before .before .before .before .args .b) (c .before .before .before .before .before .before .before .before .before .before .before .before .before .before .args .from) _ _ (word-as _ _ _ _ _ (sym (c .before .before .before .before .before .before .before .before .before .before .before .token-at .ensures) ∙ c .before .before .before .before .before .before .before .before .before .t .given .1) (c .before .before .before .before .before .before .enum-told .given .1)) _ (found m (now (c .before .before .before .before .before .before .before .before .before .before .before .before .before .before .args .rows)) (c .before .before .before .before .before .before .before .before .before .before .before .before .before .before .args .n) t _ _ (c .before .before .before .before .find .result) _ h (c .before .before .before .before .find .ensures) (c .before .before .before .before .before .word-of .ensures ∙ word-is _ _ _ _ _ refl) (c .before .before .f .given .1)) (c .if1 .left), ahead-by _ _ _ _ (omega arith) (w .2), c .if1 .left)
 
 pub type-due-spec : {M : Type 1} → statement M
 type-due-spec =
@@ -61,7 +62,7 @@ type-due-spec =
     returns
     enum-told
     returns-2
-    part-of-requires
+    word-of-requires
     find-requires
     enum-known-f
     enum-told-2

@@ -1,9 +1,10 @@
 -- `parts::fields::field_at` meets its contract. Assumes nothing.
-use mathlib.Core.Path.{sym, _∙_}
+use mathlib.Core.Path.{refl, sym, _∙_}
 use denote.Ref.{now}
 use native.Mathlib.Omega.{arith}
 use Rattle.due.proofs.Dues.{word-in}
 use Rattle.parts.proofs.Timing.{field-else, field-read, field-other, farther-by, farther-not}
+use Rattle.text.proofs.Words.{word-is}
 use borrow.Author.Needs.{needs}
 use Rattle.parts.proofs.fields.field_at.Statement.{statement}
 use Rattle.parts.proofs.fields.field_at.Tie as tie
@@ -17,17 +18,17 @@ enum-known-t c = search needs
 returns : tie.Need-returns
 returns c = (field-else (now (c .before .before .before .before .args .text)) (now (c .before .before .before .before .args .w)) (c .before .before .before .before .args .from) (c .before .token-at .result) (c .before .token-at .ensures) (c .match .keys2), farther-not _ _)
 
-part-of-requires : tie.Need-part-of-requires
-part-of-requires c κs = search needs
+word-of-requires : tie.Need-word-of-requires
+word-of-requires c κs = search needs
 
 same-word-requires : tie.Need-same-word-requires
 same-word-requires c κs = search needs
 
 returns-2 : tie.Need-returns-2
-returns-2 c = let w = word-in (now (c .before .before .before .before .before .before .before .before .before .args .text)) (c .before .before .before .before .before .before .before .before .before .args .from) (c .before .before .before .before .before .before .before .before .before .pre) _ _ _ (sym (c .before .before .before .before .before .before .token-at .ensures) ∙ c .before .before .before .before .t .given .1) in (field-read (now (c .before .before .before .before .before .before .before .before .before .args .text)) (now (c .before .before .before .before .before .before .before .before .before .args .w)) (c .before .before .before .before .before .before .before .before .before .args .from) _ _ _ (sym (c .before .before .before .before .before .before .token-at .ensures) ∙ c .before .before .before .before .t .given .1) (rw (c .before .before .part-of .ensures) at (sym (c .before .same-word .ensures) ∙ c .if1 .taken)), farther-by _ _ _ (omega arith) (w .2))
+returns-2 c = let w = word-in (now (c .before .before .before .before .before .before .before .before .before .args .text)) (c .before .before .before .before .before .before .before .before .before .args .from) (c .before .before .before .before .before .before .before .before .before .pre) _ _ _ (sym (c .before .before .before .before .before .before .token-at .ensures) ∙ c .before .before .before .before .t .given .1) in (field-read (now (c .before .before .before .before .before .before .before .before .before .args .text)) (now (c .before .before .before .before .before .before .before .before .before .args .w)) (c .before .before .before .before .before .before .before .before .before .args .from) _ _ _ (sym (c .before .before .before .before .before .before .token-at .ensures) ∙ c .before .before .before .before .t .given .1) (rw (c .before .before .word-of .ensures ∙ word-is _ _ _ _ _ refl) at (sym (c .before .same-word .ensures) ∙ c .if1 .taken)), farther-by _ _ _ (omega arith) (w .2))
 
 returns-3 : tie.Need-returns-3
-returns-3 c = (field-other (now (c .before .before .before .before .before .before .before .before .before .args .text)) (now (c .before .before .before .before .before .before .before .before .before .args .w)) (c .before .before .before .before .before .before .before .before .before .args .from) _ _ _ (sym (c .before .before .before .before .before .before .token-at .ensures) ∙ c .before .before .before .before .t .given .1) (rw (c .before .before .part-of .ensures) at (sym (c .before .same-word .ensures) ∙ c .if1 .left)), farther-not _ _)
+returns-3 c = (field-other (now (c .before .before .before .before .before .before .before .before .before .args .text)) (now (c .before .before .before .before .before .before .before .before .before .args .w)) (c .before .before .before .before .before .before .before .before .before .args .from) _ _ _ (sym (c .before .before .before .before .before .before .token-at .ensures) ∙ c .before .before .before .before .t .given .1) (rw (c .before .before .word-of .ensures ∙ word-is _ _ _ _ _ refl) at (sym (c .before .same-word .ensures) ∙ c .if1 .left)), farther-not _ _)
 
 pub field-at-spec : {M : Type 1} → statement M
 field-at-spec =
@@ -36,7 +37,7 @@ field-at-spec =
     token-at-requires
     enum-known-t
     returns
-    part-of-requires
+    word-of-requires
     same-word-requires
     returns-2
     returns-3)

@@ -1,5 +1,5 @@
 -- `parts::timed::parts_at` meets its contract. Assumes nothing.
-use mathlib.Core.Path.{sym, ap, _∙_}
+use mathlib.Core.Path.{refl, sym, ap, _∙_}
 use denote.Ref.{now}
 use Prim.Native.Nat.{_+_, _-_}
 use native.Mathlib.Omega.{arith}
@@ -12,6 +12,7 @@ use Rattle.parts.specs.Bodies.{bodyOf}
 use Rattle.parts.proofs.Opening.{opened-deep}
 use Rattle.parts.proofs.Headed.{parts-unopened, parts-else, parts-several, parts-one, spent-back}
 use Rattle.words.specs.Bytes.{bytes}
+use Rattle.text.proofs.Words.{word-is}
 use borrow.Author.Needs.{needs}
 use Rattle.parts.proofs.timed.parts_at.Statement.{statement}
 use Rattle.parts.proofs.timed.parts_at.Tie as tie
@@ -49,8 +50,8 @@ progress-of-requires-2 c κs = search needs
 returns-2 : tie.Need-returns-2
 returns-2 c = (λ x h. parts-else (now (c .before .before .before .before .before .before .before .before .before .before .before .args .text)) (c .before .before .before .before .before .before .before .before .before .before .before .args .over) (bodyOf (c .before .before .before .before .before .before .before .before .before .before .before .args .over) (now (c .before .before .before .before .before .before .before .before .before .before .before .args .text)) x) (c .before .before .before .before .before .before .before .before .before .before .before .args .d) (c .before .before .before .before .before .before .before .before .before .before .before .args .left) (c .before .before .before .before .before .before .before .before .before .before .before .args .from) (now (c .before .before .before .before .before .before .before .before .before .before .before .args .code)) (c .before .before .before .before .before .before .before .before .before .before .before .args .used) _ _ (answer-done (opening (now (c .before .before .before .before .before .before .before .before .before .before .before .args .text)) (c .before .before .before .before .before .before .before .before .before .before .before .args .d) (c .before .before .before .before .before .before .before .before .before .before .before .args .from)) _ _ (sym (c .before .before .before .before .before .before .before .opening .ensures .0) ∙ c .before .before .before .before .before .o .given .1)) (c .before .before .before .token-at .result) (c .before .before .before .token-at .ensures) (c .before .before .match2 .keys2) (c .progress-of2 .result) (c .progress-of2 .ensures ∙ ap (passed _) (c .before .refusal .ensures)), spent-refused _ _ _ _ _ _ _ (c .progress-of2 .ensures ∙ ap (passed _) (c .before .refusal .ensures)))
 
-part-of-requires : tie.Need-part-of-requires
-part-of-requires c κs = search needs
+word-of-requires : tie.Need-word-of-requires
+word-of-requires c κs = search needs
 
 slice-aggregate-same-word : tie.Need-slice-aggregate-same-word
 slice-aggregate-same-word c = search needs
@@ -69,7 +70,7 @@ same-length c = search needs
 
 returns-3 : tie.Need-returns-3
 unfolding bytes
-returns-3 c = let q = ahead-done _ _ _ _ _ (c .before .before .before .before .before .before .before .before .before .before .before .before .before .o .given .1) (c .before .before .before .before .before .before .before .before .before .before .before .before .before .before .before .opening .ensures .1) in let w = word-in (now (c .before .before .before .before .before .before .before .before .before .before .before .before .before .before .before .before .before .before .before .args .text)) _ (q .1) _ _ _ (sym (c .before .before .before .before .before .before .before .before .before .before .before .token-at .ensures) ∙ c .before .before .before .before .before .before .before .before .before .t .given .1) in (λ x h. parts-several (now (c .before .before .before .before .before .before .before .before .before .before .before .before .before .before .before .before .before .before .before .args .text)) (c .before .before .before .before .before .before .before .before .before .before .before .before .before .before .before .before .before .before .before .args .over) (bodyOf (c .before .before .before .before .before .before .before .before .before .before .before .before .before .before .before .before .before .before .before .args .over) (now (c .before .before .before .before .before .before .before .before .before .before .before .before .before .before .before .before .before .before .before .args .text)) x) (c .before .before .before .before .before .before .before .before .before .before .before .before .before .before .before .before .before .before .before .args .d) (c .before .before .before .before .before .before .before .before .before .before .before .before .before .before .before .before .before .before .before .args .left) (c .before .before .before .before .before .before .before .before .before .before .before .before .before .before .before .before .before .before .before .args .from) (now (c .before .before .before .before .before .before .before .before .before .before .before .before .before .before .before .before .before .before .before .args .code)) (c .before .before .before .before .before .before .before .before .before .before .before .before .before .before .before .before .before .before .before .args .used) _ _ (answer-done (opening (now (c .before .before .before .before .before .before .before .before .before .before .before .before .before .before .before .before .before .before .before .args .text)) (c .before .before .before .before .before .before .before .before .before .before .before .before .before .before .before .before .before .before .before .args .d) (c .before .before .before .before .before .before .before .before .before .before .before .before .before .before .before .before .before .before .before .args .from)) _ _ (sym (c .before .before .before .before .before .before .before .before .before .before .before .before .before .before .before .opening .ensures .0) ∙ c .before .before .before .before .before .before .before .before .before .before .before .before .before .o .given .1)) _ _ _ (sym (c .before .before .before .before .before .before .before .before .before .before .before .token-at .ensures) ∙ c .before .before .before .before .before .before .before .before .before .t .given .1) (c .before .before .parts-to .result) _ (rw (c .before .before .before .before .before .before .before .part-of .ensures) at (sym (c .before .before .before .before .before .same-word .ensures) ∙ c .before .before .before .before .if1 .taken)) (c .before .before .parts-to .ensures .0 x (length (now (c .before .before .before .before .before .before .before .before .before .before .before .before .before .before .before .before .before .before .before .args .text)) + 1) h (omega arith)), spent-back (c .before .before .parts-to .result) _ _ _ _ (omega (arith, q .0, w .0, w .1)) (c .before .before .parts-to .ensures .1))
+returns-3 c = let q = ahead-done _ _ _ _ _ (c .before .before .before .before .before .before .before .before .before .before .before .before .before .o .given .1) (c .before .before .before .before .before .before .before .before .before .before .before .before .before .before .before .opening .ensures .1) in let w = word-in (now (c .before .before .before .before .before .before .before .before .before .before .before .before .before .before .before .before .before .before .before .args .text)) _ (q .1) _ _ _ (sym (c .before .before .before .before .before .before .before .before .before .before .before .token-at .ensures) ∙ c .before .before .before .before .before .before .before .before .before .t .given .1) in (λ x h. parts-several (now (c .before .before .before .before .before .before .before .before .before .before .before .before .before .before .before .before .before .before .before .args .text)) (c .before .before .before .before .before .before .before .before .before .before .before .before .before .before .before .before .before .before .before .args .over) (bodyOf (c .before .before .before .before .before .before .before .before .before .before .before .before .before .before .before .before .before .before .before .args .over) (now (c .before .before .before .before .before .before .before .before .before .before .before .before .before .before .before .before .before .before .before .args .text)) x) (c .before .before .before .before .before .before .before .before .before .before .before .before .before .before .before .before .before .before .before .args .d) (c .before .before .before .before .before .before .before .before .before .before .before .before .before .before .before .before .before .before .before .args .left) (c .before .before .before .before .before .before .before .before .before .before .before .before .before .before .before .before .before .before .before .args .from) (now (c .before .before .before .before .before .before .before .before .before .before .before .before .before .before .before .before .before .before .before .args .code)) (c .before .before .before .before .before .before .before .before .before .before .before .before .before .before .before .before .before .before .before .args .used) _ _ (answer-done (opening (now (c .before .before .before .before .before .before .before .before .before .before .before .before .before .before .before .before .before .before .before .args .text)) (c .before .before .before .before .before .before .before .before .before .before .before .before .before .before .before .before .before .before .before .args .d) (c .before .before .before .before .before .before .before .before .before .before .before .before .before .before .before .before .before .before .before .args .from)) _ _ (sym (c .before .before .before .before .before .before .before .before .before .before .before .before .before .before .before .opening .ensures .0) ∙ c .before .before .before .before .before .before .before .before .before .before .before .before .before .o .given .1)) _ _ _ (sym (c .before .before .before .before .before .before .before .before .before .before .before .token-at .ensures) ∙ c .before .before .before .before .before .before .before .before .before .t .given .1) (c .before .before .parts-to .result) _ (rw (c .before .before .before .before .before .before .before .word-of .ensures ∙ word-is _ _ _ _ _ refl) at (sym (c .before .before .before .before .before .same-word .ensures) ∙ c .before .before .before .before .if1 .taken)) (c .before .before .parts-to .ensures .0 x (length (now (c .before .before .before .before .before .before .before .before .before .before .before .before .before .before .before .before .before .before .before .args .text)) + 1) h (omega arith)), spent-back (c .before .before .parts-to .result) _ _ _ _ (omega (arith, q .0, w .0, w .1)) (c .before .before .parts-to .ensures .1))
 
 sub-part-behind : tie.Need-sub-part-behind
 sub-part-behind c = let deep = opened-deep (now (c .before .before .before .before .before .before .before .before .before .before .before .before .before .before .before .args .text)) (c .before .before .before .before .before .before .before .before .before .before .before .before .before .before .before .args .d) (c .before .before .before .before .before .before .before .before .before .before .before .before .before .before .before .args .from) _ _ (answer-done (opening (now (c .before .before .before .before .before .before .before .before .before .before .before .before .before .before .before .args .text)) (c .before .before .before .before .before .before .before .before .before .before .before .before .before .before .before .args .d) (c .before .before .before .before .before .before .before .before .before .before .before .before .before .before .before .args .from)) _ _ (sym (c .before .before .before .before .before .before .before .before .before .before .before .opening .ensures .0) ∙ c .before .before .before .before .before .before .before .before .before .o .given .1)) in omega arith
@@ -82,7 +83,7 @@ same-length-2 c = search needs
 
 returns-4 : tie.Need-returns-4
 unfolding bytes
-returns-4 c = let q = ahead-done _ _ _ _ _ (c .before .before .before .before .before .before .before .before .before .before .before .before .before .o .given .1) (c .before .before .before .before .before .before .before .before .before .before .before .before .before .before .before .opening .ensures .1) in let w = word-in (now (c .before .before .before .before .before .before .before .before .before .before .before .before .before .before .before .before .before .before .before .args .text)) _ (q .1) _ _ _ (sym (c .before .before .before .before .before .before .before .before .before .before .before .token-at .ensures) ∙ c .before .before .before .before .before .before .before .before .before .t .given .1) in (λ x h. parts-one (now (c .before .before .before .before .before .before .before .before .before .before .before .before .before .before .before .before .before .before .before .args .text)) (c .before .before .before .before .before .before .before .before .before .before .before .before .before .before .before .before .before .before .before .args .over) (bodyOf (c .before .before .before .before .before .before .before .before .before .before .before .before .before .before .before .before .before .before .before .args .over) (now (c .before .before .before .before .before .before .before .before .before .before .before .before .before .before .before .before .before .before .before .args .text)) x) (c .before .before .before .before .before .before .before .before .before .before .before .before .before .before .before .before .before .before .before .args .d) (c .before .before .before .before .before .before .before .before .before .before .before .before .before .before .before .before .before .before .before .args .left) (c .before .before .before .before .before .before .before .before .before .before .before .before .before .before .before .before .before .before .before .args .from) (now (c .before .before .before .before .before .before .before .before .before .before .before .before .before .before .before .before .before .before .before .args .code)) (c .before .before .before .before .before .before .before .before .before .before .before .before .before .before .before .before .before .before .before .args .used) _ _ (answer-done (opening (now (c .before .before .before .before .before .before .before .before .before .before .before .before .before .before .before .before .before .before .before .args .text)) (c .before .before .before .before .before .before .before .before .before .before .before .before .before .before .before .before .before .before .before .args .d) (c .before .before .before .before .before .before .before .before .before .before .before .before .before .before .before .before .before .before .before .args .from)) _ _ (sym (c .before .before .before .before .before .before .before .before .before .before .before .before .before .before .before .opening .ensures .0) ∙ c .before .before .before .before .before .before .before .before .before .before .before .before .before .o .given .1)) _ _ _ (sym (c .before .before .before .before .before .before .before .before .before .before .before .token-at .ensures) ∙ c .before .before .before .before .before .before .before .before .before .t .given .1) (c .before .before .part-behind .result) _ (rw (c .before .before .before .before .before .before .before .part-of .ensures) at (sym (c .before .before .before .before .before .same-word .ensures) ∙ c .before .before .before .before .if1 .left)) (c .before .before .part-behind .ensures .0 x h), spent-back (c .before .before .part-behind .result) _ _ _ _ (omega (arith, q .0, w .0, w .1)) (c .before .before .part-behind .ensures .1))
+returns-4 c = let q = ahead-done _ _ _ _ _ (c .before .before .before .before .before .before .before .before .before .before .before .before .before .o .given .1) (c .before .before .before .before .before .before .before .before .before .before .before .before .before .before .before .opening .ensures .1) in let w = word-in (now (c .before .before .before .before .before .before .before .before .before .before .before .before .before .before .before .before .before .before .before .args .text)) _ (q .1) _ _ _ (sym (c .before .before .before .before .before .before .before .before .before .before .before .token-at .ensures) ∙ c .before .before .before .before .before .before .before .before .before .t .given .1) in (λ x h. parts-one (now (c .before .before .before .before .before .before .before .before .before .before .before .before .before .before .before .before .before .before .before .args .text)) (c .before .before .before .before .before .before .before .before .before .before .before .before .before .before .before .before .before .before .before .args .over) (bodyOf (c .before .before .before .before .before .before .before .before .before .before .before .before .before .before .before .before .before .before .before .args .over) (now (c .before .before .before .before .before .before .before .before .before .before .before .before .before .before .before .before .before .before .before .args .text)) x) (c .before .before .before .before .before .before .before .before .before .before .before .before .before .before .before .before .before .before .before .args .d) (c .before .before .before .before .before .before .before .before .before .before .before .before .before .before .before .before .before .before .before .args .left) (c .before .before .before .before .before .before .before .before .before .before .before .before .before .before .before .before .before .before .before .args .from) (now (c .before .before .before .before .before .before .before .before .before .before .before .before .before .before .before .before .before .before .before .args .code)) (c .before .before .before .before .before .before .before .before .before .before .before .before .before .before .before .before .before .before .before .args .used) _ _ (answer-done (opening (now (c .before .before .before .before .before .before .before .before .before .before .before .before .before .before .before .before .before .before .before .args .text)) (c .before .before .before .before .before .before .before .before .before .before .before .before .before .before .before .before .before .before .before .args .d) (c .before .before .before .before .before .before .before .before .before .before .before .before .before .before .before .before .before .before .before .args .from)) _ _ (sym (c .before .before .before .before .before .before .before .before .before .before .before .before .before .before .before .opening .ensures .0) ∙ c .before .before .before .before .before .before .before .before .before .before .before .before .before .o .given .1)) _ _ _ (sym (c .before .before .before .before .before .before .before .before .before .before .before .token-at .ensures) ∙ c .before .before .before .before .before .before .before .before .before .t .given .1) (c .before .before .part-behind .result) _ (rw (c .before .before .before .before .before .before .before .word-of .ensures ∙ word-is _ _ _ _ _ refl) at (sym (c .before .before .before .before .before .same-word .ensures) ∙ c .before .before .before .before .if1 .left)) (c .before .before .part-behind .ensures .0 x h), spent-back (c .before .before .part-behind .result) _ _ _ _ (omega (arith, q .0, w .0, w .1)) (c .before .before .part-behind .ensures .1))
 
 pub parts-at-spec : {M : Type 1} → statement M
 parts-at-spec =
@@ -99,7 +100,7 @@ parts-at-spec =
     refusal-requires
     progress-of-requires-2
     returns-2
-    part-of-requires
+    word-of-requires
     slice-aggregate-same-word
     same-word-requires
     sub-parts-to

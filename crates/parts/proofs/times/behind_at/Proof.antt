@@ -5,6 +5,7 @@ use native.Mathlib.Omega.{arith}
 use Rattle.due.proofs.Dues.{ahead-refused, ahead-by, word-in}
 use Rattle.words.specs.Bytes.{bytes}
 use Rattle.parts.proofs.Timing.{behind-else, behind-start, behind-end, behind-other}
+use Rattle.text.proofs.Words.{word-is}
 use borrow.Author.Needs.{needs}
 use Rattle.parts.proofs.times.behind_at.Statement.{statement}
 use Rattle.parts.proofs.times.behind_at.Tie as tie
@@ -21,8 +22,8 @@ refusal-requires c κs = search needs
 returns : tie.Need-returns
 returns c = (behind-else (now (c .before .before .before .before .args .text)) (c .before .before .before .before .args .d) (c .before .before .before .before .args .from) (c .before .before .token-at .result) _ (c .before .before .token-at .ensures) (c .before .match .keys2) (c .refusal .ensures), ahead-refused _ _ _ _ _ (c .refusal .ensures))
 
-part-of-requires : tie.Need-part-of-requires
-part-of-requires c κs = search needs
+word-of-requires : tie.Need-word-of-requires
+word-of-requires c κs = search needs
 
 slice-aggregate-same-word : tie.Need-slice-aggregate-same-word
 slice-aggregate-same-word c = search needs
@@ -32,10 +33,10 @@ same-word-requires c κs = search needs
 
 returns-2 : tie.Need-returns-2
 unfolding bytes
-returns-2 c = let w = word-in (now (c .before .before .before .before .before .before .before .before .before .args .text)) (c .before .before .before .before .before .before .before .before .before .args .from) (c .before .before .before .before .before .before .before .before .before .pre) _ _ _ (sym (c .before .before .before .before .before .before .before .token-at .ensures) ∙ c .before .before .before .before .before .t .given .1) in (behind-start (now (c .before .before .before .before .before .before .before .before .before .args .text)) (c .before .before .before .before .before .before .before .before .before .args .d) (c .before .before .before .before .before .before .before .before .before .args .from) _ _ _ (sym (c .before .before .before .before .before .before .before .token-at .ensures) ∙ c .before .before .before .before .before .t .given .1) (rw (c .before .before .before .part-of .ensures) at (sym (c .before .same-word .ensures) ∙ c .if1 .taken)), ahead-by _ _ _ _ (omega arith) (w .2))
+returns-2 c = let w = word-in (now (c .before .before .before .before .before .before .before .before .before .args .text)) (c .before .before .before .before .before .before .before .before .before .args .from) (c .before .before .before .before .before .before .before .before .before .pre) _ _ _ (sym (c .before .before .before .before .before .before .before .token-at .ensures) ∙ c .before .before .before .before .before .t .given .1) in (behind-start (now (c .before .before .before .before .before .before .before .before .before .args .text)) (c .before .before .before .before .before .before .before .before .before .args .d) (c .before .before .before .before .before .before .before .before .before .args .from) _ _ _ (sym (c .before .before .before .before .before .before .before .token-at .ensures) ∙ c .before .before .before .before .before .t .given .1) (rw (c .before .before .before .word-of .ensures ∙ word-is _ _ _ _ _ refl) at (sym (c .before .same-word .ensures) ∙ c .if1 .taken)), ahead-by _ _ _ _ (omega arith) (w .2))
 
-part-of-requires-2 : tie.Need-part-of-requires-2
-part-of-requires-2 c κs = search needs
+word-of-requires-2 : tie.Need-word-of-requires-2
+word-of-requires-2 c κs = search needs
 
 slice-aggregate-same-word-2 : tie.Need-slice-aggregate-same-word-2
 slice-aggregate-same-word-2 c = search needs
@@ -45,11 +46,11 @@ same-word-requires-2 c κs = search needs
 
 returns-3 : tie.Need-returns-3
 unfolding bytes
-returns-3 c = let w = word-in (now (c .before .before .before .before .before .before .before .before .before .before .before .before .before .args .text)) (c .before .before .before .before .before .before .before .before .before .before .before .before .before .args .from) (c .before .before .before .before .before .before .before .before .before .before .before .before .before .pre) _ _ _ (sym (c .before .before .before .before .before .before .before .before .before .before .before .token-at .ensures) ∙ c .before .before .before .before .before .before .before .before .before .t .given .1) in (behind-end (now (c .before .before .before .before .before .before .before .before .before .before .before .before .before .args .text)) (c .before .before .before .before .before .before .before .before .before .before .before .before .before .args .d) (c .before .before .before .before .before .before .before .before .before .before .before .before .before .args .from) _ _ _ (sym (c .before .before .before .before .before .before .before .before .before .before .before .token-at .ensures) ∙ c .before .before .before .before .before .before .before .before .before .t .given .1) (rw (c .before .before .before .before .before .before .before .part-of .ensures) at (sym (c .before .before .before .before .before .same-word .ensures) ∙ c .before .before .before .before .if1 .left)) (rw (c .before .before .before .part-of2 .ensures) at (sym (c .before .same-word2 .ensures) ∙ c .if2 .taken)), ahead-by _ _ _ _ (omega arith) (w .2))
+returns-3 c = let w = word-in (now (c .before .before .before .before .before .before .before .before .before .before .before .before .before .args .text)) (c .before .before .before .before .before .before .before .before .before .before .before .before .before .args .from) (c .before .before .before .before .before .before .before .before .before .before .before .before .before .pre) _ _ _ (sym (c .before .before .before .before .before .before .before .before .before .before .before .token-at .ensures) ∙ c .before .before .before .before .before .before .before .before .before .t .given .1) in (behind-end (now (c .before .before .before .before .before .before .before .before .before .before .before .before .before .args .text)) (c .before .before .before .before .before .before .before .before .before .before .before .before .before .args .d) (c .before .before .before .before .before .before .before .before .before .before .before .before .before .args .from) _ _ _ (sym (c .before .before .before .before .before .before .before .before .before .before .before .token-at .ensures) ∙ c .before .before .before .before .before .before .before .before .before .t .given .1) (rw (c .before .before .before .before .before .before .before .word-of .ensures ∙ word-is _ _ _ _ _ refl) at (sym (c .before .before .before .before .before .same-word .ensures) ∙ c .before .before .before .before .if1 .left)) (rw (c .before .before .before .word-of2 .ensures ∙ word-is _ _ _ _ _ refl) at (sym (c .before .same-word2 .ensures) ∙ c .if2 .taken)), ahead-by _ _ _ _ (omega arith) (w .2))
 
 returns-4 : tie.Need-returns-4
 unfolding bytes
-returns-4 c = (behind-other (now (c .before .before .before .before .before .before .before .before .before .before .before .before .before .args .text)) (c .before .before .before .before .before .before .before .before .before .before .before .before .before .args .d) (c .before .before .before .before .before .before .before .before .before .before .before .before .before .args .from) _ _ _ (sym (c .before .before .before .before .before .before .before .before .before .before .before .token-at .ensures) ∙ c .before .before .before .before .before .before .before .before .before .t .given .1) (rw (c .before .before .before .before .before .before .before .part-of .ensures) at (sym (c .before .before .before .before .before .same-word .ensures) ∙ c .before .before .before .before .if1 .left)) (rw (c .before .before .before .part-of2 .ensures) at (sym (c .before .same-word2 .ensures) ∙ c .if2 .left)), ahead-refused _ _ 3 _ _ refl)
+returns-4 c = (behind-other (now (c .before .before .before .before .before .before .before .before .before .before .before .before .before .args .text)) (c .before .before .before .before .before .before .before .before .before .before .before .before .before .args .d) (c .before .before .before .before .before .before .before .before .before .before .before .before .before .args .from) _ _ _ (sym (c .before .before .before .before .before .before .before .before .before .before .before .token-at .ensures) ∙ c .before .before .before .before .before .before .before .before .before .t .given .1) (rw (c .before .before .before .before .before .before .before .word-of .ensures ∙ word-is _ _ _ _ _ refl) at (sym (c .before .before .before .before .before .same-word .ensures) ∙ c .before .before .before .before .if1 .left)) (rw (c .before .before .before .word-of2 .ensures ∙ word-is _ _ _ _ _ refl) at (sym (c .before .same-word2 .ensures) ∙ c .if2 .left)), ahead-refused _ _ 3 _ _ refl)
 
 pub behind-at-spec : {M : Type 1} → statement M
 behind-at-spec =
@@ -59,11 +60,11 @@ behind-at-spec =
     enum-known-t
     refusal-requires
     returns
-    part-of-requires
+    word-of-requires
     slice-aggregate-same-word
     same-word-requires
     returns-2
-    part-of-requires-2
+    word-of-requires-2
     slice-aggregate-same-word-2
     same-word-requires-2
     returns-3

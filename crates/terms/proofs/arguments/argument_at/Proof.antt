@@ -7,6 +7,7 @@ use lib.ListN.{length}
 use Rattle.terms.proofs.Givens.{cell-refused, name-ahead, variable-ahead, argument-else, argument-word}
 use Rattle.due.proofs.Dues.{ahead-refused, word-in}
 use Rattle.terms.specs.Cells.{cellAnswer}
+use Rattle.text.proofs.Words.{word-is}
 use borrow.Author.Needs.{needs}
 use Rattle.terms.proofs.arguments.argument_at.Statement.{statement}
 use Rattle.terms.proofs.arguments.argument_at.Tie as tie
@@ -26,6 +27,9 @@ returns c = (λ x h. argument-else (now (c .before .before .before .before .befo
 enum-told : tie.Need-enum-told
 enum-told c = search needs
 
+word-of-requires : tie.Need-word-of-requires
+word-of-requires c κs = search needs
+
 object-at-requires : tie.Need-object-at-requires
 object-at-requires c κs = search needs
 
@@ -42,7 +46,7 @@ enum-told-4 : tie.Need-enum-told-4
 enum-told-4 c = search needs
 
 returns-2 : tie.Need-returns-2
-returns-2 c = let w = word-in (now (c .before .before .before .before .before .before .before .before .before .args .text)) (c .before .before .before .before .before .before .before .before .before .args .from) (c .before .before .before .before .before .before .before .before .before .pre .0) _ _ _ (sym (c .before .before .before .before .before .before .token-at .ensures) ∙ c .before .before .before .before .t .given .1) in (λ x h. c .object-at .ensures .0 x h ∙ sym (ap cellAnswer (argument-word (now (c .before .before .before .before .before .before .before .before .before .args .text)) (c .before .before .before .before .before .before .before .before .before .args .d) (c .before .before .before .before .before .before .before .before .before .args .from) x _ _ _ _ (sym (c .before .before .before .before .before .before .token-at .ensures) ∙ c .before .before .before .before .t .given .1) (c .before .enum-told .given .1))), c .object-at .ensures .1, rw (c .object-at .ensures .0 (c .before .before .before .before .before .before .before .before .before .pre .1 .0) (c .before .before .before .before .before .before .before .before .before .pre .1 .1)) (name-ahead (now (c .before .before .before .before .before .before .before .before .before .args .text)) (c .before .before .before .before .before .before .before .before .before .pre .1 .0) (c .before .before .before .before .t .given .0 .1 .0) (c .before .before .before .before .t .given .0 .1 .1 .0) (length (now (c .before .before .before .before .before .before .before .before .before .args .text))) (c .before .before .before .before .before .before .before .before .before .args .from) (omega arith) (w .2)))
+returns-2 c = let w = word-in (now (c .before .before .before .before .before .before .before .before .before .before .args .text)) (c .before .before .before .before .before .before .before .before .before .before .args .from) (c .before .before .before .before .before .before .before .before .before .before .pre .0) _ _ _ (sym (c .before .before .before .before .before .before .before .token-at .ensures) ∙ c .before .before .before .before .before .t .given .1) in (λ x h. c .object-at .ensures .0 (now (c .before .before .before .before .before .before .before .before .before .before .args .text)) x (c .before .word-of .ensures ∙ word-is _ _ _ _ _ refl) h ∙ sym (ap cellAnswer (argument-word (now (c .before .before .before .before .before .before .before .before .before .before .args .text)) (c .before .before .before .before .before .before .before .before .before .before .args .d) (c .before .before .before .before .before .before .before .before .before .before .args .from) x _ _ _ _ (sym (c .before .before .before .before .before .before .before .token-at .ensures) ∙ c .before .before .before .before .before .t .given .1) (c .before .before .enum-told .given .1))), c .object-at .ensures .1, rw (c .object-at .ensures .0 (now (c .before .before .before .before .before .before .before .before .before .before .args .text)) (c .before .before .before .before .before .before .before .before .before .before .pre .1 .0) (c .before .word-of .ensures ∙ word-is _ _ _ _ _ refl) (c .before .before .before .before .before .before .before .before .before .before .pre .1 .1)) (name-ahead (now (c .before .before .before .before .before .before .before .before .before .before .args .text)) (c .before .before .before .before .before .before .before .before .before .before .pre .1 .0) (c .before .before .before .before .before .t .given .0 .1 .0) (c .before .before .before .before .before .t .given .0 .1 .1 .0) (length (now (c .before .before .before .before .before .before .before .before .before .before .args .text))) (c .before .before .before .before .before .before .before .before .before .before .args .from) (omega arith) (w .2)))
 
 returns-3 : tie.Need-returns-3
 returns-3 c = let w = word-in (now (c .before .before .before .before .before .before .before .before .before .args .text)) (c .before .before .before .before .before .before .before .before .before .args .from) (c .before .before .before .before .before .before .before .before .before .pre .0) _ _ _ (sym (c .before .before .before .before .before .before .token-at .ensures) ∙ c .before .before .before .before .t .given .1) in (λ x h. c .variable-at .ensures .0 x h ∙ sym (ap cellAnswer (argument-word (now (c .before .before .before .before .before .before .before .before .before .args .text)) (c .before .before .before .before .before .before .before .before .before .args .d) (c .before .before .before .before .before .before .before .before .before .args .from) x _ _ _ _ (sym (c .before .before .before .before .before .before .token-at .ensures) ∙ c .before .before .before .before .t .given .1) (c .before .enum-told2 .given .1))), c .variable-at .ensures .1, rw (c .variable-at .ensures .0 (c .before .before .before .before .before .before .before .before .before .pre .1 .0) (c .before .before .before .before .before .before .before .before .before .pre .1 .1)) (variable-ahead (now (c .before .before .before .before .before .before .before .before .before .args .text)) (c .before .before .before .before .before .before .before .before .before .pre .1 .0) (c .before .before .before .before .t .given .0 .1 .0) (c .before .before .before .before .t .given .0 .1 .1 .0) (length (now (c .before .before .before .before .before .before .before .before .before .args .text))) (c .before .before .before .before .before .before .before .before .before .args .from) (omega arith) (w .2)))
@@ -62,6 +66,7 @@ argument-at-spec =
     refusal-requires
     returns
     enum-told
+    word-of-requires
     object-at-requires
     enum-told-2
     variable-at-requires

@@ -1,6 +1,5 @@
 -- `terms::arguments::object_at` meets its contract. Assumes nothing.
 use mathlib.Core.Path.{refl, sym, _∙_}
-use denote.Ref.{now}
 use native.Mathlib.Omega.{arith}
 use Prim.Native.Nat.{_-_}
 use Rattle.terms.proofs.Givens.{cell-done, cell-refused, name-found, name-missing}
@@ -8,9 +7,6 @@ use Rattle.terms.proofs.Kept.{found-below}
 use borrow.Author.Needs.{needs}
 use Rattle.terms.proofs.arguments.object_at.Statement.{statement}
 use Rattle.terms.proofs.arguments.object_at.Tie as tie
-
-part-of-requires : tie.Need-part-of-requires
-part-of-requires c κs = search needs
 
 find-in-requires : tie.Need-find-in-requires
 find-in-requires c κs = search needs
@@ -22,11 +18,11 @@ enum-told : tie.Need-enum-told
 enum-told c = search needs
 
 returns : tie.Need-returns
-returns c = (λ x h. name-missing (now (c .before .before .before .before .before .before .args .text)) x (c .before .before .before .before .before .before .args .p) (c .before .before .before .before .before .before .args .e) (sym (rw (c .before .before .before .part-of .ensures) at (c .before .before .find-in .ensures _ (x .objects) (h .objects))) ∙ c .enum-told .given .1), cell-refused 8 (c .before .before .before .before .before .before .args .p) _ refl)
+returns c = (λ s x q h. name-missing s x (c .before .before .before .before .before .args .p) (c .before .before .before .before .before .args .e) (sym (rw q at (c .before .before .find-in .ensures _ (x .objects) (h .objects))) ∙ c .enum-told .given .1), cell-refused 8 (c .before .before .before .before .before .args .p) _ refl)
 
 returns-2 : tie.Need-returns-2
-returns-2 c = (λ x h. name-found (now (c .before .before .before .before .before .before .before .args .text)) x (c .before .before .before .before .before .before .before .args .p) (c .before .before .before .before .before .before .before .args .e) (c .before .f .given .0 .0) (sym (rw (c .before .before .before .before .part-of .ensures) at (c .before .before .before .find-in .ensures _ (x .objects) (h .objects))) ∙ c .before .f .given .1), let h = c .before .before .before .before .before .before .before .pre .1 in let x = c .before .before .before .before .before .before .before .pre .0 in cell-done _ (c .before .f .given .0 .0) (omega (arith, found-below (x .objects) _ (c .before .f .given .0 .0) (sym (rw (c .before .before .before .before .part-of .ensures) at (c .before .before .before .find-in .ensures _ (x .objects) (h .objects))) ∙ c .before .f .given .1), h .objects .fits, h .objects .count)))
+returns-2 c = (λ s x q h. name-found s x (c .before .before .before .before .before .before .args .p) (c .before .before .before .before .before .before .args .e) (c .before .f .given .0 .0) (sym (rw q at (c .before .before .before .find-in .ensures _ (x .objects) (h .objects))) ∙ c .before .f .given .1), let h = c .before .before .before .before .before .before .pre .1 in let x = c .before .before .before .before .before .before .pre .0 in cell-done _ (c .before .f .given .0 .0) (omega (arith, found-below (x .objects) _ (c .before .f .given .0 .0) (sym (c .before .before .before .find-in .ensures _ (x .objects) (h .objects)) ∙ c .before .f .given .1), h .objects .fits, h .objects .count)))
 
 pub object-at-spec : {M : Type 1} → statement M
 object-at-spec =
-    tie.close (tie.spec part-of-requires find-in-requires enum-known-f enum-told returns returns-2)
+    tie.close (tie.spec find-in-requires enum-known-f enum-told returns returns-2)

@@ -1,0 +1,2 @@
+-- What the contracts name, module by module.
+pub mod Firsts
