@@ -4,7 +4,6 @@ use mathlib.Core.Bool.{true}
 use mathlib.Core.List.{List}
 use mathlib.Core.Path.{_≡_, refl}
 use borrow.Author.Tests.{le-ltb}
-use lib.IntN.{ℤ}
 use lib.ListN.{length}
 use lib.Seq.{sets}
 use Rattle.happenings.specs.State.{State}
@@ -13,9 +12,8 @@ use Rattle.plans.specs.Plan.{going, failed, Result, refused, ended}
 use Rattle.plans.specs.Lines.{Refused}
 use Rattle.answers.specs.Answer.{ofPlan}
 use Rattle.checker.specs.Calls as C
-use Rattle.checker.specs.Calls.{wellFormed, resultOf, factsOf, numbersOf}
+use Rattle.checker.specs.Calls.{wellFormed, resultOf}
 use Rattle.checker.specs.declared.Check.{Check}
-use Rattle.demands.proofs.Sessions.{Shows}
 use Rattle.demands.proofs.Keeping.{KeptResult}
 use Rattle.demands.proofs.Storing.{fresh-formed, ended-answers}
 use Rattle.demands.proofs.Session.{refused-formed}
@@ -34,16 +32,3 @@ module _ (c : Check) (f : wellFormed c ≡ true) where
   asked-line (refused e) l j k line h = rw (ended-formed (refused e) l, le-ltb (length line) 64 h)
   asked-line (ended (going s t)) l j k line h = rw (ended-formed (ended (going s t)) l, le-ltb (length line) 64 h)
   asked-line (ended (failed s t w)) l j k line h = rw (ended-formed (ended (failed s t w)) l, le-ltb (length line) 64 h)
-
-  -- the facts and the numbers
-  pub asked-facts : (x : Result State Why.Outcome Refused) → KeptResult x → (k : ℕ) (out : List ℕ)
-      → Shows (c .ground .facts) (ofPlan (c .ground .facts) k x .final) (λ y. y .facts) out (factsOf (C.ended c x) out .1)
-  unfolding factsOf C.ended ofPlan
-  asked-facts (refused e) l k out = rw (ended-formed (refused e) l) refl
-  asked-facts (ended r) l k out = λ h. rw (ended-formed (ended r) l, le-ltb (length out) (c .ground .facts) h) refl
-
-  pub asked-numbers : (x : Result State Why.Outcome Refused) → KeptResult x → (j : ℕ) (out : List ℤ)
-      → Shows (c .ground .numbers) (ofPlan j (c .ground .numbers) x .final) (λ y. y .numbers) out (numbersOf (C.ended c x) out .1)
-  unfolding numbersOf C.ended ofPlan
-  asked-numbers (refused e) l j out = rw (ended-formed (refused e) l) refl
-  asked-numbers (ended r) l j out = λ h. rw (ended-formed (ended r) l, le-ltb (length out) (c .ground .numbers) h) refl

@@ -1,14 +1,13 @@
 -- Demand 1: each call ends with a listed answer, a refusal comes when its rule says, and it changes nothing that was lent. Assumes nothing.
-use Prim.Native.Nat.{ℕ, _≤_}
+use Prim.Native.Nat.{ℕ}
 use mathlib.Core.Bool.{Bool, true, false, cond, not}
 use mathlib.Core.List.{List, [], _∷_, map}
-use mathlib.Core.Option.{Option, some, none}
+use mathlib.Core.Option.{some, none}
 use mathlib.Core.Path.{_≡_, refl, sym, ap, _∙_}
 use native.Mathlib.Omega.{arith}
-use borrow.Author.Tests.{ltb-false}
 use lib.Dec.{ltb}
 use lib.IntN.{ℤ}
-use lib.ListN.{length, take, drop, length-map, length-take}
+use lib.ListN.{length, take}
 use lib.Seq.{sets}
 use Rattle.grammar.specs.Read.{Read, got, refused}
 use Rattle.grammar.specs.Domain.{Domain, readDomain}
@@ -34,7 +33,7 @@ use Rattle.checker.specs.declared.Answer.{Answer}
 use Rattle.checker.specs.declared.Answer.the-variants as A
 use Rattle.demands.specs.Calling.{Call, feed, finish, result, facts, numbers, lent, make}
 use Rattle.demands.specs.Calling as Lent
-use Rattle.demands.specs.Ruling.{loadAnswer, ranked, reply, isSome, rules, otherwise, lineRules, finishedBy, Written}
+use Rattle.demands.specs.Ruling.{loadAnswer, ranked, reply, isSome, rules, otherwise, lineRules, finishedBy}
 use Rattle.demands.specs.Ours.{refusalIn, ours}
 use Rattle.demands.specs.Demands.{Same, Opens}
 use Rattle.demands.proofs.Whole.{opened, domain-opened, problem-opened, fixed-unformed}

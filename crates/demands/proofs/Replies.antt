@@ -3,7 +3,7 @@
 use Prim.Native.Nat.{ℕ}
 use mathlib.Core.Bool.{Bool, true, false, cond}
 use mathlib.Core.List.{List, [], _∷_, _++_}
-use mathlib.Core.Option.{Option, some, none}
+use mathlib.Core.Option.{some}
 use mathlib.Core.Path.{_≡_, refl, sym, ap, _∙_}
 use Rattle.grammar.specs.Read.{got}
 use Rattle.grammar.specs.Domain.{Domain, readDomain}
@@ -11,7 +11,7 @@ use Rattle.grammar.specs.Problem.{Problem, readProblem}
 use Rattle.happenings.specs.State.{State}
 use Rattle.happenings.specs.Happening.{promises}
 use Rattle.happenings.specs.declared.Outcome as Why
-use Rattle.plans.specs.Plan.{Point, Run, Rules, Result, refused, ended}
+use Rattle.plans.specs.Plan.{Rules, Result, refused, ended}
 use Rattle.plans.specs.Machine.{waits, halted}
 use Rattle.plans.specs.Feed.{Feed, reading, feed, new, joined}
 use Rattle.plans.specs.Text.{Reader}
@@ -35,7 +35,7 @@ use Rattle.demands.specs.Told.{refusalOf, refusalSoFar, repliesTo}
 use Rattle.demands.proofs.Sessions.{feedsOf}
 use Rattle.demands.specs.Ours.{ours}
 use Rattle.demands.proofs.Begun.{feed-same}
-use Rattle.demands.proofs.Keeping.{Kept, Line, KeptFeed}
+use Rattle.demands.proofs.Keeping.{KeptFeed}
 use Rattle.demands.proofs.Storing.{held-back}
 use Rattle.demands.proofs.Session.{Open, fedBy, feed-open, fed-kept, refused-formed, refused-feed, stored-open, rules-kept, known-kept}
 use Rattle.demands.proofs.Loaded as L

@@ -3,7 +3,7 @@
 use Prim.Native.Nat.{ℕ, _≤_}
 use mathlib.Core.Bool.{Bool, true, false, cond, true≢false}
 use mathlib.Core.List.{List, _∷_, _++_, map}
-use mathlib.Core.Logic.{_↔_, _⊎_, inl, inr}
+use mathlib.Core.Logic.{_⊎_, inl, inr}
 use mathlib.Core.Option.{some, none}
 use mathlib.Core.Path.{_≡_, refl, sym, ap, subst, _∙_}
 use native.Mathlib.Omega.{arith}
@@ -18,12 +18,12 @@ use Rattle.happenings.specs.State.{State}
 use Rattle.happenings.specs.Happening.{isDone, Happened, Promises, promises}
 use Rattle.happenings.specs.declared.Outcome.{Outcome}
 use Rattle.happenings.specs.declared.Outcome.the-variants.{Done, Duration, Condition, Undefined, Range, Itself, Conflict, Invariant, Goal}
-use Rattle.plans.specs.Plan.{Step, next, stop, going, failed, Result}
+use Rattle.plans.specs.Plan.{next, stop, going, failed, Result}
 use Rattle.plans.specs.Plan as P
 use Rattle.plans.specs.Text.{meaning}
 use Rattle.plans.specs.Feed.{joined}
 use Rattle.plans.specs.Lines.{Refused, reader, limits}
-use Rattle.plans.specs.Promised.{Act, stepFor, pointFor, failure, outcomeOf, rulesOf}
+use Rattle.plans.specs.Promised.{stepFor, pointFor, failure, outcomeOf, rulesOf}
 use Rattle.plans.proofs.Judged.{meaning-ended}
 use Rattle.plans.proofs.Stopping.{Reasons, StopsBy, verdict-by}
 use Rattle.plans.proofs.Bounds.{empty-line}

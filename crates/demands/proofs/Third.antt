@@ -1,14 +1,12 @@
 -- Demand 3: whatever the parts, everything answered is what the definition gives for the whole plan at once. Assumes nothing.
 use Prim.Native.Nat.{ℕ, _≤_}
 use mathlib.Core.Bool.{true}
-use mathlib.Core.List.{List, [], _∷_, _++_, map}
+use mathlib.Core.List.{List, [], _∷_, map}
 use mathlib.Core.Path.{_≡_, refl, ap, subst, _∙_}
-use native.Mathlib.Nat.{zero-add}
 use native.Mathlib.Omega.{arith}
 use borrow.Author.Tests.{le-ltb}
 use lib.IntN.{ℤ}
-use lib.ListN.{length, take, drop, length-map, length-take}
-use lib.Seq.{sets, sets-eq}
+use lib.ListN.{length, take, length-map, length-take}
 use Rattle.words.specs.Bytes.{bytes}
 use Rattle.grammar.specs.Read.{Read, got, refused}
 use Rattle.grammar.specs.Domain.{Domain, readDomain}
@@ -21,14 +19,12 @@ use Rattle.plans.specs.Plan as P
 use Rattle.plans.specs.Feed.{joined}
 use Rattle.plans.specs.Lines.{Refused}
 use Rattle.wording.specs.Wording.{refusalLine}
-use Rattle.answers.specs.Answer.{Final, Answered, bit, shown, lastState, ofPlan, answer}
+use Rattle.answers.specs.Answer.{bit, shown, lastState, ofPlan, answer}
 use Rattle.domain.specs.declared.Verdict.{Verdict}
 use Rattle.domain.specs.declared.Verdict.the-variants as Is
 use Rattle.checker.specs.Calls as C
 use Rattle.checker.specs.Calls.{wellFormed, feedOf, finishOf, resultOf, factsOf, numbersOf, openOf, writingLine}
 use Rattle.checker.specs.declared.Check.{Check}
-use Rattle.checker.specs.declared.Opened.{Opened}
-use Rattle.checker.specs.declared.Answer.{Answer}
 use Rattle.checker.specs.declared.Answer.the-variants as A
 use Rattle.demands.specs.Calling.{feeds, session, line, lineOf}
 use Rattle.demands.specs.Told.{Reads}
@@ -38,7 +34,7 @@ use Rattle.demands.proofs.Sessions.{feedsOf, sessionOf, askedLine}
 use Rattle.demands.proofs.Keeping.{KeptResult}
 use Rattle.demands.proofs.Asking.{ended-formed}
 use Rattle.demands.proofs.Loaded as L
-use Rattle.demands.proofs.Whole.{means, means-kept, opened, domain-opened, problem-opened, ended-session, answered, whole-line-first}
+use Rattle.demands.proofs.Whole.{means, means-kept, opened, domain-opened, problem-opened, ended-session, answered, sets-first, whole-line-first}
 use Rattle.demands.proofs.Replies.{loaded-replies, finish-replies}
 
 -- ---- a session in the words of the page
@@ -107,9 +103,6 @@ module _ (s t : List ℕ) (ps : List (List ℕ)) (out : List ℕ) (h : 64 ≤ le
       ∙ (λ i. (counted i, (same-line (openOf s t .answer) (sessionOf s t ps) out ∙ whole-line-first s t ps out h) i))
 
 -- ---- the final facts and numbers
-
-sets-first : {A : Type 0} (w out : List A) → length w ≤ length out → sets out 0 w ≡ written w out
-sets-first w out l = sets-eq w out 0 (omega arith) ∙ ap (λ (n : ℕ). w ++ drop n out) (zero-add (length w))
 
 module _ (c : Check) (f : wellFormed c ≡ true) where
   shown-facts : (x : Result State Why.Outcome Refused) → KeptResult x → (k : ℕ) (out : List ℕ) → c .ground .facts ≤ length out

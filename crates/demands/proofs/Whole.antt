@@ -7,7 +7,6 @@ use mathlib.Core.Path.{_≡_, refl, sym, ap, subst, _∙_}
 use native.Mathlib.Nat.{zero-add}
 use native.Mathlib.Omega.{arith}
 use borrow.Author.Tests.{le-ltb}
-use lib.IntN.{ℤ}
 use lib.ListN.{length, drop}
 use lib.Seq.{sets, sets-eq}
 use Rattle.grammar.specs.Read.{Read, got, refused}
@@ -27,18 +26,18 @@ use Rattle.plans.proofs.Rising as Plans
 use Rattle.words.specs.Bytes.{bytes}
 use Rattle.wording.specs.Wording.{refusalLine}
 use Rattle.domain.specs.Load.{loadedOf, fixedOf, loadOf}
-use Rattle.answers.specs.Answer.{Final, Answered, groundsOf, firstState, rulesFor, knownFor, ofPlan, planAnswer, refusedText, answer}
+use Rattle.answers.specs.Answer.{Answered, groundsOf, firstState, rulesFor, knownFor, ofPlan, planAnswer, refusedText, answer}
 use Rattle.checker.specs.Calls as C
-use Rattle.checker.specs.Calls.{countersFit, formed, wellFormed, anyState, rulesOn, knownOn, heldBy, factsOf, numbersOf, resultOf, noGround, checkFor, openOf, writingLine, lineOf}
+use Rattle.checker.specs.Calls.{countersFit, formed, wellFormed, anyState, rulesOn, knownOn, heldBy, resultOf, noGround, checkFor, openOf, writingLine, lineOf}
 use Rattle.domain.specs.declared.Verdict.{Verdict}
 use Rattle.domain.specs.declared.Verdict.the-variants as Is
 use Rattle.checker.specs.declared.Check.{Check}
 use Rattle.checker.specs.declared.Opened.{Opened}
-use Rattle.demands.proofs.Sessions.{feedsOf, sessionOf, askedLine, sizesOf, Shows}
+use Rattle.demands.proofs.Sessions.{feedsOf, sessionOf, askedLine}
 use Rattle.demands.proofs.Begun.{feed-same, close-same}
 use Rattle.demands.proofs.Keeping.{KeptResult}
 use Rattle.demands.proofs.Session.{session, closed-kept}
-use Rattle.demands.proofs.Asking.{asked-line, asked-facts, asked-numbers}
+use Rattle.demands.proofs.Asking.{asked-line}
 use Rattle.demands.proofs.Loaded as L
 use Rattle.demands.proofs.Short.{answer-short}
 
@@ -155,18 +154,18 @@ whole-line s t ps line h = by (readDomain s) refl
     by (got d m) e = behind d m e (readProblem t d) refl
     by (refused k q) e = domain-line s t k q ps line h e
 
--- it stands there whole, and what lies behind it stays
+-- it stands there whole, and what lies after it stays
+pub sets-first : {A : Type 0} (w out : List A) → length w ≤ length out → sets out 0 w ≡ w ++ drop (length w) out
+sets-first w out l = sets-eq w out 0 (omega arith) ∙ ap (λ (n : ℕ). w ++ drop n out) (zero-add (length w))
+
 pub whole-line-first : (s t : List ℕ) (ps : List (List ℕ)) (line : List ℕ) → 64 ≤ length line
     → askedLine (openOf s t .answer) (sessionOf s t ps) line
     ≡ answer s t (joined ps) .line ++ drop (length (answer s t (joined ps) .line)) line
 whole-line-first s t ps line h =
     whole-line s t ps line h
     ∙ sets-first (answer s t (joined ps) .line) line (omega (arith, answer-short s t (joined ps)))
-  where
-    sets-first : (w out : List ℕ) → length w ≤ length out → sets out 0 w ≡ w ++ drop (length w) out
-    sets-first w out l = sets-eq w out 0 (omega arith) ∙ ap (λ (n : ℕ). w ++ drop n out) (zero-add (length w))
 
--- ---- the final facts and numbers
+-- ---- the check after finish, and what it answers
 
 module _ (s t : List ℕ) (d : Domain) (p : Problem) (m n : ℕ) (e : readDomain s ≡ got d m) (f : readProblem t d ≡ got p n) (ps : List (List ℕ)) where
   abbrev check : Check
@@ -185,80 +184,7 @@ module _ (s t : List ℕ) (d : Domain) (p : Problem) (m n : ℕ) (e : readDomain
   unfolding answer planAnswer
   answered = rw (e, f)
 
-  sized : sizesOf s t ≡ (facts, numbers)
-  unfolding sizesOf
-  sized = rw (e, f)
-
-  read-facts : (out : List ℕ) → Shows (sizesOf s t .0) (answer s t (joined ps) .final) (λ y. y .facts) out (factsOf (sessionOf s t ps) out .1)
-  read-facts out =
-      rw (sized, answered, ended-session)
-      (subst (λ (j : ℕ). Shows j (ofPlan j numbers (means s t d p m n e f ps) .final) (λ y. y .facts) out (factsOf (C.ended check (means s t d p m n e f ps)) out .1))
-      (L.facts-loaded s t d p m n e f)
-      (asked-facts check (L.loaded-open s t d p m n e f .formed) (means s t d p m n e f ps) (means-kept s t d p m n e f ps) numbers out))
-
-  read-numbers : (out : List ℤ) → Shows (sizesOf s t .1) (answer s t (joined ps) .final) (λ y. y .numbers) out (numbersOf (sessionOf s t ps) out .1)
-  read-numbers out =
-      rw (sized, answered, ended-session)
-      (subst (λ (j : ℕ). Shows j (ofPlan facts j (means s t d p m n e f ps) .final) (λ y. y .numbers) out (numbersOf (C.ended check (means s t d p m n e f ps)) out .1))
-      (L.numbers-loaded s t d p m n e f)
-      (asked-numbers check (L.loaded-open s t d p m n e f .formed) (means s t d p m n e f ps) (means-kept s t d p m n e f ps) facts out))
-
--- a check that isn't well formed stays as it is, and shows nothing
-module _ (c : Check) (f : wellFormed c ≡ false) where
-  unformed-feeds : (ps : List (List ℕ)) → feedsOf c ps ≡ c
-  unfolding feedsOf C.feedOf
-  unformed-feeds [] = refl
-  unformed-feeds (p ∷ ps) = ap (λ x. feedsOf x ps) (rw f) ∙ unformed-feeds ps
-
-  unformed-session : (ps : List (List ℕ)) → C.finishOf (feedsOf c ps) .check ≡ c
-  unfolding C.finishOf
-  unformed-session ps = ap (λ x. C.finishOf x .check) (unformed-feeds ps) ∙ rw f
-
-  unformed-facts : (out : List ℕ) → factsOf c out .1 ≡ out
-  unfolding factsOf
-  unformed-facts out = rw f
-
-  unformed-numbers : (out : List ℤ) → numbersOf c out .1 ≡ out
-  unfolding numbersOf
-  unformed-numbers out = rw f
-
+-- the one fixed check of a refused load isn't well formed
 pub fixed-unformed : (v : Verdict) → wellFormed (checkFor (fixedOf v) noGround 0) ≡ false
 unfolding formed countersFit
 fixed-unformed v = refl
-
-module _ {A : Type 0} (part : Final → List A) (ask : Check → List A → List A) (silent : (c : Check) → wellFormed c ≡ false → (out : List A) → ask c out ≡ out) where
-  -- of a refused text nothing is shown
-  refused-shows : (s t : List ℕ) (ps : List (List ℕ)) (v : Verdict) (w : List ℕ) (k q size : ℕ) (out : List A)
-      → openOf s t ≡ record { check = checkFor (fixedOf v) noGround 0; answer = v } → answer s t (joined ps) ≡ refusedText w k q
-      → Shows size (answer s t (joined ps) .final) part out (ask (sessionOf s t ps) out)
-  refused-shows s t ps v w k q size out o a =
-      rw a
-      (ap (λ (x : Opened). ask (C.finishOf (feedsOf (x .check) ps) .check) out) o
-      ∙ ap (λ x. ask x out) (unformed-session (checkFor (fixedOf v) noGround 0) (fixed-unformed v) ps)
-      ∙ silent (checkFor (fixedOf v) noGround 0) (fixed-unformed v) out)
-
-  shows : (size : ℕ) (s t : List ℕ) (ps : List (List ℕ)) (out : List A)
-      → ((d : Domain) (p : Problem) (m n : ℕ) → readDomain s ≡ got d m → readProblem t d ≡ got p n → Shows size (answer s t (joined ps) .final) part out (ask (sessionOf s t ps) out))
-      → Shows size (answer s t (joined ps) .final) part out (ask (sessionOf s t ps) out)
-  shows size s t ps out read = by (readDomain s) refl
-    where
-      behind : (d : Domain) (m : ℕ) → readDomain s ≡ got d m → (x : Read Problem) → readProblem t d ≡ x → Shows size (answer s t (joined ps) .final) part out (ask (sessionOf s t ps) out)
-      behind d m e (got p n) f = read d p m n e f
-      behind d m e (refused k q) f =
-          refused-shows s t ps (Is.Problem k q) (bytes "problem") k q size out (problem-opened s t k q d m e f) (problem-answered s t k q d m e f (joined ps))
-
-      by : (x : Read Domain) → readDomain s ≡ x → Shows size (answer s t (joined ps) .final) part out (ask (sessionOf s t ps) out)
-      by (got d m) e = behind d m e (readProblem t d) refl
-      by (refused k q) e = refused-shows s t ps (Is.Domain k q) (bytes "domain") k q size out (domain-opened s t k q e) (domain-answered s t k q (joined ps) e)
-
--- the final facts
-pub whole-facts : (s t : List ℕ) (ps : List (List ℕ)) (out : List ℕ)
-    → Shows (sizesOf s t .0) (answer s t (joined ps) .final) (λ y. y .facts) out (factsOf (sessionOf s t ps) out .1)
-whole-facts s t ps out =
-    shows (λ y. y .facts) (λ c o. factsOf c o .1) unformed-facts (sizesOf s t .0) s t ps out (λ d p m n e f. read-facts s t d p m n e f ps out)
-
--- the final numbers
-pub whole-numbers : (s t : List ℕ) (ps : List (List ℕ)) (out : List ℤ)
-    → Shows (sizesOf s t .1) (answer s t (joined ps) .final) (λ y. y .numbers) out (numbersOf (sessionOf s t ps) out .1)
-whole-numbers s t ps out =
-    shows (λ y. y .numbers) (λ c o. numbersOf c o .1) unformed-numbers (sizesOf s t .1) s t ps out (λ d p m n e f. read-numbers s t d p m n e f ps out)

@@ -7,7 +7,6 @@ use native.Mathlib.Nat.{zero-add}
 use native.Mathlib.Omega.{arith}
 use borrow.Author.Tests.{ltb-false}
 use lib.Dec.{ltb}
-use lib.IntN.{ℤ}
 use lib.ListN.{length, take, drop, length-map, length-take}
 use lib.Seq.{sets, sets-eq, length-sets, drop-append-seam}
 use Rattle.answers.specs.Answer.{bit, shown}

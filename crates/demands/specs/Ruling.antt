@@ -4,7 +4,7 @@ use mathlib.Core.Bool.{Bool, true, false, cond, not}
 use mathlib.Core.List.{List, [], _∷_}
 use mathlib.Core.Option.{Option, some, none}
 use mathlib.Core.Path.{_≡_}
-use lib.Dec.{ltb}
+use lib.Dec.{eqb, ltb}
 use lib.ListN.{length, drop}
 use Rattle.grammar.specs.Read.{Read, got, refused}
 use Rattle.grammar.specs.Domain.{Domain, readDomain}
@@ -16,7 +16,7 @@ use Rattle.domain.specs.declared.Verdict.{Verdict}
 use Rattle.domain.specs.declared.Verdict.the-variants as Is
 use Rattle.checker.specs.declared.Answer.{Answer}
 use Rattle.checker.specs.declared.Answer.the-variants as A
-use Rattle.checker.specs.Numbers.{numberOf, onRefused}
+use Rattle.checker.specs.Numbers.{numberOf, loadNumber, loadPlace, onRefused}
 use Rattle.demands.specs.Calling.{Calls, Call, feed, finish, result, facts, numbers, Lent, nothing, bytes, amounts}
 
 -- ---- load: "The domain's refusals come before the problem's"
@@ -32,16 +32,18 @@ ofDomain (refused k q) problem = Is.Domain k q
 abbrev pub loadAnswer : List ℕ → List ℕ → Verdict
 loadAnswer domain problem = ofDomain (readDomain domain) problem
 
--- texts of so many bytes
-abbrev pub listedLoad : ℕ → ℕ → Verdict → Bool
-listedLoad domain problem Is.Loaded = true
-listedLoad domain problem (Is.Domain k p) = listedInDomain domain k p
-listedLoad domain problem (Is.Problem k p) = listedInProblem problem k p
+-- which text an answer is about: none, the domain, the problem
+abbrev pub onText : {X : Type 0} → Verdict → X → X → X → X
+onText Is.Loaded x y z = x
+onText (Is.Domain k p) x y z = y
+onText (Is.Problem k p) x y z = z
 
 abbrev pub isLoaded : Verdict → Bool
-isLoaded Is.Loaded = true
-isLoaded (Is.Domain k p) = false
-isLoaded (Is.Problem k p) = false
+isLoaded v = onText v true false false
+
+-- texts of so many bytes: 0 where none is refused
+abbrev pub listedLoad : ℕ → ℕ → Verdict → Bool
+listedLoad domain problem v = onText v (λ k p. eqb k 0) (listedInDomain domain) (listedInProblem problem) (loadNumber v) (loadPlace v)
 
 -- ---- the calls on a check
 
