@@ -1,2 +1,0 @@
--- What the contracts name, module by module.
-pub mod Acted

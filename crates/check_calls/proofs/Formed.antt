@@ -1,0 +1,186 @@
+-- "Well formed", in its parts, and put together from them. Assumes nothing.
+use Prim.Native.Nat.{ℕ, _≤_, _<_}
+use mathlib.Core.Bool.{Bool, true, false, cond, _&&_}
+use mathlib.Core.Path.{_≡_, refl}
+use native.Mathlib.Omega.{arith}
+use borrow.Author.Tests.{ltb-true, leb-true, leb-false, eqb-true, eqb-false, lt-ltb, le-leb}
+use lib.Dec.{ltb, leb, eqb}
+use Rattle.text_words.proofs.Ranges.{both-0, both-1}
+use Rattle.domain_terms.specs.declared.scope.Counts.{Counts}
+use Rattle.plan_waiting.specs.Waiting.{used, slotsFit, Sound}
+use Rattle.plan_waiting.specs.declared.Queue.{Queue}
+use Rattle.plan_waiting.proofs.Fitting.{fit-sound}
+use Rattle.check_meaning.specs.Listed.{listedInPlan, listedVerdict, listedTime}
+use Rattle.plan_feeding.specs.declared.Progress.{Progress}
+use Rattle.check_calls.specs.Calls.{countersFit, answersFit, sizesFit, formed}
+
+pub record Counters (p : Progress) : Type 0 where
+  pub first : 0 < p .number
+  pub lines : p .number ≤ 1000001
+  pub empty : 1000000 < p .number → p .used ≡ 0
+  pub short : p .used ≤ 256
+  pub timely : p .start < 1000000000000
+
+pub record Answers (p : Progress) : Type 0 where
+  pub refusal : p .refused ≡ true → listedInPlan (p .refusal) (p .at) (p .column) ≡ true
+  pub verdict : listedVerdict (p .past .outcome) ≡ true
+  pub time : p .past .time < 2000000000000
+
+pub record Sizes (counts : Counts) (acting facts numbers : ℕ) : Type 0 where
+  pub types : counts .types ≤ 17
+  pub objects : counts .objects ≤ 64
+  pub actions : acting ≤ 32
+  pub fewFacts : facts ≤ 16384
+  pub fewNumbers : numbers ≤ 1024
+
+pub record Formed (p : Progress) (counts : Counts) (acting facts numbers : ℕ) (q : Queue) : Type 0 where
+  pub counters : Counters p
+  pub answers : Answers p
+  pub sizes : Sizes counts acting facts numbers
+  pub few : q .count ≤ 64
+  pub slots : slotsFit acting (used q) ≡ true
+
+pub formed-sound : {p : Progress} {counts : Counts} {acting facts numbers : ℕ} {q : Queue} → Formed p counts acting facts numbers q → Sound acting q
+formed-sound {acting = acting} {q = q} h = (h .few, fit-sound acting (used q) (h .slots))
+
+-- ---- the parts
+
+abbrev lastLine : ℕ → ℕ
+lastLine n = cond (eqb n 0) 1000001 1000000
+
+-- past the millionth line no byte is kept
+last-parts : (n u : ℕ) → leb n (lastLine u) ≡ true → (n ≤ 1000001) × (1000000 < n → u ≡ 0)
+last-parts n u h = go (eqb u 0) refl
+  where
+    go : (b : Bool) → eqb u 0 ≡ b → (n ≤ 1000001) × (1000000 < n → u ≡ 0)
+    go true e = (leb-true n 1000001 (rw e at h), λ _. eqb-true u 0 e)
+    go false e = let l = leb-true n 1000000 (rw e at h) in (omega (arith, l), λ i. absurd (let y : ⊥ = omega (arith, l, i) in y))
+
+last-of : (n u : ℕ) → n ≤ 1000001 → (1000000 < n → u ≡ 0) → leb n (lastLine u) ≡ true
+last-of n u h f = go (eqb u 0) refl
+  where
+    go : (b : Bool) → eqb u 0 ≡ b → leb n (lastLine u) ≡ true
+    go true e = rw (e, le-leb n 1000001 h)
+    go false e = rw e (by (leb n 1000000) refl)
+      where
+        by : (b : Bool) → leb n 1000000 ≡ b → leb n 1000000 ≡ true
+        by true i = i
+        by false i = absurd (eqb-false u 0 e (f (leb-false n 1000000 i)))
+
+pub counters-parts : (p : Progress) → countersFit p ≡ true → Counters p
+unfolding countersFit
+counters-parts p h =
+    let a = ltb 0 (p .number) in
+    let b = leb (p .number) (lastLine (p .used)) in
+    let c = leb (p .used) 256 in
+    let d = ltb (p .start) 1000000000000 in
+    let abc = both-0 (a && b && c) d h in
+    let ab = both-0 (a && b) c abc in
+    let l = last-parts (p .number) (p .used) (both-1 a b ab) in
+    record {
+      first = ltb-true 0 (p .number) (both-0 a b ab);
+      lines = l .0;
+      empty = l .1;
+      short = leb-true (p .used) 256 (both-1 (a && b) c abc);
+      timely = ltb-true (p .start) 1000000000000 (both-1 (a && b && c) d h);
+    }
+
+abbrev standingFits : Progress → Bool
+standingFits p = cond (p .refused) (listedInPlan (p .refusal) (p .at) (p .column)) true
+
+pub answers-parts : (p : Progress) → answersFit p ≡ true → Answers p
+unfolding answersFit listedTime
+answers-parts p h =
+    let a = standingFits p in
+    let b = listedVerdict (p .past .outcome) in
+    let c = listedTime (p .past .time) in
+    let ab = both-0 (a && b) c h in
+    let s = both-0 a b ab in
+    record {
+      refusal = λ e. rw e at s;
+      verdict = both-1 a b ab;
+      time = ltb-true (p .past .time) 2000000000000 (both-1 (a && b) c h);
+    }
+
+pub sizes-parts : (counts : Counts) (acting facts numbers : ℕ) → sizesFit counts acting facts numbers ≡ true → Sizes counts acting facts numbers
+unfolding sizesFit
+sizes-parts counts acting facts numbers h =
+    let a = leb (counts .types) 17 in
+    let b = leb (counts .objects) 64 in
+    let c = leb acting 32 in
+    let d = leb facts 16384 in
+    let e = leb numbers 1024 in
+    let abcd = both-0 (a && b && c && d) e h in
+    let abc = both-0 (a && b && c) d abcd in
+    let ab = both-0 (a && b) c abc in
+    record {
+      types = leb-true (counts .types) 17 (both-0 a b ab);
+      objects = leb-true (counts .objects) 64 (both-1 a b ab);
+      actions = leb-true acting 32 (both-1 (a && b) c abc);
+      fewFacts = leb-true facts 16384 (both-1 (a && b && c) d abcd);
+      fewNumbers = leb-true numbers 1024 (both-1 (a && b && c && d) e h);
+    }
+
+-- ---- from the parts
+
+pub counters-of : (p : Progress) → Counters p → countersFit p ≡ true
+unfolding countersFit
+counters-of p h =
+    rw (
+      lt-ltb 0 (p .number) (h .first),
+      last-of (p .number) (p .used) (h .lines) (h .empty),
+      le-leb (p .used) 256 (h .short),
+      lt-ltb (p .start) 1000000000000 (h .timely),
+    )
+
+pub answers-of : (p : Progress) → Answers p → answersFit p ≡ true
+unfolding answersFit listedTime
+answers-of p h = rw (standing (p .refused) refl, h .verdict, lt-ltb (p .past .time) 2000000000000 (h .time))
+  where
+    standing : (b : Bool) → p .refused ≡ b → standingFits p ≡ true
+    standing true e = rw e (h .refusal e)
+    standing false e = rw e
+
+pub sizes-of : (counts : Counts) (acting facts numbers : ℕ) → Sizes counts acting facts numbers → sizesFit counts acting facts numbers ≡ true
+unfolding sizesFit
+sizes-of counts acting facts numbers h =
+    rw (
+      le-leb (counts .types) 17 (h .types),
+      le-leb (counts .objects) 64 (h .objects),
+      le-leb acting 32 (h .actions),
+      le-leb facts 16384 (h .fewFacts),
+      le-leb numbers 1024 (h .fewNumbers),
+    )
+
+-- ---- the whole
+
+module _ (p : Progress) (counts : Counts) (acting facts numbers : ℕ) (q : Queue) where
+  pub formed-parts : formed p counts acting facts numbers q ≡ true → Formed p counts acting facts numbers q
+  unfolding formed
+  formed-parts h =
+      let a = countersFit p in
+      let b = answersFit p in
+      let c = sizesFit counts acting facts numbers in
+      let d = leb (q .count) 64 in
+      let e = slotsFit acting (used q) in
+      let abcd = both-0 (a && b && c && d) e h in
+      let abc = both-0 (a && b && c) d abcd in
+      let ab = both-0 (a && b) c abc in
+      record {
+        counters = counters-parts p (both-0 a b ab);
+        answers = answers-parts p (both-1 a b ab);
+        sizes = sizes-parts counts acting facts numbers (both-1 (a && b) c abc);
+        few = leb-true (q .count) 64 (both-1 (a && b && c) d abcd);
+        slots = both-1 (a && b && c && d) e h;
+      }
+
+  pub formed-of : Formed p counts acting facts numbers q → formed p counts acting facts numbers q ≡ true
+  unfolding formed
+  formed-of h =
+      rw (
+        counters-of p (h .counters),
+        answers-of p (h .answers),
+        sizes-of counts acting facts numbers (h .sizes),
+        le-leb (q .count) 64 (h .few),
+        h .slots,
+      )

@@ -1,0 +1,28 @@
+-- `checker::forming::check_for` meets its contract. Assumes nothing.
+use mathlib.Core.Bool.{false}
+use borrow.Author.Needs.{needs}
+use Rattle.check_calls.proofs.Padding.{zeros-padded}
+use Rattle.check_calls.proofs.forming.check_for.Statement.{statement}
+use Rattle.check_calls.proofs.forming.check_for.Tie as tie
+
+nobody-requires : tie.Need-nobody-requires
+nobody-requires c κs = search needs
+
+begin-requires : tie.Need-begin-requires
+begin-requires c κs = search needs
+
+returns : tie.Need-returns
+returns c = λ i.
+    record {
+      model = c .before .before .before .before .before .args .loaded .model;
+      ground = c .before .before .before .before .before .args .ground;
+      facts = c .before .before .before .before .before .args .loaded .facts;
+      numbers = c .before .before .before .before .before .args .loaded .numbers;
+      queue = c .before .nobody .ensures i;
+      line = zeros-padded 257 i;
+      progress = c .begin .ensures i;
+      finished = false;
+    }
+
+pub check-for-spec : {M : Type 1} → statement M
+check-for-spec = tie.close (tie.spec nobody-requires begin-requires returns)

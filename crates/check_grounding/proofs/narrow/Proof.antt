@@ -1,0 +1,17 @@
+-- `grounding::narrow` meets its contract. Assumes nothing.
+use Rattle.check_grounding.proofs.Laying.{narrow-low, narrow-high}
+use borrow.Author.Needs.{needs}
+use Rattle.check_grounding.proofs.narrow.Statement.{statement}
+use Rattle.check_grounding.proofs.narrow.Tie as tie
+
+cast-result : tie.Need-cast-result
+cast-result c = search needs
+
+returns : tie.Need-returns
+returns c = narrow-low (c .before .args .x) (c .if1 .taken)
+
+returns-2 : tie.Need-returns-2
+returns-2 c = narrow-high (c .before .args .x) (c .if1 .left)
+
+pub narrow-spec : {M : Type 1} → statement M
+narrow-spec = tie.close (tie.spec cast-result returns returns-2)

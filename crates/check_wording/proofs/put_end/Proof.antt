@@ -1,0 +1,28 @@
+-- `wording::put_end` meets its contract. Assumes nothing.
+use native.Mathlib.Omega.{arith}
+use denote.Ref.{now}
+use borrow.Author.Needs.{needs}
+use Rattle.check_wording.proofs.Whole.{ended-put}
+use Rattle.check_wording.proofs.Digits.{decimal-short}
+use Rattle.check_wording.proofs.put_end.Statement.{statement}
+use Rattle.check_wording.proofs.put_end.Tie as tie
+
+put-spaced-requires : tie.Need-put-spaced-requires
+put-spaced-requires c κs = search needs
+
+put-spaced-requires-2 : tie.Need-put-spaced-requires-2
+put-spaced-requires-2 c κs = omega (arith, c .before .before .before .put-spaced .ensures .1, decimal-short (c .before .before .before .before .before .before .args .p))
+
+put-byte-requires : tie.Need-put-byte-requires
+put-byte-requires c κs = (omega arith, omega (arith, c .before .before .before .before .before .before .before .put-spaced .ensures .1, c .before .before .before .put-spaced2 .ensures .1, decimal-short (c .before .before .before .before .before .before .before .before .before .before .args .p), decimal-short (c .before .before .before .before .before .before .before .before .before .before .args .q)))
+
+same-length : tie.Need-same-length
+same-length c = search needs
+
+returns : tie.Need-returns
+returns c = ended-put (now (c .before .before .before .before .before .before .before .before .before .before .before .before .before .args .out)) (c .before .before .before .before .before .before .before .before .before .before .before .before .before .args .at) (c .before .before .before .before .before .before .before .before .before .before .before .before .before .args .p) (c .before .before .before .before .before .before .before .before .before .before .before .before .before .args .q) (c .before .before .before .before .before .before .before .before .before .before .put-spaced .ensures) (c .before .before .before .before .before .before .put-spaced2 .ensures) (c .before .before .put-byte .ensures)
+
+pub put-end-spec : {M : Type 1} → statement M
+put-end-spec =
+    tie.close
+    (tie.spec put-spaced-requires put-spaced-requires-2 put-byte-requires same-length returns)

@@ -1,4 +1,0 @@
--- How trees lie in the code, and how they are read back.
-pub mod Cells
-pub mod Decode
-pub mod Good

@@ -1,0 +1,77 @@
+-- `headers::parameters_to` meets its contract. Assumes nothing.
+use mathlib.Core.Path.{refl}
+use native.Mathlib.Omega.{arith}
+use denote.Ref.{now}
+use Rattle.domain_due.specs.Answers.{Ahead}
+use Rattle.domain_due.proofs.Dues.{ahead-done, ahead-refused}
+use Rattle.domain_rows.specs.Held.{rowsOf}
+use Rattle.domain_meaning.specs.Indexes.{padded}
+use Rattle.domain_typed_lists.proofs.Outcomes.{outcome-done, outcome-refused}
+use Rattle.domain_typed_lists.proofs.Declaring.{signs-refused, signs-done}
+use Rattle.domain_actions.proofs.Owning.{types-held, types-stand, owned, unowned}
+use borrow.Author.Needs.{needs}
+use Rattle.domain_actions.proofs.headers.parameters_to.Statement.{statement}
+use Rattle.domain_actions.proofs.headers.parameters_to.Tie as tie
+
+part-of-requires : tie.Need-part-of-requires
+part-of-requires c κs = search needs
+
+slice-aggregate-variables-to : tie.Need-slice-aggregate-variables-to
+slice-aggregate-variables-to c = search needs
+
+variables-to-requires : tie.Need-variables-to-requires
+unfolding rowsOf padded
+variables-to-requires c κs = (c .before .before .before .before .before .before .pre .0, types-stand (now (c .before .before .before .before .before .before .args .tables)) _ (c .before .before .before .before .before .before .args .counts) (c .before .part-of .ensures) (c .before .before .before .before .before .before .pre .1), refl, omega arith)
+
+enum-known-a : tie.Need-enum-known-a
+enum-known-a c = search needs
+
+enum-told : tie.Need-enum-told
+enum-told c = search needs
+
+returns : tie.Need-returns
+returns c = (λ sc i. let e = outcome-refused _ 4 _ _ _ _ (c .before .before .before .variables-to .ensures .0 (sc .types) (types-held (now (c .before .before .before .before .before .before .before .before .before .before .args .tables)) _ (c .before .before .before .before .before .before .before .before .before .before .args .counts) sc (c .before .before .before .before .before .part-of .ensures) i)) (c .enum-told .given .1) in (signs-refused _ _ _ _ _ _ _ e (c .enum-told .given .1), unowned sc (c .before .before .before .before .before .before .before .before .before .before .args .counts) _ _ _ _ e), ahead-refused _ _ _ _ _ (c .enum-told .given .1))
+
+slice-aggregate-signature : tie.Need-slice-aggregate-signature
+slice-aggregate-signature c = search needs
+
+signature-requires : tie.Need-signature-requires
+signature-requires c κs = let x = outcome-done _ 4 _ _ _ _ (c .before .before .before .before .before .before .variables-to .ensures .0 ((c .before .before .before .before .before .before .before .before .before .before .before .before .before .pre .1 .0) .types) (types-held (now (c .before .before .before .before .before .before .before .before .before .before .before .before .before .args .tables)) _ (c .before .before .before .before .before .before .before .before .before .before .before .before .before .args .counts) (c .before .before .before .before .before .before .before .before .before .before .before .before .before .pre .1 .0) (c .before .before .before .before .before .before .before .before .part-of .ensures) (c .before .before .before .before .before .before .before .before .before .before .before .before .before .pre .1 .1))) (c .before .before .before .a .given .1) in ((x .table, x .holds), omega (arith, x .holds .fits, c .before .before .before .before .before .before .before .before .before .before .before .before .before .pre .4), omega (arith, x .holds .fits))
+
+copy-requires : tie.Need-copy-requires
+copy-requires c κs = search needs
+
+slice-aggregate-copy : tie.Need-slice-aggregate-copy
+slice-aggregate-copy c = search needs
+
+copy-requires-2 : tie.Need-copy-requires-2
+copy-requires-2 c κs = search needs
+
+same-length : tie.Need-same-length
+same-length c = search needs
+
+same-length-2 : tie.Need-same-length-2
+same-length-2 c = search needs
+
+returns-2 : tie.Need-returns-2
+unfolding Ahead
+returns-2 c = (λ sc i. let x = outcome-done _ 4 _ _ _ _ (c .before .before .before .before .before .before .before .before .before .before .before .before .before .before .before .before .before .before .variables-to .ensures .0 (sc .types) (types-held (now (c .before .before .before .before .before .before .before .before .before .before .before .before .before .before .before .before .before .before .before .before .before .before .before .before .before .args .tables)) _ (c .before .before .before .before .before .before .before .before .before .before .before .before .before .before .before .before .before .before .before .before .before .before .before .before .before .args .counts) sc (c .before .before .before .before .before .before .before .before .before .before .before .before .before .before .before .before .before .before .before .before .part-of .ensures) i)) (c .before .before .before .before .before .before .before .before .before .before .before .before .before .before .before .a .given .1) in (signs-done 4 _ _ _ _ _ _ x (c .before .before .before .before .before .before .before .before .before .before .before .signature .ensures (x .table) (x .holds)), owned (now (c .before .before .before .before .before .before .before .before .before .before .before .before .before .before .before .before .before .before .before .before .before .before .before .before .before .args .tables)) _ (now (c .before .before .before .before .before .before .before .before .before .before .before .before .before .before .before .before .before .before .before .before .before .before .before .before .before .args .own)) _ _ (c .before .before .before .before .before .before .before .before .before .before .before .before .before .before .before .before .before .before .before .before .before .before .before .before .before .args .counts) sc i (c .before .before .before .before .before .before .before .before .before .before .before .before .before .before .before .before .before .before .before .before .before .before .before .before .before .pre .2) (c .before .before .before .before .before .before .before .before .before .before .before .before .before .before .before .before .before .before .before .before .before .before .before .before .before .pre .3) _ _ _ x (c .before .before .before .before .before .before .before .copy .ensures) (c .before .before .copy2 .ensures)), ahead-done _ _ _ _ _ (c .before .before .before .before .before .before .before .before .before .before .before .before .before .before .before .a .given .1) (c .before .before .before .before .before .before .before .before .before .before .before .before .before .before .before .before .before .before .variables-to .ensures .1))
+
+pub parameters-to-spec : {M : Type 1} → statement M
+parameters-to-spec =
+    tie.close
+    (tie.spec
+    part-of-requires
+    slice-aggregate-variables-to
+    variables-to-requires
+    enum-known-a
+    enum-told
+    returns
+    slice-aggregate-signature
+    signature-requires
+    copy-requires
+    slice-aggregate-copy
+    copy-requires-2
+    same-length
+    same-length-2
+    returns-2)

@@ -1,0 +1,3 @@
+-- What the contracts name, module by module.
+pub mod Titles
+pub mod Acted

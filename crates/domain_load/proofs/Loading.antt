@@ -1,0 +1,159 @@
+-- The ways through load. Assumes nothing.
+use mathlib.Core.Path.{_≡_, refl, sym, ap, _∙_}
+use mathlib.Core.List.{List}
+use Prim.Native.Nat.{ℕ}
+use native.Mathlib.Omega.{arith}
+use lib.IntN.{ℤ}
+use lib.ListN.{length}
+use lib.Seq.{sets}
+use Rattle.text_tokens.specs.Runs.{part}
+use Rattle.domain_meaning.specs.Read.{Read, got, refused}
+use Rattle.domain_meaning.specs.Domain.{Domain, readDomain}
+use Rattle.domain_meaning.specs.Problem.{Problem, readProblem, scopeOf}
+use Rattle.domain_rows.specs.Held.{rowsOf}
+use Rattle.domain_terms.specs.Scoped.{Scoped}
+use Rattle.domain_terms.specs.declared.scope.Counts.{Counts}
+use Rattle.domain_stored_meaning.specs.Cells.{condCells, actionsCells, startsOf}
+use Rattle.domain_meaning.specs.First.{firstFacts, firstNumbers}
+use Rattle.domain_meaning.specs.Indexes.{basesOf}
+use Rattle.domain_problem_text.specs.Grounded.{withObjects}
+use Rattle.domain_actions.specs.Acted.{declarations}
+use Rattle.domain_domain_text.specs.Knowing.{countsIn, Knows}
+use Rattle.domain_domain_text.specs.declared.Known.{Known}
+use Rattle.domain_domain_text.specs.declared.Known.the-variants as K
+use Rattle.domain_due.specs.declared.Answer.{Answer}
+use Rattle.domain_due.specs.declared.Answer.the-variants as A
+use Rattle.domain_due.proofs.Dues.{never-done}
+use Rattle.domain_problem_text.specs.Posed.{Poses, Posed}
+use Rattle.domain_load.specs.declared.Verdict.{Verdict}
+use Rattle.domain_load.specs.declared.Verdict.the-variants as Is
+use Rattle.domain_load.specs.declared.Loaded.{Loaded}
+use Rattle.domain_load.specs.Load.{zeros, tablesOf, modelOf, loadedOf, fixedOf, domainVerdict, problemVerdict, loadOf}
+
+-- ---- the domain, by its answer
+
+-- it was read: d is what it says, and what was stored of it is d's
+pub record Understood (s code starts : List ℕ) (p e : ℕ) (counts : Counts) (n : ℕ) (tables rows code′ starts′ : List ℕ) : Type 0 where
+  pub domain : Domain
+  pub end : ℕ
+  pub is : readDomain s ≡ got domain end
+  pub name : part s p e ≡ domain .name
+  pub counted : counts ≡ countsIn domain
+  pub acting : n ≡ length (domain .actions)
+  pub scope : Scoped tables counts (scopeOf domain (domain .constants))
+  pub long : length tables ≡ 5054
+  pub rowed : rows ≡ rowsOf 32 (declarations (domain .actions))
+  pub cells : code′ ≡ sets code 0 (actionsCells (domain .actions))
+  pub places : starts′ ≡ sets starts 0 (startsOf 0 (domain .actions))
+
+module _ (s code starts : List ℕ) (r : Known) (tables rows code′ starts′ : List ℕ) where
+  knows-got : (x : Read Domain) (p e : ℕ) (c : Counts) (n : ℕ) → readDomain s ≡ x → Knows s code starts r tables rows code′ starts′ x → r ≡ K.Done p e c n
+      → Understood s code starts p e c n tables rows code′ starts′
+  unfolding Knows
+  knows-got (got d m) p e c n i h q =
+      let g : K.Done (h .from) (h .to) (countsIn d) (length (d .actions)) ≡ K.Done p e c n = sym (h .is) ∙ q in
+      let ep : h .from ≡ p = cc in
+      let ee : h .to ≡ e = cc in
+      let ec : countsIn d ≡ c = cc in
+      let en : length (d .actions) ≡ n = cc in
+      record {
+        domain = d;
+        end = m;
+        is = i;
+        name = ap (λ (k : ℕ). part s k e) (sym ep) ∙ ap (λ (k : ℕ). part s (h .from) k) (sym ee) ∙ h .name;
+        counted = sym ec;
+        acting = sym en;
+        scope = rw (← ec) (h .scope);
+        long = h .long;
+        rowed = h .rows .are;
+        cells = h .cells;
+        places = h .places;
+      }
+  knows-got (refused k j) p e c n i h q =
+      absurd (let g : K.Refused k j ≡ K.Done p e c n = sym h ∙ q in let z : _≡_ {A = ℕ} 0 1 = cc in let y : ⊥ = omega arith in y)
+
+  knows-not : (x : Read Domain) (k p : ℕ) → Knows s code starts r tables rows code′ starts′ x → r ≡ K.Refused k p → x ≡ refused k p
+  unfolding Knows
+  knows-not (got d m) k p h q =
+      absurd (let g : K.Done (h .from) (h .to) (countsIn d) (length (d .actions)) ≡ K.Refused k p = sym (h .is) ∙ q in let z : _≡_ {A = ℕ} 0 1 = cc in let y : ⊥ = omega arith in y)
+  knows-not (refused j i) k p h q =
+      let g : K.Refused j i ≡ K.Refused k p = sym h ∙ q in
+      let z : j ≡ k = cc in
+      let y : i ≡ p = cc in
+      rw (z, y)
+
+  module _ (h : Knows s code starts r tables rows code′ starts′ (readDomain s)) where
+    pub understood : (p e : ℕ) (c : Counts) (n : ℕ) → r ≡ K.Done p e c n → Understood s code starts p e c n tables rows code′ starts′
+    understood p e c n q = knows-got (readDomain s) p e c n refl h q
+
+    pub no-domain : (t : List ℕ) (k p : ℕ) (v : Verdict) (x : Loaded) → r ≡ K.Refused k p → v ≡ domainVerdict r → x ≡ fixedOf v → x ≡ loadOf s t
+    unfolding loadOf
+    no-domain t k p v x q e f = f ∙ ap fixedOf (e ∙ ap domainVerdict q) ∙ rw (knows-not (readDomain s) k p h q) refl
+
+-- ---- the problem, by its answer
+
+posed-got : (t : List ℕ) (d : Domain) (c : Counts) (r : Answer) (tables facts : List ℕ) (numbers : List ℤ) (was goal : List ℕ) (x : Read Problem) (a v : ℕ)
+    → Posed t d c r tables facts numbers was goal x → r ≡ A.Done a v → (p : Problem) × (x ≡ got p a) × Poses t d c r tables facts numbers was goal p a × (v ≡ length (p .objects))
+unfolding Posed
+posed-got t d c r tables facts numbers was goal (got p m) a v h q =
+    let g : A.Done m (length (p .objects)) ≡ A.Done a v = sym (h .answer) ∙ q in
+    let i : m ≡ a = cc in
+    let j : length (p .objects) ≡ v = cc in
+    (p, rw i refl, rw i at h, sym j)
+posed-got t d c r tables facts numbers was goal (refused k j) a v h q = never-done k j a v (sym h ∙ q)
+
+posed-not : (t : List ℕ) (d : Domain) (c : Counts) (r : Answer) (tables facts : List ℕ) (numbers : List ℤ) (was goal : List ℕ) (x : Read Problem) (k p : ℕ)
+    → Posed t d c r tables facts numbers was goal x → r ≡ A.Refused k p → x ≡ refused k p
+unfolding Posed
+posed-not t d c r tables facts numbers was goal (got y m) k p h q = never-done k p m (length (y .objects)) (sym q ∙ h .answer)
+posed-not t d c r tables facts numbers was goal (refused j i) k p h q =
+    let g : A.Refused j i ≡ A.Refused k p = sym h ∙ q in
+    let z : j ≡ k = cc in
+    let y : i ≡ p = cc in
+    rw (z, y)
+
+module _ (s t : List ℕ) (d : Domain) (end : ℕ) (i : readDomain s ≡ got d end) (c : Counts) (r : Answer) (tables facts : List ℕ) (numbers : List ℤ) (was goal : List ℕ)
+    (h : Posed t d c r tables facts numbers was goal (readProblem t d)) where
+  pub no-problem : (k p : ℕ) (v : Verdict) (x : Loaded) → r ≡ A.Refused k p → v ≡ problemVerdict r → x ≡ fixedOf v → x ≡ loadOf s t
+  unfolding loadOf
+  no-problem k p v x q e f = f ∙ ap fixedOf (e ∙ ap problemVerdict q) ∙ rw (i, posed-not t d c r tables facts numbers was goal (readProblem t d) k p h q) refl
+
+  module _ (a v : ℕ) (q : r ≡ A.Done a v) where
+    -- the problem, whose objects are v
+    pub record Understands : Type 0 where
+      pub problem : Problem
+      pub is : readProblem t d ≡ got problem a
+      pub objects : v ≡ length (problem .objects)
+      pub scope : Scoped tables (withObjects c v) (scopeOf d (problem .objects))
+      pub long : length tables ≡ 5054
+      pub facted : facts ≡ firstFacts (problem .init)
+      pub numbered : numbers ≡ firstNumbers (problem .init)
+      pub aimed : goal ≡ sets was 0 (condCells (problem .goal))
+
+    pub understands : Understands
+    understands =
+        let g = posed-got t d c r tables facts numbers was goal (readProblem t d) a v h q in
+        record { problem = g .0; is = g .1; objects = g .3; scope = scope-by (g .0) (g .3) (g .2 .scope); long = g .2 .long; facted = g .2 .facts; numbered = g .2 .numbers; aimed = g .2 .goal }
+      where
+        scope-by : (p : Problem) → v ≡ length (p .objects) → Scoped tables (withObjects c (length (p .objects))) (scopeOf d (p .objects)) → Scoped tables (withObjects c v) (scopeOf d (p .objects))
+        scope-by p e k = rw e k
+
+-- ---- both
+
+-- the arrays of a domain and a problem are those of their model
+pub same-model : (d : Domain) (p : Problem) (tables actions starts code goal fs ns facts : List ℕ) (numbers : List ℤ) (c : Counts) (n : ℕ) → tables ≡ tablesOf d (p .objects)
+    → actions ≡ rowsOf 32 (declarations (d .actions)) → starts ≡ sets (zeros 96) 0 (startsOf 0 (d .actions)) → code ≡ sets (zeros 32768) 0 (actionsCells (d .actions))
+    → goal ≡ sets (zeros 32768) 0 (condCells (p .goal)) → fs ≡ sets (zeros 32) 0 (basesOf (length (p .objects)) (d .predicates)) → ns ≡ sets (zeros 16) 0 (basesOf (length (p .objects)) (d .functions))
+    → facts ≡ firstFacts (p .init) → numbers ≡ firstNumbers (p .init) → c ≡ withObjects (countsIn d) (length (p .objects)) → n ≡ length (d .actions)
+    → record {
+      model = record { tables = tables; actions = actions; starts = starts; code = code; goal = goal; facts = fs; numbers = ns; counts = c; acting = n };
+      facts = facts;
+      numbers = numbers;
+      answer = Is.Loaded;
+    } ≡ loadedOf d p
+unfolding loadedOf modelOf
+same-model d p tables actions starts code goal fs ns facts numbers c n et ea es ec eg ef en ei ev eo em = rw (et, ea, es, ec, eg, ef, en, ei, ev, eo, em) refl
+
+pub both-loaded : (s t : List ℕ) (d : Domain) (end : ℕ) → readDomain s ≡ got d end → (p : Problem) (a : ℕ) → readProblem t d ≡ got p a → (x : Loaded) → x ≡ loadedOf d p → x ≡ loadOf s t
+unfolding loadOf
+both-loaded s t d end i p a j x e = e ∙ rw (i, j) refl

@@ -1,0 +1,20 @@
+-- `domain::problem_verdict` meets its contract. Assumes nothing.
+use mathlib.Core.Path.{refl}
+use borrow.Author.Needs.{needs}
+use Rattle.domain_load.proofs.problem_verdict.Statement.{statement}
+use Rattle.domain_load.proofs.problem_verdict.Tie as tie
+
+enum-told : tie.Need-enum-told
+enum-told c = search needs
+
+enum-known-a : tie.Need-enum-known-a
+enum-known-a c = search needs
+
+returns : tie.Need-returns
+returns c = search needs
+
+returns-2 : tie.Need-returns-2
+returns-2 c = rw (c .before .a .given .1) refl
+
+pub problem-verdict-spec : {M : Type 1} → statement M
+problem-verdict-spec = tie.close (tie.spec enum-told enum-known-a returns returns-2)

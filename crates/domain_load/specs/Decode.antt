@@ -1,0 +1,35 @@
+-- The model read back: what its numbers say of a domain and a problem. Any numbers give some reading.
+use mathlib.Core.List.{List}
+use Rattle.text_tokens.specs.Runs.{part}
+use Rattle.domain_meaning.specs.Tables.{Table}
+use Rattle.domain_meaning.specs.Conditions.{Cond}
+use Rattle.domain_meaning.specs.Actions.{Action}
+use Rattle.domain_meaning.specs.Domain.{Domain}
+use Rattle.domain_meaning.specs.Problem.{Problem}
+use Rattle.domain_stored_meaning.specs.Decode.{conditionAt, actionsAt}
+use Rattle.domain_stored_meaning.specs.Entries.{typedIn, signedIn}
+use Rattle.domain_load.specs.declared.Model.{Model}
+
+pub record Reading : Type 0 where
+  pub types : Table
+  pub objects : Table
+  pub predicates : Table
+  pub functions : Table
+  pub actions : List Action
+  pub goal : Cond
+
+unfoldable pub decode : Model → Reading
+decode m =
+    record {
+      types = typedIn (part (m .tables) 0 646) (m .counts .types);
+      objects = typedIn (part (m .tables) 646 3078) (m .counts .objects);
+      predicates = signedIn (part (m .tables) 3078 4294) (m .counts .predicates);
+      functions = signedIn (part (m .tables) 4294 4902) (m .counts .functions);
+      actions = actionsAt (m .code) (m .starts) 0 (signedIn (m .actions) (m .acting));
+      goal = conditionAt (m .goal) 0 .tree;
+    }
+
+-- what the trees themselves say
+abbrev pub readingOf : Domain → Problem → Reading
+readingOf d p =
+    record { types = d .types; objects = p .objects; predicates = d .predicates; functions = d .functions; actions = d .actions; goal = p .goal }

@@ -1,0 +1,97 @@
+-- The objects stored in their part of the tables: the other parts stay. Assumes nothing.
+use mathlib.Core.Path.{_≡_, sym, ap, _∙_}
+use mathlib.Core.List.{List, _++_, append-assoc, append-nil}
+use Prim.Native.Nat.{ℕ, _+_, _*_, _≤_}
+use native.Mathlib.Omega.{arith}
+use lib.ListN.{length, take, drop, drop-of-length-le}
+use lib.Seq.{sets, sets-eq, length-sets, drop-drop}
+use Rattle.text_words.specs.Bytes.{bytes}
+use Rattle.domain_meaning.specs.Read.{Read, got, refused}
+use Rattle.domain_meaning.specs.Tables.{Table}
+use Rattle.domain_meaning.specs.Lists.{namesTo}
+use Rattle.domain_meaning.specs.Domain.{Domain, opened, other, beginsWith, section}
+use Rattle.domain_meaning.specs.Problem.{scopeOf}
+use Rattle.domain_due.specs.declared.Answer.{Answer}
+use Rattle.domain_due.specs.declared.Answer.the-variants.{Done, Refused}
+use Rattle.domain_rows.specs.Held.{Holds}
+use Rattle.domain_rows.proofs.Parts.{part-before, part-behind, part-stored}
+use Rattle.domain_rows.proofs.Rows.{rows-long}
+use Rattle.domain_typed_lists.specs.Outcome.{Outcome}
+use Rattle.domain_terms.specs.Scoped.{Scoped}
+use Rattle.domain_terms.specs.declared.scope.Counts.{Counts}
+use Rattle.domain_problem_text.specs.Grounded.{withObjects, Grounded}
+
+stored-whole : (l vs : List ℕ) → length vs ≡ length l → sets l 0 vs ≡ vs
+stored-whole l vs e =
+    let room : 0 + length vs ≤ length l = omega arith in
+    let b : length l ≤ 0 + length vs = omega arith in
+    sets-eq vs l 0 room ∙ ap (λ (x : List ℕ). vs ++ x) (drop-of-length-le l b) ∙ append-nil vs
+
+-- a copy of all rows holds what they hold
+pub copied : (m : ℕ) (rows : List ℕ) (n : ℕ) (t : Table) (v was new : List ℕ) → Holds m rows n t → v ≡ rows → length was ≡ 38 * m → new ≡ sets was 0 v → Holds m new n t
+copied m rows n t v was new h e l q = rw (q, e, stored-whole was rows (rows-long m rows n t h ∙ sym l)) h
+
+-- a part that was lent is back
+part-back : (l ys : List ℕ) (a k : ℕ) → k ≡ length ys → a + length ys ≤ length l → take a l ++ (ys ++ drop k (drop a l)) ≡ sets l a ys
+part-back l ys a k e room = rw (drop-drop k a l, e, sets-eq ys l a room, append-assoc (take a l) ys (drop (a + length ys) l))
+
+-- ---- the tables with other objects
+
+module _ (was : List ℕ) (n : Counts) (d : Domain) (h : Scoped was n (scopeOf d (d .constants))) (long : length was ≡ 5054) where
+  pub grounded-none : (r : Answer) (at : ℕ) → r ≡ Done at (n .objects) → Grounded n r was d (got (d .constants) at)
+  unfolding Grounded
+  grounded-none r at e = (
+    rw e (ap (Done at) (h .objects .count)),
+    record {
+      types = h .types;
+      objects = rw (h .objects .count) at (h .objects);
+      predicates = h .predicates;
+      functions = h .functions;
+      variables = h .variables;
+      action = h .action;
+      facts = h .facts;
+      numbers = h .numbers;
+    },
+    long,
+  )
+
+  stored : (ys : List ℕ) (os : Table) → Holds 64 ys (length os) os → Scoped (sets was 646 ys) (withObjects n (length os)) (scopeOf d os)
+  stored ys os g =
+      let l : length ys ≡ 2432 = rows-long 64 ys (length os) os g in
+      let e : 3078 ≡ 646 + length ys = omega arith in
+      record {
+        types = rw (part-before ys was 0 646 646 (omega arith) (omega arith)) (h .types);
+        objects = rw (part-stored was ys 646 3078 e (omega arith)) g;
+        predicates = rw (part-behind ys was 3078 4294 646 (omega arith)) (h .predicates);
+        functions = rw (part-behind ys was 4294 4902 646 (omega arith)) (h .functions);
+        variables = rw (part-behind ys was 4902 5054 646 (omega arith)) (h .variables);
+        action = h .action;
+        facts = h .facts;
+        numbers = h .numbers;
+      }
+
+  pub grounded : (r : Answer) (ys : List ℕ) (x : Read Table) → Outcome 64 r ys x → Grounded n r (take 646 was ++ (ys ++ drop 2432 (drop 646 was))) d x
+  unfolding Outcome Grounded
+  grounded r ys (got os a) o =
+      let l : length ys ≡ 2432 = rows-long 64 ys (length os) os (o .1) in
+      let q = part-back was ys 646 2432 (omega arith) (omega arith) in
+      (o .0, rw q (stored ys os (o .1)), ap length q ∙ length-sets was 646 ys ∙ long)
+  grounded r ys (refused k p) o = o
+
+-- ---- the section
+
+pub grounded-by : (n : Counts) (r : Answer) (tables : List ℕ) (d : Domain) (x y : Read Table) → x ≡ y → Grounded n r tables d y → Grounded n r tables d x
+grounded-by n r tables d x y e h = rw e h
+
+pub grounded-refused : (n : Counts) (r : Answer) (tables : List ℕ) (d : Domain) (x : Read Table) (k p : ℕ) → x ≡ refused k p → r ≡ Refused k p → Grounded n r tables d x
+unfolding Grounded
+grounded-refused n r tables d x k p e h = rw e h
+
+module _ (s : List ℕ) (d : Domain) (at : ℕ) where
+  pub no-objects : beginsWith s (bytes ":objects") at ≡ got other at
+      → section s ":objects" (d .constants) (namesTo s (d .types) 64 (d .constants)) at ≡ got (d .constants) at
+  no-objects e = rw e
+
+  pub some-objects : (p e : ℕ) → beginsWith s (bytes ":objects") at ≡ got (opened p) e
+      → section s ":objects" (d .constants) (namesTo s (d .types) 64 (d .constants)) at ≡ namesTo s (d .types) 64 (d .constants) e
+  some-objects p e q = rw q

@@ -1,0 +1,4 @@
+-- What the contracts name, module by module.
+pub mod Grounded
+pub mod Parts
+pub mod Posed

@@ -1,0 +1,19 @@
+-- `sections::is_colon` meets its contract. Assumes nothing.
+use mathlib.Core.Path.{sym}
+use denote.Ref.{now}
+use lib.ListN.{List·getD-eq-default}
+use borrow.Author.Needs.{needs}
+use Rattle.domain_sections.proofs.is_colon.Statement.{statement}
+use Rattle.domain_sections.proofs.is_colon.Tie as tie
+
+shared-slice-read-result : tie.Need-shared-slice-read-result
+shared-slice-read-result c = search needs
+
+returns : tie.Need-returns
+returns c = search needs
+
+returns-2 : tie.Need-returns-2
+returns-2 c = sym (rw (List·getD-eq-default (now (c .before .args .text)) 0 (c .if1 .left)))
+
+pub is-colon-spec : {M : Type 1} → statement M
+is-colon-spec = tie.close (tie.spec shared-slice-read-result returns returns-2)

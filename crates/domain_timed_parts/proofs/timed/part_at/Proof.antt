@@ -1,0 +1,80 @@
+-- `parts::timed::part_at` meets its contract. Assumes nothing.
+use mathlib.Core.Path.{sym, ap, _∙_}
+use denote.Ref.{now}
+use Prim.Native.Nat.{_-_}
+use native.Mathlib.Omega.{arith}
+use Rattle.domain_due.proofs.Dues.{answer-done, answer-refused, ahead-done, word-in}
+use Rattle.domain_expressions.specs.Codes.{passed}
+use Rattle.domain_expressions.proofs.Ends.{spent-refused}
+use Rattle.domain_meaning.specs.Due.{opening}
+use Rattle.domain_timed_parts.specs.Bodies.{bodyOf}
+use Rattle.domain_timed_parts.proofs.Opening.{opened-deep}
+use Rattle.domain_timed_parts.proofs.Headed.{part-unopened, part-else, part-headed, spent-back}
+use borrow.Author.Needs.{needs}
+use Rattle.domain_timed_parts.proofs.timed.part_at.Statement.{statement}
+use Rattle.domain_timed_parts.proofs.timed.part_at.Tie as tie
+
+opening-requires : tie.Need-opening-requires
+opening-requires c κs = search needs
+
+enum-known-o : tie.Need-enum-known-o
+enum-known-o c = search needs
+
+enum-told : tie.Need-enum-told
+enum-told c = search needs
+
+progress-of-requires : tie.Need-progress-of-requires
+progress-of-requires c κs = search needs
+
+returns : tie.Need-returns
+returns c = (λ x h. part-unopened (now (c .before .before .before .before .before .before .before .args .text)) (c .before .before .before .before .before .before .before .args .over) (bodyOf (c .before .before .before .before .before .before .before .args .over) (now (c .before .before .before .before .before .before .before .args .text)) x) (c .before .before .before .before .before .before .before .args .d) (c .before .before .before .before .before .before .before .args .left) (c .before .before .before .before .before .before .before .args .from) (now (c .before .before .before .before .before .before .before .args .code)) (c .before .before .before .before .before .before .before .args .used) (c .progress-of .result) _ _ (answer-refused (opening (now (c .before .before .before .before .before .before .before .args .text)) (c .before .before .before .before .before .before .before .args .d) (c .before .before .before .before .before .before .before .args .from)) _ _ (sym (c .before .before .before .opening .ensures .0) ∙ c .before .enum-told .given .1)) (c .progress-of .ensures ∙ ap (passed _) (c .before .enum-told .given .1)), spent-refused _ _ _ _ _ _ _ (c .progress-of .ensures ∙ ap (passed _) (c .before .enum-told .given .1)))
+
+token-at-requires : tie.Need-token-at-requires
+token-at-requires c κs = search needs
+
+enum-known-t : tie.Need-enum-known-t
+enum-known-t c = search needs
+
+sub-refusal : tie.Need-sub-refusal
+sub-refusal c = let deep = opened-deep (now (c .before .before .before .before .before .before .before .before .before .args .text)) (c .before .before .before .before .before .before .before .before .before .args .d) (c .before .before .before .before .before .before .before .before .before .args .from) _ _ (answer-done (opening (now (c .before .before .before .before .before .before .before .before .before .args .text)) (c .before .before .before .before .before .before .before .before .before .args .d) (c .before .before .before .before .before .before .before .before .before .args .from)) _ _ (sym (c .before .before .before .before .before .opening .ensures .0) ∙ c .before .before .before .o .given .1)) in omega arith
+
+refusal-requires : tie.Need-refusal-requires
+refusal-requires c κs = search needs
+
+progress-of-requires-2 : tie.Need-progress-of-requires-2
+progress-of-requires-2 c κs = search needs
+
+returns-2 : tie.Need-returns-2
+returns-2 c = (λ x h. part-else (now (c .before .before .before .before .before .before .before .before .before .before .before .args .text)) (c .before .before .before .before .before .before .before .before .before .before .before .args .over) (bodyOf (c .before .before .before .before .before .before .before .before .before .before .before .args .over) (now (c .before .before .before .before .before .before .before .before .before .before .before .args .text)) x) (c .before .before .before .before .before .before .before .before .before .before .before .args .d) (c .before .before .before .before .before .before .before .before .before .before .before .args .left) (c .before .before .before .before .before .before .before .before .before .before .before .args .from) (now (c .before .before .before .before .before .before .before .before .before .before .before .args .code)) (c .before .before .before .before .before .before .before .before .before .before .before .args .used) _ _ (answer-done (opening (now (c .before .before .before .before .before .before .before .before .before .before .before .args .text)) (c .before .before .before .before .before .before .before .before .before .before .before .args .d) (c .before .before .before .before .before .before .before .before .before .before .before .args .from)) _ _ (sym (c .before .before .before .before .before .before .before .opening .ensures .0) ∙ c .before .before .before .before .before .o .given .1)) (c .before .before .before .token-at .result) (c .before .before .before .token-at .ensures) (c .before .before .match2 .keys2) (c .progress-of2 .result) (c .progress-of2 .ensures ∙ ap (passed _) (c .before .refusal .ensures)), spent-refused _ _ _ _ _ _ _ (c .progress-of2 .ensures ∙ ap (passed _) (c .before .refusal .ensures)))
+
+sub-part-behind : tie.Need-sub-part-behind
+sub-part-behind c = let deep = opened-deep (now (c .before .before .before .before .before .before .before .before .before .before .before .args .text)) (c .before .before .before .before .before .before .before .before .before .before .before .args .d) (c .before .before .before .before .before .before .before .before .before .before .before .args .from) _ _ (answer-done (opening (now (c .before .before .before .before .before .before .before .before .before .before .before .args .text)) (c .before .before .before .before .before .before .before .before .before .before .before .args .d) (c .before .before .before .before .before .before .before .before .before .before .before .args .from)) _ _ (sym (c .before .before .before .before .before .before .before .opening .ensures .0) ∙ c .before .before .before .before .before .o .given .1)) in omega arith
+
+part-behind-requires : tie.Need-part-behind-requires
+part-behind-requires c κs = let q = ahead-done _ _ _ _ _ (c .before .before .before .before .before .before .o .given .1) (c .before .before .before .before .before .before .before .before .opening .ensures .1) in let w = word-in (now (c .before .before .before .before .before .before .before .before .before .before .before .before .args .text)) _ (q .1) _ _ _ (sym (c .before .before .before .before .token-at .ensures) ∙ c .before .before .t .given .1) in (w .2, c .before .before .before .before .before .before .before .before .before .before .before .before .pre .1, omega (arith, q .0, w .0, w .1, c .before .before .before .before .before .before .before .before .before .before .before .before .pre .2))
+
+same-length : tie.Need-same-length
+same-length c = search needs
+
+returns-3 : tie.Need-returns-3
+returns-3 c = let q = ahead-done _ _ _ _ _ (c .before .before .before .before .before .before .before .before .before .o .given .1) (c .before .before .before .before .before .before .before .before .before .before .before .opening .ensures .1) in let w = word-in (now (c .before .before .before .before .before .before .before .before .before .before .before .before .before .before .before .args .text)) _ (q .1) _ _ _ (sym (c .before .before .before .before .before .before .before .token-at .ensures) ∙ c .before .before .before .before .before .t .given .1) in (λ x h. part-headed (now (c .before .before .before .before .before .before .before .before .before .before .before .before .before .before .before .args .text)) (c .before .before .before .before .before .before .before .before .before .before .before .before .before .before .before .args .over) (bodyOf (c .before .before .before .before .before .before .before .before .before .before .before .before .before .before .before .args .over) (now (c .before .before .before .before .before .before .before .before .before .before .before .before .before .before .before .args .text)) x) (c .before .before .before .before .before .before .before .before .before .before .before .before .before .before .before .args .d) (c .before .before .before .before .before .before .before .before .before .before .before .before .before .before .before .args .left) (c .before .before .before .before .before .before .before .before .before .before .before .before .before .before .before .args .from) (now (c .before .before .before .before .before .before .before .before .before .before .before .before .before .before .before .args .code)) (c .before .before .before .before .before .before .before .before .before .before .before .before .before .before .before .args .used) _ _ (answer-done (opening (now (c .before .before .before .before .before .before .before .before .before .before .before .before .before .before .before .args .text)) (c .before .before .before .before .before .before .before .before .before .before .before .before .before .before .before .args .d) (c .before .before .before .before .before .before .before .before .before .before .before .before .before .before .before .args .from)) _ _ (sym (c .before .before .before .before .before .before .before .before .before .before .before .opening .ensures .0) ∙ c .before .before .before .before .before .before .before .before .before .o .given .1)) _ _ _ (sym (c .before .before .before .before .before .before .before .token-at .ensures) ∙ c .before .before .before .before .before .t .given .1) (c .before .before .part-behind .result) _ (c .before .before .part-behind .ensures .0 x h), spent-back (c .before .before .part-behind .result) _ _ _ _ (omega (arith, q .0, w .0, w .1)) (c .before .before .part-behind .ensures .1))
+
+pub part-at-spec : {M : Type 1} → statement M
+part-at-spec =
+    tie.close
+    (tie.spec
+    opening-requires
+    enum-known-o
+    enum-told
+    progress-of-requires
+    returns
+    token-at-requires
+    enum-known-t
+    sub-refusal
+    refusal-requires
+    progress-of-requires-2
+    returns-2
+    sub-part-behind
+    part-behind-requires
+    same-length
+    returns-3)

@@ -1,2 +1,0 @@
--- How tables are read back from their rows.
-pub mod Entries

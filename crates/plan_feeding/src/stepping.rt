@@ -1,0 +1,335 @@
+// A line that has ended, and the plan's end. The points that wait are the first `count` in `words` and `objects`; points, whos, lines and others are lent to be written in.
+use crate::Progress;
+use crate::Went;
+use domain_terms::scope::Counts;
+use plan_lines::steps;
+use plan_meaning::Line;
+use plan_meaning::Step;
+use plan_running::Past;
+use plan_waiting::Queue;
+use plan_waiting::lent;
+use text_tokens::runs;
+ghost use mathlib.Core.Path.{_≡_};
+ghost use mathlib.Core.Bool.{true, false};
+ghost use Prim.Native.Nat.{ℕ, _≤_, _<_, max};
+ghost use lib.ListN.{length, take};
+ghost use Rattle.domain_meaning.specs.Tables.{Table};
+ghost use Rattle.domain_meaning.specs.Conditions.{Cond};
+ghost use Rattle.domain_stored_meaning.specs.Decode.{conditionAt};
+ghost use Rattle.domain_stored_meaning.specs.Entries.{signedIn};
+ghost use Rattle.happening_truths.specs.Judged.{stateIn};
+ghost use Rattle.happening_meaning.specs.State.{State};
+ghost use Rattle.plan_meaning.specs.Machine as M;
+ghost use Rattle.plan_meaning.specs.Machine.{drain, drained, waits, finish};
+ghost use Rattle.plan_meaning.specs.Plan as P;
+ghost use Rattle.plan_meaning.specs.Feed.{reading, close};
+ghost use Rattle.plan_meaning.specs.Stored.{stepIn};
+ghost use Rattle.plan_meaning.specs.Lines.{reader, limits};
+ghost use Rattle.plan_waiting.specs.Waiting.{waiting, soundStep, Sound, Timed};
+ghost use Rattle.plan_waiting.specs.Lent.{queueIn};
+ghost use Rattle.plan_running.specs.Running.{runIn, rulesIn};
+ghost use Rattle.plan_lines.specs.Knowing.{Tabled, Headed, knownIn};
+ghost use Rattle.plan_feeding.specs.Feeding.{refusedIn, checkIn, closedIn, refusing, going, Fit};
+
+// The line that is read is refused.
+pub fn refuse(p: Progress, k: u8, column: usize) -> Progress
+    ensures { λ r. ⌜ r ≡ refusing p k column ⌝ }
+{
+    let past = p.past;
+    Progress {
+        used: p.used,
+        number: p.number,
+        start: p.start,
+        past,
+        refused: true,
+        refusal: k,
+        at: p.number,
+        column,
+    }
+}
+
+// Another start and another run so far.
+fn begun(p: Progress, start: usize, past: Past) -> Progress
+    ensures { λ r. ⌜ r ≡ going p start past ⌝ }
+{
+    Progress {
+        used: p.used,
+        number: p.number,
+        start,
+        past,
+        refused: p.refused,
+        refusal: p.refusal,
+        at: p.at,
+        column: p.column,
+    }
+}
+
+// A step: what waits below its start happens, then its points wait. "18 too many waiting points: line end"
+fn take_step<'a>(
+    code: &'a [u8],
+    starts: &'a [usize],
+    firsts: &'a [u16],
+    facts: &mut [u8],
+    numbers: &mut [i64],
+    fresh: &mut [i64],
+    words: &mut [usize; 384],
+    objects: &mut [u8; 256],
+    count: usize,
+    p: Progress,
+    x: Step,
+    points: &mut [usize; 256],
+    whos: &mut [u8; 256],
+    lines: &mut [usize; 256],
+    others: &mut [u8; 256],
+) -> Went
+    requires { ⌜ Timed (queueIn (now words) (now objects) count) × (p .refused ≡ false) × (x .line ≡ p .number) × (x .start < 1000000000000) × (x .width ≤ 257) × (length (now code) ≤ 32768) × (now fresh ≡ now numbers) ⌝ }
+    ensures { λ r. ⌜ ((c : Cond) (es : Table) (s : State) → Sound (length es) (queueIn (now (words .entry)) (now (objects .entry)) count) → length es ≤ 32 → checkIn (stateIn (now (facts .exit)) (now (numbers .exit))) (queueIn (now (words .exit)) (now (objects .exit)) (r .count)) (r .progress) ≡ drained (rulesIn (now (code .entry)) (now (starts .entry)) (now (firsts .entry)) c es s) limits (stepIn x) (drain (rulesIn (now (code .entry)) (now (starts .entry)) (now (firsts .entry)) c es s) (length (waiting (queueIn (now (words .entry)) (now (objects .entry)) count))) (x .start) (runIn (p .past) (stateIn (now (facts .entry)) (now (numbers .entry)))) (waiting (queueIn (now (words .entry)) (now (objects .entry)) count)))) × ((n : ℕ) → Sound n (queueIn (now (words .entry)) (now (objects .entry)) count) → soundStep n x ≡ true → Sound n (queueIn (now (words .exit)) (now (objects .exit)) (r .count))) × (r .progress .used ≡ p .used) × (r .progress .number ≡ p .number) × ((m : ℕ) → p .start < m → x .start < m → r .progress .start < m) × (now (fresh .exit) ≡ now (numbers .exit)) ⌝ }
+{
+    let d = plan_running::drain_below(
+        code,
+        starts,
+        firsts,
+        facts,
+        numbers,
+        fresh,
+        words,
+        objects,
+        count,
+        x.start,
+        p.past,
+        points,
+        whos,
+        lines,
+        others,
+    );
+    let n = d.count;
+    if 64 < n + plan_waiting::points_of(x) {
+        return Went {
+            count: n,
+            progress: refuse(p, 18, x.width + 1),
+        };
+    }
+    Went {
+        count: lent::enter(words, objects, n, x),
+        progress: begun(p, x.start, d.past),
+    }
+}
+
+// The line that has ended: its first bytes, as many as are in use.
+pub fn take_line<'a>(
+    tables: &'a [u8],
+    counts: Counts,
+    heads: &'a [u8],
+    acting: usize,
+    code: &'a [u8],
+    starts: &'a [usize],
+    firsts: &'a [u16],
+    facts: &mut [u8],
+    numbers: &mut [i64],
+    fresh: &mut [i64],
+    line: &'a [u8],
+    words: &mut [usize; 384],
+    objects: &mut [u8; 256],
+    count: usize,
+    p: Progress,
+    points: &mut [usize; 256],
+    whos: &mut [u8; 256],
+    lines: &mut [usize; 256],
+    others: &mut [u8; 256],
+) -> Went
+    requires { ⌜ Tabled (now tables) counts × Headed (now heads) acting × Fit acting (queueIn (now words) (now objects) count) p × (p .refused ≡ false) × (length (now line) ≡ 257) × (length (now code) ≤ 32768) × (now fresh ≡ now numbers) ⌝ }
+    ensures { λ r. ⌜ ((c : Cond) (s : State) → checkIn (stateIn (now (facts .exit)) (now (numbers .exit))) (queueIn (now (words .exit)) (now (objects .exit)) (r .count)) (r .progress) ≡ M.take (rulesIn (now (code .entry)) (now (starts .entry)) (now (firsts .entry)) c (signedIn (now (heads .entry)) acting) s) limits (checkIn (stateIn (now (facts .entry)) (now (numbers .entry))) (queueIn (now (words .entry)) (now (objects .entry)) count) p) (reader (knownIn (now (tables .entry)) counts (now (heads .entry)) acting (now (code .entry)) (now (starts .entry))) .line (p .number) (p .start) (take (p .used) (now (line .entry))))) × Fit acting (queueIn (now (words .exit)) (now (objects .exit)) (r .count)) (r .progress) × (r .progress .number ≡ p .number) × (now (fresh .exit) ≡ now (numbers .exit)) ⌝ }
+{
+    let text = runs::part_of(line, 0, p.used);
+    let l = steps::line_at(
+        text,
+        tables,
+        counts,
+        heads,
+        acting,
+        code,
+        starts,
+        p.number,
+        p.start,
+    );
+    match l {
+        Line::Blank => Went { count, progress: p },
+        Line::Refused(k, place) => Went {
+            count,
+            progress: refuse(p, k, place + 1),
+        },
+        Line::Read(x) => take_step(
+            code,
+            starts,
+            firsts,
+            facts,
+            numbers,
+            fresh,
+            words,
+            objects,
+            count,
+            p,
+            x,
+            points,
+            whos,
+            lines,
+            others,
+        ),
+    }
+}
+
+// The refusal of a line that is too long, by its first 257 bytes: "if none of it is refused it is 14".
+pub fn refuse_long<'a>(
+    tables: &'a [u8],
+    counts: Counts,
+    heads: &'a [u8],
+    acting: usize,
+    code: &'a [u8],
+    starts: &'a [usize],
+    text: &'a [u8],
+    p: Progress,
+) -> Progress
+    requires { ⌜ Tabled (now tables) counts × Headed (now heads) acting × (length (now text) ≡ 257) ⌝ }
+    ensures { λ r. ⌜ (refusedIn r ≡ reader (knownIn (now (tables .entry)) counts (now (heads .entry)) acting (now (code .entry)) (now (starts .entry))) .long (p .number) (p .start) (now (text .entry))) × (r ≡ refusing p (r .refusal) (r .column)) ⌝ }
+{
+    let l = steps::line_at(
+        text,
+        tables,
+        counts,
+        heads,
+        acting,
+        code,
+        starts,
+        p.number,
+        p.start,
+    );
+    match l {
+        Line::Blank => refuse(p, 14, 257),
+        Line::Read(_) => refuse(p, 14, 257),
+        Line::Refused(k, place) => refuse(p, k, place + 1),
+    }
+}
+
+fn higher(a: usize, b: usize) -> usize
+    ensures { λ r. ⌜ r ≡ max a b ⌝ }
+{
+    if a < b {
+        return b;
+    }
+    a
+}
+
+// What waits happens, all of it, and the goal is tested.
+fn end_run<'a>(
+    code: &'a [u8],
+    starts: &'a [usize],
+    goal: &'a [u8],
+    firsts: &'a [u16],
+    facts: &mut [u8],
+    numbers: &mut [i64],
+    fresh: &mut [i64],
+    words: &mut [usize; 384],
+    objects: &mut [u8; 256],
+    count: usize,
+    p: Progress,
+    points: &mut [usize; 256],
+    whos: &mut [u8; 256],
+    lines: &mut [usize; 256],
+    others: &mut [u8; 256],
+) -> Past
+    requires { ⌜ Timed (queueIn (now words) (now objects) count) × (p .start < 1000000000000) × (length (now code) ≤ 32768) × (now fresh ≡ now numbers) ⌝ }
+    ensures { λ r. ⌜ ((es : Table) (s : State) → Sound (length es) (queueIn (now (words .entry)) (now (objects .entry)) count) → length es ≤ 32 → P.ended (runIn r (stateIn (now (facts .exit)) (now (numbers .exit)))) ≡ finish (rulesIn (now (code .entry)) (now (starts .entry)) (now (firsts .entry)) (conditionAt (now (goal .entry)) 0 .tree) es s) limits (waits (runIn (p .past) (stateIn (now (facts .entry)) (now (numbers .entry)))) (p .start) (waiting (queueIn (now (words .entry)) (now (objects .entry)) count)))) ⌝ }
+{
+    let b = 1 + higher(p.start, lent::last(words, count));
+    let d = plan_running::drain_below(
+        code,
+        starts,
+        firsts,
+        facts,
+        numbers,
+        fresh,
+        words,
+        objects,
+        count,
+        b,
+        p.past,
+        points,
+        whos,
+        lines,
+        others,
+    );
+    plan_running::judge(goal, firsts, facts, numbers, d.past)
+}
+
+// The plan's end: its last line, what waits, and the goal.
+pub fn end_plan<'a>(
+    tables: &'a [u8],
+    counts: Counts,
+    heads: &'a [u8],
+    acting: usize,
+    code: &'a [u8],
+    starts: &'a [usize],
+    goal: &'a [u8],
+    firsts: &'a [u16],
+    facts: &mut [u8],
+    numbers: &mut [i64],
+    fresh: &mut [i64],
+    line: &'a [u8],
+    queue: Queue,
+    p: Progress,
+) -> Progress
+    requires { ⌜ Tabled (now tables) counts × Headed (now heads) acting × Fit acting queue p × (p .refused ≡ false) × (length (now line) ≡ 257) × (length (now code) ≤ 32768) × (now fresh ≡ now numbers) ⌝ }
+    ensures { λ r. ⌜ ((s : State) → closedIn (stateIn (now (facts .exit)) (now (numbers .exit))) r ≡ close (rulesIn (now (code .entry)) (now (starts .entry)) (now (firsts .entry)) (conditionAt (now (goal .entry)) 0 .tree) (signedIn (now (heads .entry)) acting) s) limits (reader (knownIn (now (tables .entry)) counts (now (heads .entry)) acting (now (code .entry)) (now (starts .entry)))) (reading (checkIn (stateIn (now (facts .entry)) (now (numbers .entry))) queue p) (p .number) (take (p .used) (now (line .entry))))) ⌝ }
+{
+    let mut words = [0usize; 384];
+    let mut objects = [0u8; 256];
+    let mut points = [0usize; 256];
+    let mut whos = [0u8; 256];
+    let mut lines = [0usize; 256];
+    let mut others = [0u8; 256];
+    lent::lend(queue, &mut words, &mut objects);
+    let t = take_line(
+        tables,
+        counts,
+        heads,
+        acting,
+        code,
+        starts,
+        firsts,
+        facts,
+        numbers,
+        fresh,
+        line,
+        &mut words,
+        &mut objects,
+        queue.count,
+        p,
+        &mut points,
+        &mut whos,
+        &mut lines,
+        &mut others,
+    );
+    let last = t.progress;
+    let refused = last.refused;
+    if refused {
+        return last;
+    }
+    let past = end_run(
+        code,
+        starts,
+        goal,
+        firsts,
+        facts,
+        numbers,
+        fresh,
+        &mut words,
+        &mut objects,
+        t.count,
+        last,
+        &mut points,
+        &mut whos,
+        &mut lines,
+        &mut others,
+    );
+    begun(last, last.start, past)
+}

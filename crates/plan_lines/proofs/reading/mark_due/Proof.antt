@@ -1,0 +1,30 @@
+-- `lines::reading::mark_due` meets its contract. Assumes nothing.
+use mathlib.Core.Path.{sym, _∙_}
+use denote.Ref.{now}
+use Rattle.plan_lines.proofs.Marks.{mark-else, mark-read, mark-other}
+use borrow.Author.Needs.{needs}
+use Rattle.plan_lines.proofs.reading.mark_due.Statement.{statement}
+use Rattle.plan_lines.proofs.reading.mark_due.Tie as tie
+
+plan-token-at-requires : tie.Need-plan-token-at-requires
+plan-token-at-requires c κs = search needs
+
+enum-known-t : tie.Need-enum-known-t
+enum-known-t c = search needs
+
+refusal-requires : tie.Need-refusal-requires
+refusal-requires c κs = search needs
+
+returns : tie.Need-returns
+returns c = mark-else (now (c .before .before .before .before .args .text)) (c .before .before .before .before .args .from) (c .before .before .before .before .args .b) (c .before .before .plan-token-at .result) (c .refusal .result) (c .before .before .plan-token-at .ensures) (c .before .match .keys2) (c .refusal .ensures)
+
+returns-2 : tie.Need-returns-2
+returns-2 c = mark-read (now (c .before .before .before .before .before .before .args .text)) (c .before .before .before .before .before .before .args .from) (c .before .before .before .before .before .before .args .b) _ _ _ (sym (c .before .before .before .before .plan-token-at .ensures) ∙ c .before .before .t .given .1) (c .if1 .taken)
+
+returns-3 : tie.Need-returns-3
+returns-3 c = mark-other (now (c .before .before .before .before .before .before .args .text)) (c .before .before .before .before .before .before .args .from) (c .before .before .before .before .before .before .args .b) _ _ _ (sym (c .before .before .before .before .plan-token-at .ensures) ∙ c .before .before .t .given .1) (c .if1 .left)
+
+pub mark-due-spec : {M : Type 1} → statement M
+mark-due-spec =
+    tie.close
+    (tie.spec plan-token-at-requires enum-known-t refusal-requires returns returns-2 returns-3)

@@ -1,0 +1,145 @@
+-- `lines::steps::act_at` meets its contract. Assumes nothing.
+use mathlib.Core.Path.{refl, sym, ap, _∙_}
+use mathlib.Core.Bool.{Bool}
+use native.Mathlib.Omega.{arith}
+use denote.Ref.{now}
+use Rattle.plan_lines.specs.Knowing.{knownIn}
+use Rattle.plan_lines.specs.Reading.{spanAnswer, lastingRead}
+use Rattle.plan_lines.proofs.Objects.{action-below}
+use Rattle.plan_lines.proofs.Acts.{amount-done, stepped-refused, colon-refused, opening-refused, name-refused, objects-refused, lasting-refused, act-stepped}
+use borrow.Author.Needs.{needs}
+use Rattle.plan_lines.proofs.steps.act_at.Statement.{statement}
+use Rattle.plan_lines.proofs.steps.act_at.Tie as tie
+
+mark-due-requires : tie.Need-mark-due-requires
+mark-due-requires c κs = search needs
+
+enum-known-m : tie.Need-enum-known-m
+enum-known-m c = search needs
+
+enum-told : tie.Need-enum-told
+enum-told c = search needs
+
+refused-requires : tie.Need-refused-requires
+refused-requires c κs = search needs
+
+returns : tie.Need-returns
+returns c = stepped-refused (c .before .before .before .before .before .before .before .before .before .args .acting) (c .refused .result) _ _ _ (c .before .enum-told .given .1) (c .refused .ensures) _ (colon-refused (now (c .before .before .before .before .before .before .before .before .before .args .text)) (knownIn (now (c .before .before .before .before .before .before .before .before .before .args .tables)) (c .before .before .before .before .before .before .before .before .before .args .counts) (now (c .before .before .before .before .before .before .before .before .before .args .heads)) (c .before .before .before .before .before .before .before .before .before .args .acting) (now (c .before .before .before .before .before .before .before .before .before .args .code)) (now (c .before .before .before .before .before .before .before .before .before .args .starts))) (c .before .before .before .before .before .before .before .before .before .args .number) (c .before .before .before .before .before .before .before .before .before .args .start) (c .before .before .before .before .before .before .before .before .before .args .from) _ _ (sym (c .before .before .before .mark-due .ensures) ∙ c .before .enum-told .given .1))
+
+opening-due-requires : tie.Need-opening-due-requires
+opening-due-requires c κs = search needs
+
+enum-known-o : tie.Need-enum-known-o
+enum-known-o c = search needs
+
+enum-told-2 : tie.Need-enum-told-2
+enum-told-2 c = search needs
+
+refused-requires-2 : tie.Need-refused-requires-2
+refused-requires-2 c κs = search needs
+
+returns-2 : tie.Need-returns-2
+returns-2 c = stepped-refused (c .before .before .before .before .before .before .before .before .before .before .before .before .before .args .acting) (c .refused2 .result) _ _ _ (c .before .enum-told2 .given .1) (c .refused2 .ensures) _ (opening-refused (now (c .before .before .before .before .before .before .before .before .before .before .before .before .before .args .text)) (knownIn (now (c .before .before .before .before .before .before .before .before .before .before .before .before .before .args .tables)) (c .before .before .before .before .before .before .before .before .before .before .before .before .before .args .counts) (now (c .before .before .before .before .before .before .before .before .before .before .before .before .before .args .heads)) (c .before .before .before .before .before .before .before .before .before .before .before .before .before .args .acting) (now (c .before .before .before .before .before .before .before .before .before .before .before .before .before .args .code)) (now (c .before .before .before .before .before .before .before .before .before .before .before .before .before .args .starts))) (c .before .before .before .before .before .before .before .before .before .before .before .before .before .args .number) (c .before .before .before .before .before .before .before .before .before .before .before .before .before .args .start) (c .before .before .before .before .before .before .before .before .before .before .before .before .before .args .from) _ _ (sym (c .before .before .before .before .before .before .before .mark-due .ensures) ∙ c .before .before .before .before .before .m .given .1) _ _ (sym (c .before .before .before .opening-due .ensures) ∙ c .before .enum-told2 .given .1))
+
+action-at-requires : tie.Need-action-at-requires
+action-at-requires c κs = search needs
+
+enum-known-a : tie.Need-enum-known-a
+enum-known-a c = search needs
+
+enum-told-3 : tie.Need-enum-told-3
+enum-told-3 c = search needs
+
+refused-requires-3 : tie.Need-refused-requires-3
+refused-requires-3 c κs = search needs
+
+returns-3 : tie.Need-returns-3
+returns-3 c = stepped-refused (c .before .before .before .before .before .before .before .before .before .before .before .before .before .before .before .before .before .args .acting) (c .refused3 .result) _ _ _ (c .before .enum-told3 .given .1) (c .refused3 .ensures) _ (name-refused (now (c .before .before .before .before .before .before .before .before .before .before .before .before .before .before .before .before .before .args .text)) (now (c .before .before .before .before .before .before .before .before .before .before .before .before .before .before .before .before .before .args .tables)) (c .before .before .before .before .before .before .before .before .before .before .before .before .before .before .before .before .before .args .counts) (now (c .before .before .before .before .before .before .before .before .before .before .before .before .before .before .before .before .before .args .heads)) (c .before .before .before .before .before .before .before .before .before .before .before .before .before .before .before .before .before .args .acting) (now (c .before .before .before .before .before .before .before .before .before .before .before .before .before .before .before .before .before .args .code)) (now (c .before .before .before .before .before .before .before .before .before .before .before .before .before .before .before .before .before .args .starts)) (c .before .before .before .before .before .before .before .before .before .before .before .before .before .before .before .before .before .args .number) (c .before .before .before .before .before .before .before .before .before .before .before .before .before .before .before .before .before .args .start) (c .before .before .before .before .before .before .before .before .before .before .before .before .before .before .before .before .before .args .from) _ _ (sym (c .before .before .before .before .before .before .before .before .before .before .before .mark-due .ensures) ∙ c .before .before .before .before .before .before .before .before .before .m .given .1) _ _ (sym (c .before .before .before .before .before .before .before .opening-due .ensures) ∙ c .before .before .before .before .before .o .given .1) _ _ (sym (c .before .before .before .action-at .ensures) ∙ c .before .enum-told3 .given .1))
+
+slice-aggregate-objects-at : tie.Need-slice-aggregate-objects-at
+slice-aggregate-objects-at c = search needs
+
+objects-at-requires : tie.Need-objects-at-requires
+objects-at-requires c κs = search needs
+
+enum-known-g : tie.Need-enum-known-g
+enum-known-g c = search needs
+
+enum-told-4 : tie.Need-enum-told-4
+enum-told-4 c = search needs
+
+refused-requires-4 : tie.Need-refused-requires-4
+refused-requires-4 c κs = search needs
+
+returns-4 : tie.Need-returns-4
+returns-4 c = stepped-refused (c .before .before .before .before .before .before .before .before .before .before .before .before .before .before .before .before .before .before .before .before .before .before .before .args .acting) (c .refused4 .result) _ _ _ (c .before .enum-told4 .given .1) (c .refused4 .ensures) _ (objects-refused (now (c .before .before .before .before .before .before .before .before .before .before .before .before .before .before .before .before .before .before .before .before .before .before .before .args .text)) (now (c .before .before .before .before .before .before .before .before .before .before .before .before .before .before .before .before .before .before .before .before .before .before .before .args .tables)) (c .before .before .before .before .before .before .before .before .before .before .before .before .before .before .before .before .before .before .before .before .before .before .before .args .counts) (now (c .before .before .before .before .before .before .before .before .before .before .before .before .before .before .before .before .before .before .before .before .before .before .before .args .heads)) (c .before .before .before .before .before .before .before .before .before .before .before .before .before .before .before .before .before .before .before .before .before .before .before .args .acting) (now (c .before .before .before .before .before .before .before .before .before .before .before .before .before .before .before .before .before .before .before .before .before .before .before .args .code)) (now (c .before .before .before .before .before .before .before .before .before .before .before .before .before .before .before .before .before .before .before .before .before .before .before .args .starts)) (c .before .before .before .before .before .before .before .before .before .before .before .before .before .before .before .before .before .before .before .before .before .before .before .args .number) (c .before .before .before .before .before .before .before .before .before .before .before .before .before .before .before .before .before .before .before .before .before .before .before .args .start) (c .before .before .before .before .before .before .before .before .before .before .before .before .before .before .before .before .before .before .before .before .before .before .before .args .from) _ _ (sym (c .before .before .before .before .before .before .before .before .before .before .before .before .before .before .before .before .before .mark-due .ensures) ∙ c .before .before .before .before .before .before .before .before .before .before .before .before .before .before .before .m .given .1) _ _ (sym (c .before .before .before .before .before .before .before .before .before .before .before .before .before .opening-due .ensures) ∙ c .before .before .before .before .before .before .before .before .before .before .before .o .given .1) _ _ (sym (c .before .before .before .before .before .before .before .before .before .action-at .ensures) ∙ c .before .before .before .before .before .before .before .a .given .1) _ _ _ (c .before .before .before .before .objects-at .ensures) _ _ (c .before .enum-told4 .given .1))
+
+is-lasting-requires : tie.Need-is-lasting-requires
+is-lasting-requires c κs = omega (arith, action-below (now (c .before .before .before .before .before .before .before .before .before .before .before .before .before .before .before .before .before .before .before .before .before .before .before .args .text)) (now (c .before .before .before .before .before .before .before .before .before .before .before .before .before .before .before .before .before .before .before .before .before .before .before .args .heads)) (c .before .before .before .before .before .before .before .before .before .before .before .before .before .before .before .before .before .before .before .before .before .before .before .args .acting) _ _ _ (sym (c .before .before .before .before .before .before .before .before .before .action-at .ensures) ∙ c .before .before .before .before .before .before .before .a .given .1), c .before .before .before .before .before .before .before .before .before .before .before .before .before .before .before .before .before .before .before .before .before .before .before .pre .1 .1)
+
+span-at-requires : tie.Need-span-at-requires
+span-at-requires c κs = search needs
+
+enum-known-s : tie.Need-enum-known-s
+enum-known-s c = search needs
+
+enum-told-5 : tie.Need-enum-told-5
+enum-told-5 c = search needs
+
+refused-requires-5 : tie.Need-refused-requires-5
+refused-requires-5 c κs = search needs
+
+returns-5 : tie.Need-returns-5
+returns-5 c = stepped-refused (c .before .before .before .before .before .before .before .before .before .before .before .before .before .before .before .before .before .before .before .before .before .before .before .before .before .before .before .before .args .acting) (c .refused5 .result) _ _ _ (c .before .enum-told5 .given .1) (c .refused5 .ensures) _ (lasting-refused (now (c .before .before .before .before .before .before .before .before .before .before .before .before .before .before .before .before .before .before .before .before .before .before .before .before .before .before .before .before .args .text)) (now (c .before .before .before .before .before .before .before .before .before .before .before .before .before .before .before .before .before .before .before .before .before .before .before .before .before .before .before .before .args .tables)) (c .before .before .before .before .before .before .before .before .before .before .before .before .before .before .before .before .before .before .before .before .before .before .before .before .before .before .before .before .args .counts) (now (c .before .before .before .before .before .before .before .before .before .before .before .before .before .before .before .before .before .before .before .before .before .before .before .before .before .before .before .before .args .heads)) (c .before .before .before .before .before .before .before .before .before .before .before .before .before .before .before .before .before .before .before .before .before .before .before .before .before .before .before .before .args .acting) (now (c .before .before .before .before .before .before .before .before .before .before .before .before .before .before .before .before .before .before .before .before .before .before .before .before .before .before .before .before .args .code)) (now (c .before .before .before .before .before .before .before .before .before .before .before .before .before .before .before .before .before .before .before .before .before .before .before .before .before .before .before .before .args .starts)) (c .before .before .before .before .before .before .before .before .before .before .before .before .before .before .before .before .before .before .before .before .before .before .before .before .before .before .before .before .args .number) (c .before .before .before .before .before .before .before .before .before .before .before .before .before .before .before .before .before .before .before .before .before .before .before .before .before .before .before .before .args .start) (c .before .before .before .before .before .before .before .before .before .before .before .before .before .before .before .before .before .before .before .before .before .before .before .before .before .before .before .before .args .from) _ _ (sym (c .before .before .before .before .before .before .before .before .before .before .before .before .before .before .before .before .before .before .before .before .before .before .mark-due .ensures) ∙ c .before .before .before .before .before .before .before .before .before .before .before .before .before .before .before .before .before .before .before .before .m .given .1) _ _ (sym (c .before .before .before .before .before .before .before .before .before .before .before .before .before .before .before .before .before .before .opening-due .ensures) ∙ c .before .before .before .before .before .before .before .before .before .before .before .before .before .before .before .before .o .given .1) _ _ (sym (c .before .before .before .before .before .before .before .before .before .before .before .before .before .before .action-at .ensures) ∙ c .before .before .before .before .before .before .before .before .before .before .before .before .a .given .1) _ _ _ (c .before .before .before .before .before .before .before .before .before .objects-at .ensures) _ _ (c .before .before .before .before .before .before .g .given .1) _ _ (sym (c .before .before .before .span-at .ensures .0 ∙ ap (λ (b : Bool). spanAnswer (lastingRead (now (c .before .before .before .before .before .before .before .before .before .before .before .before .before .before .before .before .before .before .before .before .before .before .before .before .before .before .before .before .args .text)) b (c .before .before .before .before .before .before .g .given .0 .0))) (c .before .before .before .before .is-lasting .ensures)) ∙ c .before .enum-told5 .given .1))
+
+array-read-t28 : tie.Need-array-read-t28
+array-read-t28 c = search needs
+
+array-read-t31 : tie.Need-array-read-t31
+array-read-t31 c = search needs
+
+array-read-t34 : tie.Need-array-read-t34
+array-read-t34 c = search needs
+
+array-read-t37 : tie.Need-array-read-t37
+array-read-t37 c = search needs
+
+returns-6 : tie.Need-returns-6
+returns-6 c = act-stepped (now (c .before .before .before .before .before .before .before .before .before .before .before .before .before .before .before .before .before .before .before .before .before .before .before .before .before .before .before .before .args .text)) (now (c .before .before .before .before .before .before .before .before .before .before .before .before .before .before .before .before .before .before .before .before .before .before .before .before .before .before .before .before .args .tables)) (c .before .before .before .before .before .before .before .before .before .before .before .before .before .before .before .before .before .before .before .before .before .before .before .before .before .before .before .before .args .counts) (now (c .before .before .before .before .before .before .before .before .before .before .before .before .before .before .before .before .before .before .before .before .before .before .before .before .before .before .before .before .args .heads)) (c .before .before .before .before .before .before .before .before .before .before .before .before .before .before .before .before .before .before .before .before .before .before .before .before .before .before .before .before .args .acting) (now (c .before .before .before .before .before .before .before .before .before .before .before .before .before .before .before .before .before .before .before .before .before .before .before .before .before .before .before .before .args .code)) (now (c .before .before .before .before .before .before .before .before .before .before .before .before .before .before .before .before .before .before .before .before .before .before .before .before .before .before .before .before .args .starts)) (c .before .before .before .before .before .before .before .before .before .before .before .before .before .before .before .before .before .before .before .before .before .before .before .before .before .before .before .before .args .number) (c .before .before .before .before .before .before .before .before .before .before .before .before .before .before .before .before .before .before .before .before .before .before .before .before .before .before .before .before .args .start) (c .before .before .before .before .before .before .before .before .before .before .before .before .before .before .before .before .before .before .before .before .before .before .before .before .before .before .before .before .args .from) _ _ (sym (c .before .before .before .before .before .before .before .before .before .before .before .before .before .before .before .before .before .before .before .before .before .before .mark-due .ensures) ∙ c .before .before .before .before .before .before .before .before .before .before .before .before .before .before .before .before .before .before .before .before .m .given .1) _ _ (sym (c .before .before .before .before .before .before .before .before .before .before .before .before .before .before .before .before .before .before .opening-due .ensures) ∙ c .before .before .before .before .before .before .before .before .before .before .before .before .before .before .before .before .o .given .1) _ _ (sym (c .before .before .before .before .before .before .before .before .before .before .before .before .before .before .action-at .ensures) ∙ c .before .before .before .before .before .before .before .before .before .before .before .before .a .given .1) _ _ _ (c .before .before .before .before .before .before .before .before .before .objects-at .ensures) _ _ (c .before .before .before .before .before .before .g .given .1) _ _ (sym (c .before .before .before .span-at .ensures .0 ∙ ap (λ (b : Bool). spanAnswer (lastingRead (now (c .before .before .before .before .before .before .before .before .before .before .before .before .before .before .before .before .before .before .before .before .before .before .before .before .before .before .before .before .args .text)) b (c .before .before .before .before .before .before .g .given .0 .0))) (c .before .before .before .before .is-lasting .ensures)) ∙ c .before .s .given .1) refl (c .before .before .before .before .before .before .before .before .before .before .before .before .before .before .before .before .before .before .before .before .before .before .before .before .before .before .before .before .pre .2) (amount-done (c .before .before .before .span-at .result) _ _ (c .before .s .given .1) (c .before .before .before .span-at .ensures .1))
+
+pub act-at-spec : {M : Type 1} → statement M
+act-at-spec =
+    tie.close
+    (tie.spec
+    mark-due-requires
+    enum-known-m
+    enum-told
+    refused-requires
+    returns
+    opening-due-requires
+    enum-known-o
+    enum-told-2
+    refused-requires-2
+    returns-2
+    action-at-requires
+    enum-known-a
+    enum-told-3
+    refused-requires-3
+    returns-3
+    slice-aggregate-objects-at
+    objects-at-requires
+    enum-known-g
+    enum-told-4
+    refused-requires-4
+    returns-4
+    is-lasting-requires
+    span-at-requires
+    enum-known-s
+    enum-told-5
+    refused-requires-5
+    returns-5
+    array-read-t28
+    array-read-t31
+    array-read-t34
+    array-read-t37
+    returns-6)

@@ -1,3 +1,0 @@
--- What the contracts name, module by module.
-pub mod Parts
-pub mod Posed

@@ -1,0 +1,195 @@
+// Whether two checks are the same, part by part, and whether an output still has its mark.
+use check_calls::Check;
+use check_grounding::Ground;
+use domain_load::Model;
+use domain_terms::scope::Counts;
+use happening_meaning::Outcome;
+use plan_feeding::Progress;
+use plan_meaning::Step;
+use plan_running::Past;
+use plan_waiting::Queue;
+
+// Whether a block has its mark from a place on.
+pub fn is_marked(out: &[u8], from: usize) -> bool {
+    let mut i = from;
+    while i < out.len() {
+        if out[i] != 170 {
+            return false;
+        }
+        i += 1;
+    }
+    true
+}
+
+pub fn are_marked(out: &[i64], from: usize) -> bool {
+    let mut i = from;
+    while i < out.len() {
+        if out[i] != -7 {
+            return false;
+        }
+        i += 1;
+    }
+    true
+}
+
+fn same_bytes<'a>(a: &'a [u8], b: &'a [u8]) -> bool {
+    let mut i = 0;
+    while i < a.len() && i < b.len() {
+        if a[i] != b[i] {
+            return false;
+        }
+        i += 1;
+    }
+    a.len() == b.len()
+}
+
+fn same_indexes<'a>(a: &'a [usize], b: &'a [usize]) -> bool {
+    let mut i = 0;
+    while i < a.len() && i < b.len() {
+        if a[i] != b[i] {
+            return false;
+        }
+        i += 1;
+    }
+    a.len() == b.len()
+}
+
+fn same_numbers<'a>(a: &'a [i64], b: &'a [i64]) -> bool {
+    let mut i = 0;
+    while i < a.len() && i < b.len() {
+        if a[i] != b[i] {
+            return false;
+        }
+        i += 1;
+    }
+    a.len() == b.len()
+}
+
+fn same_firsts<'a>(a: &'a [u16], b: &'a [u16]) -> bool {
+    let mut i = 0;
+    while i < a.len() && i < b.len() {
+        if a[i] != b[i] {
+            return false;
+        }
+        i += 1;
+    }
+    a.len() == b.len()
+}
+
+fn same_counts(a: Counts, b: Counts) -> bool {
+    a.types == b.types
+        && a.objects == b.objects
+        && a.predicates == b.predicates
+        && a.functions == b.functions
+        && a.variables == b.variables
+        && a.in_action == b.in_action
+}
+
+fn same_model(a: Model, b: Model) -> bool {
+    same_bytes(&a.tables, &b.tables)
+        && same_bytes(&a.actions, &b.actions)
+        && same_indexes(&a.starts, &b.starts)
+        && same_bytes(&a.code, &b.code)
+        && same_bytes(&a.goal, &b.goal)
+        && same_indexes(&a.facts, &b.facts)
+        && same_indexes(&a.numbers, &b.numbers)
+        && same_counts(a.counts, b.counts)
+        && a.acting == b.acting
+}
+
+fn same_ground(a: Ground, b: Ground) -> bool {
+    same_firsts(&a.firsts, &b.firsts) && a.facts == b.facts && a.numbers == b.numbers
+}
+
+fn same_step(x: Step, y: Step) -> bool {
+    x.line == y.line
+        && x.start == y.start
+        && x.duration == y.duration
+        && x.action == y.action
+        && x.a == y.a
+        && x.b == y.b
+        && x.c == y.c
+        && x.d == y.d
+        && x.width == y.width
+}
+
+// The points that wait and the places that none has.
+fn same_queue(a: Queue, b: Queue) -> bool {
+    let mut i = 0;
+    while i < 64 {
+        let s = a.slots[i];
+        let t = b.slots[i];
+        if !same_step(s.step, t.step) || s.ends != t.ends {
+            return false;
+        }
+        i += 1;
+    }
+    a.count == b.count
+}
+
+// An outcome as a number for its word.
+fn word_of(o: Outcome) -> usize {
+    match o {
+        Outcome::Done => 0,
+        Outcome::Duration(_) => 1,
+        Outcome::Condition(_) => 2,
+        Outcome::Undefined(_) => 3,
+        Outcome::Range(_) => 4,
+        Outcome::Itself(_) => 5,
+        Outcome::Conflict(_, _) => 6,
+        Outcome::Invariant(_) => 7,
+        Outcome::Goal => 8,
+    }
+}
+
+fn line_of(o: Outcome) -> usize {
+    match o {
+        Outcome::Done => 0,
+        Outcome::Duration(l) => l,
+        Outcome::Condition(l) => l,
+        Outcome::Undefined(l) => l,
+        Outcome::Range(l) => l,
+        Outcome::Itself(l) => l,
+        Outcome::Conflict(l, _) => l,
+        Outcome::Invariant(l) => l,
+        Outcome::Goal => 0,
+    }
+}
+
+fn second_of(o: Outcome) -> usize {
+    match o {
+        Outcome::Conflict(_, m) => m,
+        _ => 0,
+    }
+}
+
+fn same_past(a: Past, b: Past) -> bool {
+    let o = a.outcome;
+    let p = b.outcome;
+    word_of(o) == word_of(p)
+        && line_of(o) == line_of(p)
+        && second_of(o) == second_of(p)
+        && a.time == b.time
+}
+
+fn same_progress(a: Progress, b: Progress) -> bool {
+    a.used == b.used
+        && a.number == b.number
+        && a.start == b.start
+        && same_past(a.past, b.past)
+        && a.refused == b.refused
+        && a.refusal == b.refusal
+        && a.at == b.at
+        && a.column == b.column
+}
+
+pub fn same_check(a: Check, b: Check) -> bool {
+    same_model(a.model, b.model)
+        && same_ground(a.ground, b.ground)
+        && same_bytes(&a.facts, &b.facts)
+        && same_numbers(&a.numbers, &b.numbers)
+        && same_queue(a.queue, b.queue)
+        && same_bytes(&a.line, &b.line)
+        && same_progress(a.progress, b.progress)
+        && a.finished == b.finished
+}

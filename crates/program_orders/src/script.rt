@@ -1,0 +1,175 @@
+// The script: a command to a line, which is written out again with what came of it; other lines are headings.
+use crate::calls;
+use crate::compare;
+use crate::report;
+use crate::spoil;
+use check_calls::Check;
+use domain_load::Verdict;
+use program_records::input;
+use text_tokens::runs;
+use text_words::spelling;
+use text_words::spelling::Found;
+ghost use Prim.Native.Nat.{_≤_, _<_};
+ghost use lib.ListN.{length};
+
+// The check that the calls are made on, one put aside, and the answer of the last load.
+struct Bench {
+    check: Check,
+    kept: Check,
+    answer: Verdict,
+}
+
+// Where a byte stands from a place on, else the end.
+fn find(text: &[u8], byte: u8, from: usize) -> usize
+    requires { ⌜ from ≤ length (now text) ⌝ }
+    ensures { λ r. ⌜ (from ≤ r) × (r ≤ length (now (text .entry))) ⌝ }
+{
+    let mut i = from;
+    while i < text.len() {
+        if text[i] == byte {
+            return i;
+        }
+        i += 1;
+    }
+    i
+}
+
+// Where the line behind the one at a place begins.
+fn behind(text: &[u8], at: usize) -> usize
+    requires { ⌜ at < length (now text) ⌝ }
+    ensures { λ r. ⌜ at < r ⌝ }
+{
+    let end = find(text, 10, at);
+    if end < text.len() {
+        return end + 1;
+    }
+    end
+}
+
+// A line's first word.
+fn first(line: &[u8]) -> &[u8] {
+    runs::part_of(line, 0, find(line, 32, 0))
+}
+
+// What stands behind a line's first space.
+fn rest(line: &[u8]) -> &[u8] {
+    let end = find(line, 32, 0);
+    let n = line.len();
+    if end < n {
+        return runs::part_of(line, end + 1, n);
+    }
+    runs::part_of(line, n, n)
+}
+
+// The number that a line begins with.
+fn number(line: &[u8]) -> usize {
+    input::decimal(line, 0, find(line, 32, 0))
+}
+
+fn load<'a>(domain: &'a [u8], problem: &'a [u8], sizes: &'a [u8], kept: Check) -> Bench {
+    let opened = check_calls::load(
+        runs::part_of(domain, 0, number(sizes)),
+        runs::part_of(problem, 0, number(rest(sizes))),
+    );
+    let check = opened.check;
+    let answer = opened.answer;
+    report::say_load(answer);
+    Bench {
+        check,
+        kept,
+        answer,
+    }
+}
+
+// The calls on the check: the check after the one that is meant.
+fn call(word: &[u8], given: &[u8], check: Check) -> Check {
+    let f = spelling::word_in(b"feed bytes finish result facts numbers", word);
+    let Found::At(i) = f else {
+        io::write_all(1, b"\n");
+        return check;
+    };
+    match i {
+        0 => calls::feed(check, given),
+        1 => calls::feed_bytes(check, given),
+        2 => calls::finish(check),
+        3 => calls::result(check, number(given)),
+        4 => calls::facts(check, number(given)),
+        _ => calls::numbers(check, number(given)),
+    }
+}
+
+// What is done with the check put aside, and the spoiling of a number.
+fn aside(i: usize, given: &[u8], bench: Bench) -> Bench {
+    let check = bench.check;
+    let kept = bench.kept;
+    let answer = bench.answer;
+    if i == 4 {
+        report::say_same(compare::same_check(check, kept));
+        return bench;
+    }
+    io::write_all(1, b"\n");
+    match i {
+        2 => Bench {
+            check,
+            kept: check,
+            answer,
+        },
+        3 => Bench {
+            check: kept,
+            kept,
+            answer,
+        },
+        _ => {
+            let check = spoil::spoil(check, first(given), number(rest(given)));
+            Bench {
+                check,
+                kept,
+                answer,
+            }
+        }
+    }
+}
+
+fn step<'a>(domain: &'a [u8], problem: &'a [u8], line: &'a [u8], bench: Bench) -> Bench {
+    io::write_all(1, line);
+    let word = first(line);
+    let given = rest(line);
+    let check = bench.check;
+    let kept = bench.kept;
+    let answer = bench.answer;
+    let f = spelling::word_in(b"load refused keep restore compare spoil", word);
+    let Found::At(i) = f else {
+        let check = call(word, given, check);
+        return Bench {
+            check,
+            kept,
+            answer,
+        };
+    };
+    if i == 0 {
+        return load(domain, problem, given, kept);
+    }
+    if i == 1 {
+        calls::refused(answer, number(given));
+        return bench;
+    }
+    aside(i, given, bench)
+}
+
+// The script's lines, one after the other, from the check of a load of nothing.
+pub fn run<'a>(domain: &'a [u8], problem: &'a [u8], text: &'a [u8]) {
+    let opened = check_calls::load(b"", b"");
+    let check = opened.check;
+    let answer = opened.answer;
+    let mut bench = Bench {
+        check,
+        kept: check,
+        answer,
+    };
+    let mut at = 0;
+    while at < text.len() {
+        let end = find(text, 10, at);
+        bench = step(domain, problem, runs::part_of(text, at, end), bench);
+        at = behind(text, at);
+    }
+}

@@ -1,0 +1,108 @@
+-- `text::tokens::plan_token_at` meets its contract. Assumes nothing.
+use mathlib.Core.Path.{sym, _∙_}
+use denote.Ref.{now}
+use Rattle.text_tokens.proofs.Ways.{plan-end, plan-colon, plan-bad, plan-bracket, plan-run}
+use borrow.Author.Needs.{needs}
+use Rattle.text_tokens.proofs.tokens.plan_token_at.Statement.{statement}
+use Rattle.text_tokens.proofs.tokens.plan_token_at.Tie as tie
+
+gap-end-requires : tie.Need-gap-end-requires
+gap-end-requires c κs = search needs
+
+judged-requires : tie.Need-judged-requires
+judged-requires c κs = search needs
+
+returns : tie.Need-returns
+returns c = plan-end (now (c .before .before .before .before .args .line)) (c .before .before .before .before .args .from) (c .before .before .gap-end .result) (c .before .before .gap-end .ensures) (c .judged .result) (c .before .if1 .taken) (c .judged .ensures)
+
+shared-slice-read-b : tie.Need-shared-slice-read-b
+shared-slice-read-b c = search needs
+
+add-judged : tie.Need-add-judged
+add-judged c = search needs
+
+add-t13 : tie.Need-add-t13
+add-t13 c = search needs
+
+judged-requires-2 : tie.Need-judged-requires-2
+judged-requires-2 c κs = search needs
+
+returns-2 : tie.Need-returns-2
+returns-2 c = plan-colon (now (c .before .before .before .before .before .before .args .line)) (c .before .before .before .before .before .before .args .from) (c .before .before .before .before .gap-end .result) (c .before .before .before .before .gap-end .ensures) (c .judged2 .result) (c .before .before .before .if1 .left) (c .before .if2 .taken) (c .judged2 .ensures)
+
+kind-of-requires : tie.Need-kind-of-requires
+kind-of-requires c κs = search needs
+
+enum-told : tie.Need-enum-told
+enum-told c = search needs
+
+add-judged-2 : tie.Need-add-judged-2
+add-judged-2 c = search needs
+
+judged-requires-3 : tie.Need-judged-requires-3
+judged-requires-3 c κs = search needs
+
+enum-told-2 : tie.Need-enum-told-2
+enum-told-2 c = search needs
+
+add-judged-3 : tie.Need-add-judged-3
+add-judged-3 c = search needs
+
+plan-bracket-requires : tie.Need-plan-bracket-requires
+plan-bracket-requires c κs = search needs
+
+judged-requires-4 : tie.Need-judged-requires-4
+judged-requires-4 c κs = search needs
+
+add-run-end : tie.Need-add-run-end
+add-run-end c = search needs
+
+run-end-requires : tie.Need-run-end-requires
+run-end-requires c κs = search needs
+
+part-of-requires : tie.Need-part-of-requires
+part-of-requires c κs = search needs
+
+plan-word-requires : tie.Need-plan-word-requires
+plan-word-requires c κs = search needs
+
+judged-requires-5 : tie.Need-judged-requires-5
+judged-requires-5 c κs = search needs
+
+returns-3 : tie.Need-returns-3
+returns-3 c = plan-bad (now (c .before .before .before .before .before .before .before .before .before .args .line)) (c .before .before .before .before .before .before .before .before .before .args .from) (c .before .before .before .before .before .before .before .gap-end .result) (c .before .before .before .before .before .before .before .gap-end .ensures) (c .judged3 .result) (c .before .before .before .before .before .before .if1 .left) (c .before .before .before .before .if2 .left) (sym (c .before .before .before .kind-of .ensures) ∙ c .before .enum-told .given .1) (c .judged3 .ensures)
+
+returns-4 : tie.Need-returns-4
+returns-4 c = plan-bracket (now (c .before .before .before .before .before .before .before .before .before .before .args .line)) (c .before .before .before .before .before .before .before .before .before .before .args .from) (c .before .before .before .before .before .before .before .before .gap-end .result) (c .before .before .before .before .before .before .before .before .gap-end .ensures) (c .judged4 .result) (c .before .before .before .before .before .before .before .if1 .left) (c .before .before .before .before .before .if2 .left) (c .before .plan-bracket .result) (sym (c .before .before .before .before .kind-of .ensures) ∙ c .before .before .enum-told2 .given .1) (c .before .plan-bracket .ensures) (c .judged4 .ensures)
+
+returns-5 : tie.Need-returns-5
+returns-5 c = plan-run (now (c .before .before .before .before .before .before .before .before .before .before .before .args .line)) (c .before .before .before .before .before .before .before .before .before .before .before .args .from) (c .before .before .before .before .before .before .before .before .before .gap-end .result) (c .before .before .before .before .before .before .before .before .before .gap-end .ensures) (c .judged5 .result) (c .before .before .before .before .before .before .before .before .if1 .left) (c .before .before .before .before .before .before .if2 .left) (c .before .plan-word .result) (c .before .before .before .run-end .result) (rw (c .before .before .before .before .before .kind-of .ensures) at (c .before .before .before .before .match .keys3)) (c .before .before .before .run-end .ensures) (rw (c .before .before .part-of .ensures) at (c .before .plan-word .ensures)) (c .judged5 .ensures)
+
+pub plan-token-at-spec : {M : Type 1} → statement M
+plan-token-at-spec =
+    tie.close
+    (tie.spec
+    gap-end-requires
+    judged-requires
+    returns
+    shared-slice-read-b
+    add-judged
+    add-t13
+    judged-requires-2
+    returns-2
+    kind-of-requires
+    enum-told
+    add-judged-2
+    judged-requires-3
+    enum-told-2
+    add-judged-3
+    plan-bracket-requires
+    judged-requires-4
+    add-run-end
+    run-end-requires
+    part-of-requires
+    plan-word-requires
+    judged-requires-5
+    returns-3
+    returns-4
+    returns-5)

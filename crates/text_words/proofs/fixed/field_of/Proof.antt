@@ -1,0 +1,66 @@
+-- `words::fixed::field_of` meets its contract. Assumes nothing.
+use mathlib.Core.Path.{sym, _∙_}
+use native.Mathlib.Omega.{arith}
+use Rattle.text_words.specs.Bytes.{bytes}
+use Rattle.text_words.specs.Fixed.{fieldOf, fields}
+use Rattle.text_words.specs.declared.fixed.Field.the-variants as F
+use Rattle.text_words.proofs.Steps.{not-yet, picked-past}
+use borrow.Author.Needs.{needs}
+use Rattle.text_words.proofs.fixed.field_of.Statement.{statement}
+use Rattle.text_words.proofs.fixed.field_of.Tie as tie
+
+slice-aggregate-word-in : tie.Need-slice-aggregate-word-in
+slice-aggregate-word-in c = search needs
+
+word-in-requires : tie.Need-word-in-requires
+word-in-requires c κs = search needs
+
+enum-known-f : tie.Need-enum-known-f
+enum-known-f c = search needs
+
+enum-told : tie.Need-enum-told
+enum-told c = search needs
+
+returns : tie.Need-returns
+unfolding fieldOf bytes
+returns c = simp (sym (c .before .before .word-in .ensures) ∙ c .enum-told .given .1)
+
+returns-2 : tie.Need-returns-2
+unfolding fieldOf bytes
+returns-2 c = simp (sym (c .before .before .before .before .word-in .ensures) ∙ c .before .before .f .given .1, c .match2 .keys1)
+
+returns-3 : tie.Need-returns-3
+unfolding fieldOf bytes
+returns-3 c = simp (sym (c .before .before .before .before .word-in .ensures) ∙ c .before .before .f .given .1, c .match2 .keys2)
+
+returns-4 : tie.Need-returns-4
+unfolding fieldOf bytes
+returns-4 c = simp (sym (c .before .before .before .before .word-in .ensures) ∙ c .before .before .f .given .1, c .match2 .keys3)
+
+returns-5 : tie.Need-returns-5
+unfolding fieldOf bytes
+returns-5 c = simp (sym (c .before .before .before .before .word-in .ensures) ∙ c .before .before .f .given .1, c .match2 .keys4)
+
+returns-6 : tie.Need-returns-6
+unfolding fieldOf bytes
+returns-6 c = simp (sym (c .before .before .before .before .word-in .ensures) ∙ c .before .before .f .given .1, c .match2 .keys5)
+
+returns-7 : tie.Need-returns-7
+unfolding fieldOf bytes
+returns-7 c = picked-past fields F.Other _ (c .before .before .f .given .0 .0) (sym (c .before .before .before .before .word-in .ensures) ∙ c .before .before .f .given .1) (not-yet 4 (c .before .before .f .given .0 .0) (not-yet 3 (c .before .before .f .given .0 .0) (not-yet 2 (c .before .before .f .given .0 .0) (not-yet 1 (c .before .before .f .given .0 .0) (not-yet 0 (c .before .before .f .given .0 .0) (omega arith) (c .match2 .rest .0 .0 .0 .0 .1)) (c .match2 .rest .0 .0 .0 .1)) (c .match2 .rest .0 .0 .1)) (c .match2 .rest .0 .1)) (c .match2 .rest .1))
+
+pub field-of-spec : {M : Type 1} → statement M
+field-of-spec =
+    tie.close
+    (tie.spec
+    slice-aggregate-word-in
+    word-in-requires
+    enum-known-f
+    enum-told
+    returns
+    returns-2
+    returns-3
+    returns-4
+    returns-5
+    returns-6
+    returns-7)

@@ -1,0 +1,25 @@
+-- `words::fixed::is_reserved` meets its contract. Assumes nothing.
+use mathlib.Core.Path.{ap, _∙_}
+use Rattle.text_words.specs.Bytes.{bytes}
+use Rattle.text_words.specs.Spelling.{isAt}
+use Rattle.text_words.specs.Fixed.{isReserved}
+use borrow.Author.Needs.{needs}
+use Rattle.text_words.proofs.fixed.is_reserved.Statement.{statement}
+use Rattle.text_words.proofs.fixed.is_reserved.Tie as tie
+
+slice-aggregate-word-in : tie.Need-slice-aggregate-word-in
+slice-aggregate-word-in c = search needs
+
+word-in-requires : tie.Need-word-in-requires
+word-in-requires c κs = search needs
+
+is-at-requires : tie.Need-is-at-requires
+is-at-requires c κs = search needs
+
+returns : tie.Need-returns
+unfolding isReserved bytes
+returns c = c .is-at .ensures ∙ ap isAt (c .before .word-in .ensures)
+
+pub is-reserved-spec : {M : Type 1} → statement M
+is-reserved-spec =
+    tie.close (tie.spec slice-aggregate-word-in word-in-requires is-at-requires returns)

@@ -1,0 +1,50 @@
+-- `words::spelling::is_name` meets its contract. Assumes nothing.
+use mathlib.Core.Path.{sym, ap, _∙_}
+use mathlib.Core.Bool.{Bool, _&&_}
+use Prim.Native.Nat.{_-_, _+_}
+use denote.Ref.{now}
+use lib.ListN.{getD, drop}
+use Rattle.text_words.specs.Bytes.{kindOf}
+use Rattle.text_words.specs.Spelling.{nameBytes}
+use Rattle.text_words.proofs.Others.{not-letter}
+use Rattle.text_words.proofs.Steps.{name-none, name-some}
+use borrow.Author.Needs.{needs}
+use Rattle.text_words.proofs.spelling.is_name.Statement.{statement}
+use Rattle.text_words.proofs.spelling.is_name.Tie as tie
+
+returns : tie.Need-returns
+returns c = sym (name-none (now (c .before .before .args .w)) (c .before .before .args .from) (c .if1 .taken))
+
+shared-slice-read-kind-of : tie.Need-shared-slice-read-kind-of
+shared-slice-read-kind-of c = search needs
+
+kind-of-requires : tie.Need-kind-of-requires
+kind-of-requires c κs = search needs
+
+enum-told : tie.Need-enum-told
+enum-told c = search needs
+
+returns-2 : tie.Need-returns-2
+returns-2 c = sym (name-some (now (c .before .before .before .before .before .args .w)) (c .before .before .before .before .before .args .from) (c .before .before .before .if1 .left) ∙ ap (λ (t : Bool). t && nameBytes (drop (c .before .before .before .before .before .args .from + 1) (now (c .before .before .before .before .before .args .w)))) (not-letter (kindOf (getD (now (c .before .before .before .before .before .args .w)) (c .before .before .before .before .before .args .from) 0)) (rw (c .before .kind-of .ensures) at (c .match .keys2))))
+
+add-all-name-bytes : tie.Need-add-all-name-bytes
+add-all-name-bytes c = search needs
+
+all-name-bytes-requires : tie.Need-all-name-bytes-requires
+all-name-bytes-requires c κs = search needs
+
+returns-3 : tie.Need-returns-3
+returns-3 c = c .all-name-bytes .ensures ∙ sym (name-some (now (c .before .before .before .before .before .before .before .args .w)) (c .before .before .before .before .before .before .before .args .from) (c .before .before .before .before .before .if1 .left) ∙ simp (sym (c .before .before .before .kind-of .ensures) ∙ c .before .enum-told .given .1))
+
+pub is-name-spec : {M : Type 1} → statement M
+is-name-spec =
+    tie.close
+    (tie.spec
+    returns
+    shared-slice-read-kind-of
+    kind-of-requires
+    enum-told
+    returns-2
+    add-all-name-bytes
+    all-name-bytes-requires
+    returns-3)

@@ -1,0 +1,57 @@
+-- The words that document 01 fixes, by its letter.
+use Prim.Native.Nat.{ℕ}
+use mathlib.Core.List.{List, [], _∷_}
+use mathlib.Core.Bool.{Bool}
+use Rattle.text_words.specs.Bytes.{bytes}
+use Rattle.text_words.specs.Spelling.{wordIn, isAt, picked}
+use Rattle.text_words.specs.declared.fixed.Section.{Section}
+use Rattle.text_words.specs.declared.fixed.Section.the-variants as S
+use Rattle.text_words.specs.declared.fixed.Field.{Field}
+use Rattle.text_words.specs.declared.fixed.Field.the-variants as F
+use Rattle.text_words.specs.declared.fixed.Head.{Head}
+use Rattle.text_words.specs.declared.fixed.Head.the-variants as H
+
+-- "In order, a domain has requirements, types, constants, predicates, functions, actions of both kinds ..; a problem domain, objects, init, goal"
+abbrev pub sections : List Section
+sections = S.Requirements ∷ S.Types ∷ S.Constants ∷ S.Predicates ∷ S.Functions ∷ S.Action ∷ S.DurativeAction ∷ S.Domain ∷ S.Objects ∷ S.Init ∷ S.Goal ∷ []
+
+unfoldable pub sectionOf : List ℕ → Section
+sectionOf w =
+    picked
+    (wordIn (bytes ":requirements :types :constants :predicates :functions :action :durative-action :domain :objects :init :goal") w)
+    sections S.Other
+
+-- "an action parameters, duration, condition (`:precondition` if simple), effect"
+abbrev pub fields : List Field
+fields = F.Parameters ∷ F.Duration ∷ F.Precondition ∷ F.Condition ∷ F.Effect ∷ []
+
+unfoldable pub fieldOf : List ℕ → Field
+fieldOf w =
+    picked (wordIn (bytes ":parameters :duration :precondition :condition :effect") w)
+    fields F.Other
+
+-- "`and`, `not` around one atom or comparison, .. comparisons `= < <= > >=`, `+` of two, `-` of one or two expressions, effects `assign`, `increase`, `decrease`"
+abbrev pub heads : List Head
+heads = H.And ∷ H.Not ∷ H.Equal ∷ H.Less ∷ H.AtMost ∷ H.More ∷ H.AtLeast ∷ H.Plus ∷ H.Minus ∷ H.Assign ∷ H.Increase ∷ H.Decrease ∷ []
+
+unfoldable pub headOf : List ℕ → Head
+headOf w =
+    picked (wordIn (bytes "and not = < <= > >= + - assign increase decrease") w)
+    heads H.Other
+
+-- "a requirement flag other than `:strips :typing :equality :negative-preconditions :fluents :durative-actions`"
+unfoldable pub isFlag : List ℕ → Bool
+isFlag w = isAt (wordIn (bytes ":strips :typing :equality :negative-preconditions :fluents :durative-actions") w)
+
+-- "the words `or imply forall exists when either * / #t scale-up scale-down change :metric :axiom :derived`; .. `?duration` elsewhere"
+unfoldable pub isListed : List ℕ → Bool
+isListed w =
+    isAt (wordIn (bytes "or imply forall exists when either * / #t scale-up scale-down change :metric :axiom :derived ?duration") w)
+
+-- "`and`, `not`, `assign`, `increase` and `decrease` can't be declared"
+unfoldable pub isReserved : List ℕ → Bool
+isReserved w = isAt (wordIn (bytes "and not assign increase decrease") w)
+
+-- "Other words are `= < <= > >= + - * / #t`."
+unfoldable pub isOperator : List ℕ → Bool
+isOperator w = isAt (wordIn (bytes "= < <= > >= + - * / #t") w)

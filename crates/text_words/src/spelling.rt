@@ -1,0 +1,112 @@
+// How words are spelled: equality without case, names, and the place of a word in a list of words.
+use crate::bytes;
+use crate::bytes::Kind;
+ghost use mathlib.Core.Path.{_≡_};
+ghost use Prim.Native.Nat.{_+_, _≤_};
+ghost use lib.ListN.{length, drop};
+ghost use Rattle.text_words.specs.Spelling.{sameWord, nameByte, nameBytes, isName, spaceFrom, wordIn, isAt};
+
+// Where a word was found.
+pub enum Found {
+    At(usize),
+    Nothing,
+}
+
+pub fn is_at(f: Found) -> bool
+    ensures { λ r. ⌜ r ≡ isAt f ⌝ }
+{
+    match f {
+        Found::At(_) => true,
+        Found::Nothing => false,
+    }
+}
+
+// Whether two words are the same. From the last byte to the first: names of a domain often begin alike, as `pump-1` and
+// `pump-2`, and the last byte tells them apart.
+pub fn same_word(a: &[u8], b: &[u8]) -> bool
+    ensures { λ r. ⌜ r ≡ sameWord (now (a .entry)) (now (b .entry)) ⌝ }
+{
+    if a.len() != b.len() {
+        return false;
+    }
+    let mut i = a.len();
+    while 0 < i {
+        i -= 1;
+        if bytes::lower(a[i]) != bytes::lower(b[i]) {
+            return false;
+        }
+    }
+    true
+}
+
+// Whether a byte may stand in a name, behind its first letter.
+fn is_name_byte(b: u8) -> bool
+    ensures { λ r. ⌜ r ≡ nameByte b ⌝ }
+{
+    match bytes::kind_of(b) {
+        Kind::Digit => true,
+        Kind::Letter => true,
+        Kind::Bracket => false,
+        Kind::White => false,
+        Kind::Mark => b == 45 || b == 95,
+        Kind::Refused => false,
+    }
+}
+
+// Whether all bytes from `from` on may stand in a name.
+fn all_name_bytes(w: &[u8], from: usize) -> bool
+    ensures { λ r. ⌜ r ≡ nameBytes (drop from (now (w .entry))) ⌝ }
+{
+    let mut at = from;
+    while at < w.len() {
+        if !is_name_byte(w[at]) {
+            return false;
+        }
+        at += 1;
+    }
+    true
+}
+
+// Whether the bytes from `from` on are a name: `from` is 1 behind the mark of a variable or a keyword.
+pub fn is_name(w: &[u8], from: usize) -> bool
+    ensures { λ r. ⌜ r ≡ isName (drop from (now (w .entry))) ⌝ }
+{
+    if w.len() <= from {
+        return false;
+    }
+    let Kind::Letter = bytes::kind_of(w[from]) else {
+        return false;
+    };
+    all_name_bytes(w, from + 1)
+}
+
+// The place of the first space at or after `from`, or the list's end.
+fn space_from(list: &[u8], from: usize) -> usize
+    ensures { λ r. ⌜ r ≡ spaceFrom (now (list .entry)) from ⌝ }
+{
+    let mut at = from;
+    while at < list.len() {
+        if list[at] == 32 {
+            return at;
+        }
+        at += 1;
+    }
+    at
+}
+
+// Which word of a list it is. The list is written as document 01 writes it, with single spaces.
+pub fn word_in(list: &[u8], w: &[u8]) -> Found
+    ensures { λ r. ⌜ r ≡ wordIn (now (list .entry)) (now (w .entry)) ⌝ }
+{
+    let mut i = 0;
+    let mut at = 0;
+    while at <= list.len() {
+        let end = space_from(list, at);
+        if same_word(&list[at..end], w) {
+            return Found::At(i);
+        }
+        at = end + 1;
+        i += 1;
+    }
+    Found::Nothing
+}
