@@ -1,4 +1,4 @@
--- The three demands, of the calls of `checker`. Assumes nothing.
+-- The three demands, of the calls of `check_calls`. Assumes nothing.
 use Prim.Native.Nat.{ℕ, _+_, _≤_}
 use mathlib.Core.Bool.{Bool, true, false}
 use mathlib.Core.List.{List, [], _∷_, _++_, map}

@@ -1,4 +1,4 @@
--- The calls of the crate `checker`, as their contracts give them: each function's `ensures` says that it gives what stands here by its name.
+-- The calls of the crate `check_calls`, as their contracts give them: each function's `ensures` says that it gives what stands here by its name.
 use mathlib.Core.Bool.{cond}
 use mathlib.Core.Option.{Option, some, none}
 use Rattle.plan_meaning.specs.Lines.{Refused}

@@ -1,4 +1,4 @@
--- The laws of the crate `conditions`.
+-- The laws of the crate `domain_conditions`.
 pub mod Beginning
 pub mod Facts
 pub mod Comparing

@@ -1,4 +1,4 @@
--- The bench as numbers: its actions' cells and where they begin, its goal's, its first indexes. (`grammar` computes its texts to these trees.)
+-- The bench as numbers: its actions' cells and where they begin, its goal's, its first indexes. (`domain_meaning` computes its texts to these trees.)
 use mathlib.Core.Path.{_≡_, refl}
 use mathlib.Core.List.{[], _∷_}
 use Rattle.domain_meaning.proofs.Bench.{bench, two-doses, open-bench}
