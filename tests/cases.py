@@ -1,4 +1,4 @@
-"""Cases for `second --batch` and `batch`, and what the two programs answer to them.
+"""Cases for `second --batch` and `program_batch`, and what the two programs answer to them.
 
 A case is a header `DLEN PLEN QLEN PART` and the bytes of domain, problem and plan; PART is how many bytes of the plan are
 fed at a time. An answer ends with a line `--`. Cases are taken one by one, for a plan may have a million lines."""
@@ -13,7 +13,7 @@ from typing import NamedTuple, Optional
 
 ROOT = pathlib.Path(__file__).resolve().parent.parent
 SECOND = ROOT / "second/target/release/second"
-BATCH = pathlib.Path(os.environ.get("BATCH", ROOT / "target/bin/batch")).absolute()
+BATCH = pathlib.Path(os.environ.get("BATCH", ROOT / "target/bin/program_batch")).absolute()
 LAST_LINE = b"--\n"
 X86_64 = b"\x3e\x00"  # that processor's number in an ELF file
 
@@ -47,7 +47,7 @@ def demand_programs():
     """Ends this run if one of the two programs has not been built."""
     for program in (SECOND, BATCH):
         if not os.access(program, os.X_OK):
-            sys.exit(f"{program} is missing: cargo build --release builds second, rt check batch builds batch")
+            sys.exit(f"{program} is missing: cargo build --release builds second, rt check program_batch builds it")
 
 
 def generate(seed, count, path):
