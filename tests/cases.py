@@ -1,7 +1,7 @@
 """Cases for `second --batch` and `program_batch`, and what the two programs answer to them.
 
 A case is a header `DLEN PLEN QLEN PART` and the bytes of domain, problem and plan; PART is how many bytes of the plan are
-fed at a time. An answer ends with a line `--`. Cases are taken one by one, for a plan may have a million lines."""
+fed at a time, or is left out. An answer ends with a line `--`. Cases are taken one by one, for a plan may have a million lines."""
 
 import itertools
 import os
@@ -15,6 +15,9 @@ ROOT = pathlib.Path(__file__).resolve().parent.parent
 SECOND = ROOT / "second/target/release/second"
 BATCH = pathlib.Path(os.environ.get("BATCH", ROOT / "target/bin/program_batch")).absolute()
 LAST_LINE = b"--\n"
+BENCH = ROOT / "examples/bench"
+# A case with more bytes is not stored: tests/long-texts gives it to both programs.
+SHORT = 5_000
 X86_64 = b"\x3e\x00"  # that processor's number in an ELF file
 
 
@@ -22,7 +25,10 @@ class Case(NamedTuple):
     domain: bytes
     problem: bytes
     plan: bytes
-    part: int
+    part: Optional[int] = None
+
+    def size(self):
+        return len(self.domain) + len(self.problem) + len(self.plan)
 
     def whole(self):
         """The part that holds the whole plan; 0 is no part."""
@@ -56,16 +62,37 @@ def generate(seed, count, path):
         subprocess.run([SECOND, "--generate", str(seed), str(count)], stdout=out, check=True)
 
 
+def texts(path):
+    """Writes to a file the cases without a plan: sizes at their limits, damaged texts, texts with much in init."""
+    with open(path, "wb") as out:
+        subprocess.run([SECOND, "--texts", "1", BENCH / "domain.pddl", BENCH / "problem.pddl"], stdout=out, check=True)
+
+
+def of_tests(path):
+    """Writes to a file the cases of second's tests, in their order; gives the file. CASES in the environment names one written before."""
+    if "CASES" in os.environ:
+        return pathlib.Path(os.environ["CASES"])
+    command = ["cargo", "test", "--release", "--quiet", "--manifest-path", ROOT / "second/Cargo.toml", "--no-fail-fast", "--", "--test-threads=1"]
+    subprocess.run(command, stdout=subprocess.PIPE, stderr=subprocess.STDOUT, env={**os.environ, "CASES": str(path)})
+    return path
+
+
 def read_cases(source):
     while header := source.readline():
-        *lengths, part = map(int, header.split(b" "))
-        yield Case(*(source.read(length) for length in lengths), part)
+        lengths = list(map(int, header.split(b" ")))
+        yield Case(*(source.read(length) for length in lengths[:3]), *lengths[3:])
+
+
+def read_file(path):
+    with open(path, "rb") as source:
+        yield from read_cases(source)
 
 
 def write_cases(cases, path):
     with open(path, "wb") as out:
         for case in cases:
-            out.write(b"%d %d %d %d\n" % (len(case.domain), len(case.problem), len(case.plan), case.part))
+            numbers = [len(case.domain), len(case.problem), len(case.plan)] + ([case.part] if case.part else [])
+            out.write(b"%s\n" % " ".join(map(str, numbers)).encode())
             out.writelines([case.domain, case.problem, case.plan])
 
 

@@ -19,10 +19,7 @@ pub fn answer_records(input: &mut dyn BufRead, output: &mut dyn Write) -> io::Re
 }
 
 /// The three texts of the next record, none if the input ends before it.
-pub(crate) fn read_record(
-    input: &mut dyn BufRead,
-    record: u64,
-) -> io::Result<Option<[Vec<u8>; 3]>> {
+fn read_record(input: &mut dyn BufRead, record: u64) -> io::Result<Option<[Vec<u8>; 3]>> {
     let mut header = Vec::new();
     input.read_until(b'\n', &mut header)?;
     if header.is_empty() {

@@ -3,8 +3,6 @@
 
 pub mod batch;
 pub mod generate;
-pub mod happenings;
-pub mod loads;
 
 mod actions;
 mod domain;
@@ -19,7 +17,10 @@ mod state;
 mod text;
 mod verdict;
 
+use domain::Domain;
 use happening::Word;
+use problem::Problem;
+use text::Refusal;
 
 /// What is written for one check.
 pub struct Answer {
@@ -34,7 +35,7 @@ const UNDEFINED: i64 = -1_000_000_000_001;
 
 /// Answers for three whole texts; a plan is judged if both others load.
 pub fn answer(domain: &[u8], problem: &[u8], plan: &[u8]) -> Answer {
-    let (domain, problem) = match loads::load(domain, problem) {
+    let (domain, problem) = match load(domain, problem) {
         Ok(loaded) => loaded,
         Err((text, refusal)) => return refused(text, refusal.number, refusal.place, 0),
     };
@@ -54,6 +55,17 @@ pub fn answer(domain: &[u8], problem: &[u8], plan: &[u8]) -> Answer {
         ),
         state: Some((verdict.state.facts, verdict.state.numbers)),
     }
+}
+
+/// Which text is refused, and how.
+pub(crate) type Refused = (&'static str, Refusal);
+
+/// Loads two texts: "The domain's refusals come before the problem's".
+pub(crate) fn load(domain: &[u8], problem: &[u8]) -> Result<(Domain, Problem), Refused> {
+    let domain = domain::read_domain(domain).map_err(|refusal| ("domain", refusal))?;
+    let problem =
+        problem::read_problem(&domain, problem).map_err(|refusal| ("problem", refusal))?;
+    Ok((domain, problem))
 }
 
 fn refused(text: &str, number: u32, place: usize, column: usize) -> Answer {

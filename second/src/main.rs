@@ -1,5 +1,4 @@
-//! The command line: one check from three files, many from standard input, loads
-//! or happenings alone, or generated cases.
+//! The command line: one check from three files, many from standard input, or cases.
 
 use std::env;
 use std::ffi::{OsStr, OsString};
@@ -9,9 +8,7 @@ use std::path::Path;
 use std::process::ExitCode;
 
 const USAGE: &str = "usage: second [--state] DOMAIN PROBLEM PLAN | second --batch | \
-                     second --generate SEED N | second --happenings MOST | \
-                     second --happenings-answers MOST | second --loads | \
-                     second --loads-cases SEED DOMAIN PROBLEM RECORDS | second --loads-large N";
+                     second --generate SEED N | second --texts SEED DOMAIN PROBLEM";
 
 fn main() -> ExitCode {
     let arguments: Vec<OsString> = env::args_os().skip(1).collect();
@@ -37,31 +34,11 @@ fn run(arguments: &[OsString]) -> Result<(), String> {
                 .and_then(|()| output.flush())
                 .map_err(|error| error.to_string())
         }
-        (Some("--happenings"), [_, most]) => {
-            let input = &mut BufReader::new(io::stdin().lock());
-            second::happenings::lay_out(input, number(most)?, output)
-                .map_err(|error| error.to_string())
-        }
-        (Some("--happenings-answers"), [_, most]) => {
-            let input = &mut BufReader::new(io::stdin().lock());
-            second::happenings::answers(input, number(most)?, output)
-                .map_err(|error| error.to_string())
-        }
-        (Some("--loads"), [_]) => {
-            let input = &mut BufReader::new(io::stdin().lock());
-            second::loads::answer_records(input, output).map_err(|error| error.to_string())
-        }
-        (Some("--loads-cases"), [_, seed, domain, problem, records]) => {
+        (Some("--texts"), [_, seed, domain, problem]) => {
             let given = (read(domain)?, read(problem)?);
-            let last = second::loads::read_records(&mut &read(records)?[..]);
-            let last = last.map_err(|error| error.to_string())?;
-            let pairs = second::generate::loads::pairs(number(seed)?, &given, last);
-            second::loads::write_records(&pairs, output).map_err(|error| error.to_string())
-        }
-        (Some("--loads-large"), [_, count]) => {
-            let large = second::generate::large::pair();
-            let pairs = vec![large; number(count)? as usize];
-            second::loads::write_records(&pairs, output).map_err(|error| error.to_string())
+            second::generate::texts::write(number(seed)?, &given, output)
+                .and_then(|()| output.flush())
+                .map_err(|error| error.to_string())
         }
         (Some("--state"), [_, files @ ..]) => check(files, second::written, output),
         (Some(option), _) if option.starts_with("--") => Err(USAGE.to_string()),

@@ -52,11 +52,7 @@ pub fn judge(domain: &Domain, problem: &Problem, steps: &[Step]) -> Verdict {
 
 /// "A durative line gives two points, at start and start plus duration; a simple line one." Steps
 /// stand in the order of their lines, so a stable sort by time leaves each time in that order.
-pub fn all_points<'p>(
-    domain: &'p Domain,
-    problem: &'p Problem,
-    steps: &'p [Step],
-) -> Vec<Point<'p>> {
+fn all_points<'p>(domain: &'p Domain, problem: &'p Problem, steps: &'p [Step]) -> Vec<Point<'p>> {
     let mut points = Vec::with_capacity(steps.len());
     for step in steps {
         let start = Point {
@@ -82,7 +78,7 @@ pub fn all_points<'p>(
 
 /// Keeps the list of durative lines "with start at or before, and end after, this time", by line
 /// number: lines start in the order of their numbers, so a new one goes to the back.
-pub fn start_and_end<'p>(under_way: &mut Vec<Point<'p>>, happening: &[Point<'p>]) {
+fn start_and_end<'p>(under_way: &mut Vec<Point<'p>>, happening: &[Point<'p>]) {
     let time = happening[0].time;
     under_way.retain(|start| start.step.end() > Some(time));
     let starts = |point: &&Point| point.durative_start().is_some();

@@ -73,16 +73,15 @@ fn empty_state() {
 #[test]
 fn wrong_usage() {
     let missing = file("wrong_usage", "") + ".missing";
-    let wrong: [&[&str]; 10] = [
+    let wrong: [&[&str]; 9] = [
         &[],
         &["--state"],
         &["a", "b"],
         &["--generate", "1"],
         &["--generate", "one", "2"],
         &["--batch", "a", "b"],
-        &["--loads", "a"],
-        &["--loads-cases", "1", "a", "b"],
-        &["--loads-large", "many"],
+        &["--texts", "1", "a"],
+        &["--texts", "one", "a", "b"],
         &[&missing, &missing, &missing],
     ];
     for arguments in wrong {
@@ -151,20 +150,4 @@ fn malformed_records() {
     let output = run(&["--batch"], format!("{before}x\n").as_bytes());
     assert_eq!(output.status.code(), Some(2));
     assert_eq!(written(&output), "refused domain 4 0 0\n--\n");
-}
-
-#[test]
-fn loads() {
-    let output = run(
-        &["--loads"],
-        b"00000 00001\n(00019 00000\n(define (domain d))",
-    );
-    let lines = "refused domain 4 0 0\nrefused problem 4 0 0\n";
-    assert_eq!(written(&output), lines);
-    assert_eq!(output.status.code(), Some(0));
-    let output = run(&["--loads"], b"00000 00000\n0 0\n");
-    assert_eq!(written(&output), "refused domain 4 0 0\n");
-    assert_eq!(output.status.code(), Some(2));
-    let output = run(&["--loads-large", "2"], b"");
-    assert_eq!(output.stdout.len(), 2 * (12 + 2 * 32_768));
 }

@@ -225,7 +225,6 @@ fn power_of_no_objects() {
     let sentence = "n to the power 0 is 1, also for n = 0.";
     let domain = domain("(:predicates (p) (q ?x) (r)) (:functions (f) (g ?x))");
     let problem = problem("(:init (r) (= (f) 2.5)) (:goal (r))");
-    let answer = second::answer(domain.as_bytes(), problem.as_bytes(), b"");
     let expected = "valid 0.000 0 0\n01\n2500\n";
-    assert_eq!(second::written(&answer), expected, "{sentence}");
+    assert_eq!(written(&domain, &problem, ""), expected, "{sentence}");
 }

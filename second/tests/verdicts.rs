@@ -4,7 +4,7 @@
 mod common;
 
 use common::world::World;
-use common::{line, BENCH_DOMAIN, BENCH_PROBLEM};
+use common::{line, written, BENCH_DOMAIN, BENCH_PROBLEM};
 
 /// Actions that fail in every step of a happening.
 const MIXED: &str = "
@@ -19,12 +19,7 @@ const MIXED: &str = "
     (:action raise-z :parameters () :effect (increase (z) 1))";
 
 fn bench(plan: &str) -> String {
-    let answer = second::answer(
-        BENCH_DOMAIN.as_bytes(),
-        BENCH_PROBLEM.as_bytes(),
-        plan.as_bytes(),
-    );
-    second::written(&answer)
+    written(BENCH_DOMAIN, BENCH_PROBLEM, plan)
 }
 
 /// "Final facts and numbers: those before the failing happening; after it, if step 5 failed; the

@@ -11,7 +11,7 @@ const TEXT: usize = 32_768;
 
 /// White space or comments of exactly so many bytes; a comment is closed.
 fn filler(length: usize, random: &mut Random) -> Vec<u8> {
-    let white = *random.pick(&[b' ', b'\n', b'\t', b'\r']);
+    let white = *random.pick(b" \n\t\r");
     let mut out = vec![white; length];
     match random.below(4) {
         0 if length >= 2 => {

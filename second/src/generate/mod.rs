@@ -3,7 +3,7 @@
 
 pub mod large;
 pub mod limits;
-pub mod loads;
+pub mod texts;
 
 mod acts;
 mod bench;
@@ -54,8 +54,11 @@ impl Draft {
     }
 }
 
+/// Makes a case of one kind.
+type Maker = fn(&mut Random) -> Case;
+
 /// The kinds of cases and how often each is made.
-const KINDS: &[(usize, fn(&mut Random) -> Case)] = &[
+const KINDS: &[(usize, Maker)] = &[
     (32, ordinary),
     (26, clash),
     (20, edge),

@@ -117,7 +117,7 @@ impl<'a> Writer<'a> {
             let plain = named.kind == 0 && rest.iter().all(|other| other.kind == 0);
             bare = bare || (plain && self.random.chance(50));
             let shared = rest.first().is_some_and(|next| next.kind == named.kind);
-            if !bare && !(shared && self.random.chance(share)) {
+            if !(bare || shared && self.random.chance(share)) {
                 self.words("-");
                 self.words(&self.world.types[named.kind].name);
             }

@@ -43,8 +43,15 @@ const VOCABULARY: &str = "\
 pub type Row<Text> = (u32, Text);
 
 pub fn line(domain: &str, problem: &str, plan: &str) -> String {
-    keep(domain, problem);
+    keep(domain, problem, plan);
     second::answer(domain.as_bytes(), problem.as_bytes(), plan.as_bytes()).line
+}
+
+/// The line, the facts and the numbers.
+pub fn written(domain: &str, problem: &str, plan: &str) -> String {
+    keep(domain, problem, plan);
+    let answer = second::answer(domain.as_bytes(), problem.as_bytes(), plan.as_bytes());
+    second::written(&answer)
 }
 
 pub fn check_domains<Text: AsRef<str>>(sentence: &str, rows: &[Row<Text>]) {
@@ -175,19 +182,15 @@ pub fn letters(count: usize) -> String {
     "a".repeat(count)
 }
 
-/// Adds the two texts as a record to the file that LOADS_RECORDS names, if it is set and they are
-/// short: so the stored cases of `loads` get the rows of these tests (crates/loads/README.md).
-fn keep(domain: &str, problem: &str) {
-    const SHORT: usize = 5_000;
-    let Some(path) = std::env::var_os("LOADS_RECORDS") else {
+/// Adds the three texts as a record to the file that CASES names, if it is set: so the stored cases
+/// of program_batch get the rows of these tests (tests/stored-cases).
+fn keep(domain: &str, problem: &str, plan: &str) {
+    let Some(path) = std::env::var_os("CASES") else {
         return;
     };
-    if domain.len() + problem.len() <= SHORT {
-        let mut record = Vec::new();
-        let pair = (domain.into(), problem.into());
-        second::loads::write_records(&[pair], &mut record).expect("writing to memory");
-        let file = OpenOptions::new().create(true).append(true).open(path);
-        let written = file.and_then(|mut file| file.write_all(&record));
-        written.expect("the file can be written");
-    }
+    let lengths = format!("{} {} {}\n", domain.len(), problem.len(), plan.len());
+    let record = [&lengths, domain, problem, plan].concat();
+    let file = OpenOptions::new().create(true).append(true).open(path);
+    let written = file.and_then(|mut file| file.write_all(record.as_bytes()));
+    written.expect("the file can be written");
 }

@@ -33,7 +33,6 @@ impl World {
     /// The line, the facts and the numbers.
     pub fn written(&self, plan: &str) -> String {
         let (domain, problem) = self.texts();
-        let answer = second::answer(domain.as_bytes(), problem.as_bytes(), plan.as_bytes());
-        second::written(&answer)
+        super::written(&domain, &problem, plan)
     }
 }

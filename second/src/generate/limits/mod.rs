@@ -21,13 +21,13 @@ impl Limit {
         self.marked[1].replace('^', "").into_bytes()
     }
 
-    /// The line that is due, or only its first word if the texts load.
+    /// The line that is due, or nothing if the texts load.
     pub fn due(&self) -> String {
         let [domain, problem] = &self.marked;
         match (domain.find('^'), problem.find('^')) {
             (Some(place), _) => format!("refused domain {} {place} 0\n", self.refused),
             (_, Some(place)) => format!("refused problem {} {place} 0\n", self.refused),
-            _ => "loaded".to_string(),
+            _ => String::new(),
         }
     }
 }

@@ -1,39 +1,41 @@
-//! The stored cases of the program `loads`: a given pair of texts, every size at its limit and
-//! past it, damaged texts for every refusal, texts near their greatest length, rich ones, and
-//! what else is handed in.
+//! Domains and problems with an empty plan: every size at its limit and past it, texts of the
+//! greatest length, damaged texts for every refusal, and texts with much in init.
 
-use std::collections::{BTreeMap, BTreeSet};
+use std::collections::BTreeMap;
+use std::io::{self, Write};
 
 use super::invent::{self, Shape, TYPED};
 use super::layout;
 use super::limits::limits;
 use super::random::Random;
-use super::{damage, damaged, grown, long_text, misfitting, summed, write, Case, Text};
-use crate::loads::{load, Pair};
+use super::{damage, damaged, grown, large, misfitting, summed, write, Case, Text};
+use crate::load;
 
-/// The records of `crates/loads/stdin`, in order; of the last ones those that are new.
-pub fn pairs(seed: u64, given: &Pair, last: Vec<Pair>) -> Vec<Pair> {
-    let mut list = vec![given.clone()];
-    list.extend(
-        limits()
-            .iter()
-            .map(|limit| (limit.domain(), limit.problem())),
-    );
+/// A domain and a problem.
+pub type Pair = (Vec<u8>, Vec<u8>);
+
+/// Writes the cases as records: three lengths, then the texts.
+pub fn write(seed: u64, given: &Pair, out: &mut dyn Write) -> io::Result<()> {
+    let limits = limits();
+    let limits = limits.iter().map(|limit| (limit.domain(), limit.problem()));
+    let mut list: Vec<Pair> = limits.collect();
+    list.push(large::pair());
     list.extend(refused(seed, given));
-    list.extend(long(seed));
     list.extend(rich(seed));
-    list.extend(last);
-    let mut seen = BTreeSet::new();
-    list.retain(|pair| seen.insert(pair.clone()));
-    list
+    for (domain, problem) in list {
+        writeln!(out, "{} {} 0", domain.len(), problem.len())?;
+        out.write_all(&domain)?;
+        out.write_all(&problem)?;
+    }
+    Ok(())
 }
 
 /// How many candidates are made, how many bytes both texts of one may have, and how many are kept
 /// at most for one number of one text, and of those behind one keyword.
 const CANDIDATES: u64 = 40_000;
-const SHORT: usize = 2_400;
+const SHORT: usize = 1_600;
 const EACH: usize = 24;
-const ALIKE: usize = 2;
+const ALIKE: usize = 1;
 
 /// Damaged texts: those kept differ in text, number, or the keyword before the refused place.
 fn refused(seed: u64, given: &Pair) -> Vec<Pair> {
@@ -95,14 +97,6 @@ fn spoiled(given: &Pair, random: &mut Random) -> Pair {
         _ => damage::bytes(&mut problem, random),
     }
     (domain, problem)
-}
-
-/// Texts near their greatest length with something treacherous where the limit falls.
-fn long(seed: u64) -> Vec<Pair> {
-    const LONG: u64 = 12;
-    let first = CANDIDATES;
-    let made = |index| pair_of(long_text(&mut Random::new(seed, first + index)));
-    (0..LONG).map(made).collect()
 }
 
 /// Much of everything that init can hold.
