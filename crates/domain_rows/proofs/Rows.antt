@@ -7,7 +7,7 @@ use native.Mathlib.Omega.{arith}
 use native.Mathlib.Decide.{decLe}
 use borrow.Author.Tests.{lt-ltb, le-ltb}
 use lib.ListN.{length, getD, take, drop, set, length-append, drop-of-length-le, List·getD-append, List·getD-map, List·getD-eq-default, length-map}
-use lib.Seq.{sets, drop-cons, drop-at, getD-at, set-at, take-at, drop-append-add, getD-append-add}
+use lib.Seq.{sets, drop-cons, drop-at, set-at, take-at, getD-append-add}
 use Rattle.text_words.specs.Names as Names
 use Rattle.text_words.specs.Spelling.{placeFrom}
 use Rattle.domain_meaning.specs.Tables.{Entry, entry, nameOf, infoOf, typeOf, withType, Table, lookup, retype}
@@ -145,23 +145,6 @@ set-info (i ∷ is) x k = refl
 module _ (m : ℕ) (rows : List ℕ) (n : ℕ) (t : Table) (h : Holds m rows n t) (i : ℕ) (below : i < n) where
   the-row : Row m t i
   the-row = row t m i (omega (arith, h .count, h .fits)) (omega (arith, h .count, h .fits))
-
-  pub row-length : getD rows (38 * i) 0 ≡ length (nameOf (getD t i none))
-  row-length =
-      let r = the-row in
-      let e = getD t i none in
-      ap (λ (l : List ℕ). getD l (38 * i) 0) (h .are ∙ r .is) ∙ getD-at (r .front) (length (nameOf e)) ((padded 5 (infoOf e) ++ padded 32 (nameOf e)) ++ r .rest) 0 (38 * i) (r .long)
-
-  pub row-name : take (getD rows (38 * i) 0) (drop (38 * i + 6) rows) ≡ nameOf (getD t i none)
-  row-name =
-      let r = the-row in
-      let e = getD t i none in
-      ap (λ (k : ℕ). take k (drop (38 * i + 6) rows)) row-length
-      ∙ ap (λ (l : List ℕ). take (length (nameOf e)) (drop (38 * i + 6) l)) (h .are ∙ r .is)
-      ∙ ap (λ (k : ℕ). take (length (nameOf e)) (drop (k + 6) (r .front ++ (rowOf e ++ r .rest)))) (sym (r .long))
-      ∙ ap (λ (l : List ℕ). take (length (nameOf e)) l) (drop-append-add (r .front) (rowOf e ++ r .rest) 6)
-      ∙ ap (λ (l : List ℕ). take (length (nameOf e)) l) (drop-info (infoOf e) (nameOf e) (r .rest))
-      ∙ take-padded 32 (nameOf e) (r .rest) (short-at t i (h .short))
 
   pub row-type : getD rows (38 * i + 1) 0 ≡ typeOf (getD t i none)
   row-type =

@@ -91,10 +91,6 @@ module _ (s : List ℕ) where
   unfolding namesTo
   names-gives ts max t at h = typed-gives ts false false max (length s + 1) t (length t) at h
 
-  pub variables-gives : (ts : Table) (max at : ℕ) → Gives AllTyped (variablesTo s ts max at)
-  unfolding variablesTo
-  variables-gives ts max at = typed-gives ts true false max (length s + 1) [] 0 at none-typed
-
   pub types-gives : (at : ℕ) → Gives AllTyped (typesTo s at)
   unfolding typesTo
   types-gives at = typed-gives [] false true 17 (length s + 1) onlyObject 1 at object-typed

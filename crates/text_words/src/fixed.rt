@@ -1,77 +1,8 @@
-// The words that document 01 fixes: sections, fields, heads, flags, the words of refusal 11, and those that can't be declared.
+// The words that document 01 fixes: heads, flags, the words of refusal 11, and those that can't be declared.
 use crate::spelling;
 use crate::spelling::Found;
 ghost use mathlib.Core.Path.{_≡_};
-ghost use Rattle.text_words.specs.Fixed.{sectionOf, fieldOf, headOf, isFlag, isListed, isReserved, isOperator};
-
-// The sections of a domain, then those of a problem.
-pub enum Section {
-    Requirements,
-    Types,
-    Constants,
-    Predicates,
-    Functions,
-    Action,
-    DurativeAction,
-    Domain,
-    Objects,
-    Init,
-    Goal,
-    Other,
-}
-
-pub fn section_of(w: &[u8]) -> Section
-    ensures { λ r. ⌜ r ≡ sectionOf (now (w .entry)) ⌝ }
-{
-    let f = spelling::word_in(
-        b":requirements :types :constants :predicates :functions :action :durative-action :domain :objects :init :goal",
-        w,
-    );
-    let Found::At(i) = f else {
-        return Section::Other;
-    };
-    match i {
-        0 => Section::Requirements,
-        1 => Section::Types,
-        2 => Section::Constants,
-        3 => Section::Predicates,
-        4 => Section::Functions,
-        5 => Section::Action,
-        6 => Section::DurativeAction,
-        7 => Section::Domain,
-        8 => Section::Objects,
-        9 => Section::Init,
-        10 => Section::Goal,
-        _ => Section::Other,
-    }
-}
-
-// The fields of an action.
-pub enum Field {
-    Parameters,
-    Duration,
-    Precondition,
-    Condition,
-    Effect,
-    Other,
-}
-
-pub fn field_of(w: &[u8]) -> Field
-    ensures { λ r. ⌜ r ≡ fieldOf (now (w .entry)) ⌝ }
-{
-    let f = spelling::word_in(b":parameters :duration :precondition :condition :effect", w);
-    let Found::At(i) = f else {
-        return Field::Other;
-    };
-    match i {
-        0 => Field::Parameters,
-        1 => Field::Duration,
-        2 => Field::Precondition,
-        3 => Field::Condition,
-        4 => Field::Effect,
-        _ => Field::Other,
-    }
-}
+ghost use Rattle.text_words.specs.Fixed.{headOf, isFlag, isListed, isReserved, isOperator};
 
 // What may open a condition, an expression or an effect, beside a declared name.
 pub enum Head {
