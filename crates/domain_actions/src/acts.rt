@@ -1,7 +1,7 @@
 // Actions one behind the other, "of both kinds".
 use crate::bodies;
 use crate::headers;
-use domain_due::Answer;
+use domain_due::Reading;
 use domain_sections::Opened;
 use domain_terms::scope::Counts;
 ghost use mathlib.Core.Path.{_≡_};
@@ -27,13 +27,13 @@ fn action_at(
     code: &mut [u8],
     used: usize,
     starts: &mut [usize],
-) -> Answer
+) -> Reading
     requires { ⌜ (from ≤ length (now text)) × Scopes (now tables) counts × (length (now tables) ≡ 5054) × Stands 32 (now rows) n × (used + (length (now text) - from) + 2 ≤ 18446744073709551615) ⌝ }
     ensures { λ r. ⌜ ((c : Scope) (as′ : List Action) → Scoped (now (tables .entry)) counts c → Holds 32 (now (rows .entry)) n (declarations as′) → Adds as′ (now (code .entry)) used (now (starts .entry)) r (now (rows .exit)) (now (code .exit)) (now (starts .exit)) (action (now (text .entry)) c durative as′ from)) × Ended 0 (length (now (text .entry))) used from r ⌝ }
 {
     let mut own = [0u8; 5054];
     let h = headers::header_at(text, from, tables, counts, rows, n, &mut own);
-    let Answer::Done(after, v) = h else {
+    let Reading::Done(after, v) = h else {
         return h;
     };
     let acting = Counts {
@@ -47,7 +47,7 @@ fn action_at(
     bodies::body_at(text, after, &own, acting, code, used, durative, starts, n)
 }
 
-pub enum Begun {
+pub enum ActionHead {
     // an action: whether it is durative, and where its section's word ends
     At(bool, usize),
     // another section, or none
@@ -55,19 +55,19 @@ pub enum Begun {
 }
 
 // Whether an action begins here, and of which kind.
-fn begun_at(text: &[u8], from: usize) -> Begun
+fn begun_at(text: &[u8], from: usize) -> ActionHead
     requires { ⌜ from ≤ length (now text) ⌝ }
     ensures { λ r. ⌜ ((k : ℕ) (c : Scope) (as′ : List Action) → Begins (now (text .entry)) c as′ k r (actionsTo (suc k) (now (text .entry)) c as′ from) from) × Further (length (now (text .entry))) from r ⌝ }
 {
     let simple = domain_sections::begins_at(text, from, b":action");
     if let Opened::At(_, e) = simple {
-        return Begun::At(false, e);
+        return ActionHead::At(false, e);
     }
     let durative = domain_sections::begins_at(text, from, b":durative-action");
     if let Opened::At(_, e) = durative {
-        return Begun::At(true, e);
+        return ActionHead::At(true, e);
     }
-    Begun::Other
+    ActionHead::Other
 }
 
 // All actions, to the section that is none: how many there are.
@@ -79,7 +79,7 @@ pub fn actions_to(
     rows: &mut [u8],
     code: &mut [u8],
     starts: &mut [usize],
-) -> Answer
+) -> Reading
     requires { ⌜ (from ≤ length (now text)) × (2 ≤ from) × Scopes (now tables) counts × (length (now tables) ≡ 5054) × (now rows ≡ rowsOf 32 []) ⌝ }
     ensures { λ r. ⌜ ((c : Scope) (k : ℕ) → Scoped (now (tables .entry)) counts c → length (now (text .entry)) - from < k → Stores (length (now (text .entry))) (now (code .entry)) (now (starts .entry)) r (now (rows .exit)) (now (code .exit)) (now (starts .exit)) (actionsTo k (now (text .entry)) c [] from)) × Later (length (now (text .entry))) from r ⌝ }
 {
@@ -88,8 +88,8 @@ pub fn actions_to(
     let mut used = 0;
     loop {
         let b = begun_at(text, at);
-        let Begun::At(durative, inside) = b else {
-            return Answer::Done(at, n);
+        let ActionHead::At(durative, inside) = b else {
+            return Reading::Done(at, n);
         };
         let a = action_at(
             text,
@@ -103,7 +103,7 @@ pub fn actions_to(
             used,
             starts,
         );
-        let Answer::Done(after, free) = a else {
+        let Reading::Done(after, free) = a else {
             return a;
         };
         at = after;

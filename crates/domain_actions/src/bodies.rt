@@ -1,5 +1,5 @@
 // What stands behind an action's parameters: its duration rule, its condition and its effect.
-use domain_due::Answer;
+use domain_due::Reading;
 use domain_terms::scope::Counts;
 use domain_timed_parts::fields;
 ghost use mathlib.Core.Path.{_≡_};
@@ -34,7 +34,7 @@ fn conditions_field(
     code: &mut [u8],
     used: usize,
     durative: bool,
-) -> Answer
+) -> Reading
     requires { ⌜ (from ≤ length (now text)) × Scopes (now tables) counts × (used + (length (now text) - from) + 3 ≤ 18446744073709551615) ⌝ }
     ensures { λ r. ⌜ ((c : Scope) → Scoped (now (tables .entry)) counts c → Wrote (partsCells condCells) (now (code .entry)) used r (now (code .exit)) (conditionsOf durative (now (text .entry)) c from)) × Onwards (length (now (text .entry))) used from r ⌝ }
 {
@@ -75,7 +75,7 @@ fn effects_field(
     code: &mut [u8],
     used: usize,
     durative: bool,
-) -> Answer
+) -> Reading
     requires { ⌜ (from ≤ length (now text)) × Scopes (now tables) counts × (used + (length (now text) - from) + 3 ≤ 18446744073709551615) ⌝ }
     ensures { λ r. ⌜ ((c : Scope) → Scoped (now (tables .entry)) counts c → Wrote (partsCells listCells) (now (code .entry)) used r (now (code .exit)) (effectsOf durative (now (text .entry)) c from)) × Onwards (length (now (text .entry))) used from r ⌝ }
 {
@@ -104,26 +104,26 @@ pub fn body_at(
     durative: bool,
     starts: &mut [usize],
     n: usize,
-) -> Answer
+) -> Reading
     requires { ⌜ (from ≤ length (now text)) × Scopes (now tables) counts × (used + (length (now text) - from) + 6 ≤ 18446744073709551615) × (n < 32) ⌝ }
     ensures { λ r. ⌜ ((c : Scope) (e : Entry) → Scoped (now (tables .entry)) counts c → Bodied e (now (code .entry)) used (now (starts .entry)) n r (now (code .exit)) (now (starts .exit)) (restOf durative (now (text .entry)) c e from)) × Ended 4 (length (now (text .entry))) used from r ⌝ }
 {
     let rule = domain_durations::lasting_at(text, from, tables, counts, code, used, durative);
-    let Answer::Done(behind, v) = rule else {
+    let Reading::Done(behind, v) = rule else {
         return rule;
     };
     let condition = conditions_field(text, behind, tables, counts, code, v, durative);
-    let Answer::Done(after, w) = condition else {
+    let Reading::Done(after, w) = condition else {
         return condition;
     };
     let effect = effects_field(text, after, tables, counts, code, w, durative);
-    let Answer::Done(last, free) = effect else {
+    let Reading::Done(last, free) = effect else {
         return effect;
     };
     let close = domain_due::closing(text, last, 14);
-    let Answer::Done(end, _) = close else {
+    let Reading::Done(end, _) = close else {
         return close;
     };
     mark(starts, n, used, v, w);
-    Answer::Done(end, free)
+    Reading::Done(end, free)
 }

@@ -7,9 +7,9 @@ use native.Mathlib.Omega.{arith}
 use types.Run.{OneOf, miss}
 use denote.Enum.Declared.{tagOf}
 use borrow.Author.Tests.{ne-eqb}
-use Rattle.text_words.specs.declared.fixed.Head.{Head}
-use Rattle.text_words.specs.declared.fixed.Head.the-variants as W
-use Rattle.text_words.proofs.fixed.Head as head-type
+use Rattle.text_words.specs.declared.fixed.HeadWord.{HeadWord}
+use Rattle.text_words.specs.declared.fixed.HeadWord.the-variants as W
+use Rattle.text_words.proofs.fixed.HeadWord as head-type
 use Rattle.text_tokens.specs.Tokens.{tokenAt}
 use Rattle.text_tokens.specs.declared.tokens.Token.{Token}
 use Rattle.text_tokens.specs.declared.tokens.Token.the-variants as T
@@ -19,19 +19,19 @@ use Rattle.domain_meaning.specs.Read.{Read, Reader, refused, andThen}
 use Rattle.domain_meaning.specs.Due.{numberOf, placeOf, opening}
 use Rattle.domain_meaning.specs.Terms.{Scope, Counted, counted, onName}
 use Rattle.domain_meaning.specs.Conditions.{Cond, atomAt, operated}
-use Rattle.domain_due.specs.declared.Answer.{Answer}
-use Rattle.domain_due.specs.declared.Answer.the-variants.{Refused}
+use Rattle.domain_due.specs.declared.Reading.{Reading}
+use Rattle.domain_due.specs.declared.Reading.the-variants.{Refused}
 use Rattle.domain_due.proofs.Dues.{not-word, not-open}
 use Rattle.domain_conditions.specs.Begins.{comparisonOf, compared, headedBy, inHead, inBracket, Begins, Inside, Placed}
-use Rattle.domain_conditions.specs.declared.heads.Headed.{Headed}
-use Rattle.domain_conditions.specs.declared.heads.Headed.the-variants as H
+use Rattle.domain_conditions.specs.declared.heads.ConditionHead.{ConditionHead}
+use Rattle.domain_conditions.specs.declared.heads.ConditionHead.the-variants as H
 
 module _ (s : List ℕ) (d : ℕ) (c : Scope) (yes′ : Bool) (n : ℕ) (f g : ℕ → ℕ → Reader (Counted Cond)) where
-  pub begin-refused : (r : Answer) (k p : ℕ) (x : Read (Counted Cond)) → r ≡ Refused k p → x ≡ refused k p → Begins s d c yes′ n f g (H.Other r) x
+  pub begin-refused : (r : Reading) (k p : ℕ) (x : Read (Counted Cond)) → r ≡ Refused k p → x ≡ refused k p → Begins s d c yes′ n f g (H.Other r) x
   unfolding Begins
   begin-refused r k p x e q = rw e q
 
-  pub begin-by : (r : Headed) (x y : Read (Counted Cond)) → y ≡ x → Begins s d c yes′ n f g r x → Begins s d c yes′ n f g r y
+  pub begin-by : (r : ConditionHead) (x y : Read (Counted Cond)) → y ≡ x → Begins s d c yes′ n f g r x → Begins s d c yes′ n f g r y
   begin-by r x y e h = rw e h
 
   -- ---- a head word
@@ -43,7 +43,7 @@ module _ (s : List ℕ) (d : ℕ) (c : Scope) (yes′ : Bool) (n : ℕ) (f g : �
   pub head-word : (at : ℕ) (k j : Word) (p e : ℕ) → tokenAt s at ≡ T.Word k p e → k ≡ j → inHead s d c yes′ n f g at ≡ headedBy s d c yes′ n f g j p e e
   head-word at k j p e q h = rw (q, h)
 
-  module _ (h : Head) (p e : ℕ) where
+  module _ (h : HeadWord) (p e : ℕ) where
     pub head-and : h ≡ W.And → Begins s d c yes′ n f g (H.And p e) (onName h (f p e) (g p e) (atomAt s d c yes′ n p e) e)
     unfolding Begins
     head-and q = rw q
@@ -67,7 +67,7 @@ module _ (s : List ℕ) (d : ℕ) (c : Scope) (yes′ : Bool) (n : ℕ) (f g : �
     pub head-at-least : h ≡ W.AtLeast → operated s d c yes′ n h p e ≡ andThen (counted p n e) (compared s d c yes′ (comparisonOf 4))
     head-at-least q = rw q
 
-  pub other-operator : (h : Head) (p e : ℕ) → OneOf (0 ∷ 1 ∷ 7 ∷ 8 ∷ 9 ∷ 10 ∷ 11 ∷ 12 ∷ []) (tagOf head-type.the-type h) → operated s d c yes′ n h p e ≡ refused 3 p
+  pub other-operator : (h : HeadWord) (p e : ℕ) → OneOf (0 ∷ 1 ∷ 7 ∷ 8 ∷ 9 ∷ 10 ∷ 11 ∷ 12 ∷ []) (tagOf head-type.the-type h) → operated s d c yes′ n h p e ≡ refused 3 p
   other-operator W.Equal p e o = absurd (miss (0 ∷ 1 ∷ 7 ∷ 8 ∷ 9 ∷ 10 ∷ 11 ∷ 12 ∷ []) 2 tt o)
   other-operator W.Less p e o = absurd (miss (0 ∷ 1 ∷ 7 ∷ 8 ∷ 9 ∷ 10 ∷ 11 ∷ 12 ∷ []) 3 tt o)
   other-operator W.AtMost p e o = absurd (miss (0 ∷ 1 ∷ 7 ∷ 8 ∷ 9 ∷ 10 ∷ 11 ∷ 12 ∷ []) 4 tt o)
@@ -82,7 +82,7 @@ module _ (s : List ℕ) (d : ℕ) (c : Scope) (yes′ : Bool) (n : ℕ) (f g : �
   other-operator W.Decrease p e o = refl
   other-operator W.Other p e o = refl
 
-  pub other-name : (h : Head) (p e : ℕ) → OneOf (2 ∷ 3 ∷ 4 ∷ 5 ∷ 6 ∷ 7 ∷ 8 ∷ 9 ∷ 10 ∷ 11 ∷ 12 ∷ []) (tagOf head-type.the-type h)
+  pub other-name : (h : HeadWord) (p e : ℕ) → OneOf (2 ∷ 3 ∷ 4 ∷ 5 ∷ 6 ∷ 7 ∷ 8 ∷ 9 ∷ 10 ∷ 11 ∷ 12 ∷ []) (tagOf head-type.the-type h)
       → Begins s d c yes′ n f g (H.Atom p e) (onName h (f p e) (g p e) (atomAt s d c yes′ n p e) e)
   unfolding Begins
   other-name W.And p e o = absurd (miss (2 ∷ 3 ∷ 4 ∷ 5 ∷ 6 ∷ 7 ∷ 8 ∷ 9 ∷ 10 ∷ 11 ∷ 12 ∷ []) 0 tt o)
@@ -128,7 +128,7 @@ comparison-some s d c yes′ f g (suc n) k p e z = let o : suc n - 1 ≡ n = ome
 
 -- ---- places
 
-pub inside-other : (at most : ℕ) (r : Answer) → Inside at most (H.Other r)
+pub inside-other : (at most : ℕ) (r : Reading) → Inside at most (H.Other r)
 unfolding Inside
 inside-other at most r = tt
 
@@ -148,7 +148,7 @@ pub inside-compared : (at most k e m : ℕ) → at < e → e ≤ most → k ≤ 
 unfolding Inside
 inside-compared at most k e m lo hi few = (lo, hi, few)
 
-pub inside-from : (r : Headed) (at p most e : ℕ) → at ≤ p → e ≤ most → Inside p e r → Inside at most r
+pub inside-from : (r : ConditionHead) (at p most e : ℕ) → at ≤ p → e ≤ most → Inside p e r → Inside at most r
 unfolding Inside
 inside-from (H.And a b) at p most e lo hi h = (omega (arith, h .0), omega (arith, h .1))
 inside-from (H.Not a b) at p most e lo hi h = (omega (arith, h .0), omega (arith, h .1))
@@ -156,11 +156,11 @@ inside-from (H.Atom a b) at p most e lo hi h = (omega (arith, h .0), omega (arit
 inside-from (H.Compared k b m) at p most e lo hi h = (omega (arith, h .0), omega (arith, h .1), h .2)
 inside-from (H.Other a) at p most e lo hi h = tt
 
-pub placed-other : (at most d : ℕ) (r : Answer) → Placed at most d (H.Other r)
+pub placed-other : (at most d : ℕ) (r : Reading) → Placed at most d (H.Other r)
 unfolding Placed
 placed-other at most d r = tt
 
-pub placed-inside : (r : Headed) (at a most d : ℕ) → at < a → 0 < d → Inside a most r → Placed at most d r
+pub placed-inside : (r : ConditionHead) (at a most d : ℕ) → at < a → 0 < d → Inside a most r → Placed at most d r
 unfolding Inside Placed
 placed-inside (H.And p b) at a most d lo k h = (omega (arith, h .0), h .1, k)
 placed-inside (H.Not p b) at a most d lo k h = (omega (arith, h .0), h .1, k)

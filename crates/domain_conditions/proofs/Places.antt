@@ -8,10 +8,10 @@ use Rattle.domain_expressions.specs.declared.leaves.Progress.{Progress}
 use Rattle.domain_expressions.specs.declared.leaves.Progress.the-variants.{Done, Refused}
 use Rattle.domain_conditions.specs.Begins.{Placed}
 use Rattle.domain_conditions.specs.Closed.{closedBy}
-use Rattle.domain_conditions.specs.declared.heads.Headed.{Headed}
-use Rattle.domain_conditions.specs.declared.heads.Headed.the-variants as H
+use Rattle.domain_conditions.specs.declared.heads.ConditionHead.{ConditionHead}
+use Rattle.domain_conditions.specs.declared.heads.ConditionHead.the-variants as H
 
-module _ (at most d : ℕ) (r : Headed) where
+module _ (at most d : ℕ) (r : ConditionHead) where
   pub and-place : (p e : ℕ) → r ≡ H.And p e → Placed at most d r → (at + 2 ≤ e) × (e ≤ most) × (0 < d)
   unfolding Placed
   and-place p e q h = rw q at h

@@ -12,10 +12,10 @@ use Rattle.domain_meaning.specs.Read.{_>>=_, Read, Reader, refused, refuse}
 use Rattle.domain_meaning.specs.Due.{token, wrong, onWord, opening}
 use Rattle.domain_meaning.specs.Terms.{Scope, Counted, onName}
 use Rattle.domain_meaning.specs.Conditions.{Comparison, equal, less, atMost, more, atLeast, Cond, atomAt, comparison, equality, operated}
-use Rattle.domain_due.specs.declared.Answer.{Answer}
-use Rattle.domain_due.specs.declared.Answer.the-variants.{Done, Refused}
-use Rattle.domain_conditions.specs.declared.heads.Headed.{Headed}
-use Rattle.domain_conditions.specs.declared.heads.Headed.the-variants as H
+use Rattle.domain_due.specs.declared.Reading.{Reading}
+use Rattle.domain_due.specs.declared.Reading.the-variants.{Done, Refused}
+use Rattle.domain_conditions.specs.declared.heads.ConditionHead.{ConditionHead}
+use Rattle.domain_conditions.specs.declared.heads.ConditionHead.the-variants as H
 
 -- a comparison by its number
 abbrev pub comparisonOf : ℕ → Comparison
@@ -57,12 +57,12 @@ inBracket s d c yes′ n f g = do
   inHead s (d - 1) c yes′ n f g
 
 -- a refusal is that of the definition
-abbrev pub Refuses : Answer → Read (Counted Cond) → Type 0
+abbrev pub Refuses : Reading → Read (Counted Cond) → Type 0
 Refuses (Done a v) x = ⊥
 Refuses (Refused k p) x = x ≡ refused k p
 
 -- what is read, by the head
-unfoldable pub Begins : List ℕ → ℕ → Scope → Bool → ℕ → (ℕ → ℕ → Reader (Counted Cond)) → (ℕ → ℕ → Reader (Counted Cond)) → Headed → Read (Counted Cond) → Type 0
+unfoldable pub Begins : List ℕ → ℕ → Scope → Bool → ℕ → (ℕ → ℕ → Reader (Counted Cond)) → (ℕ → ℕ → Reader (Counted Cond)) → ConditionHead → Read (Counted Cond) → Type 0
 Begins s d c yes′ n f g (H.And p e) x = x ≡ f p e e
 Begins s d c yes′ n f g (H.Not p e) x = x ≡ g p e e
 Begins s d c yes′ n f g (H.Atom p e) x = x ≡ atomAt s d c yes′ n p e e
@@ -70,7 +70,7 @@ Begins s d c yes′ n f g (H.Compared k e m) x = x ≡ compared s d c yes′ (co
 Begins s d c yes′ n f g (H.Other r) x = Refuses r x
 
 -- a head word ends past `at`, and not past `most`; there are five comparisons
-unfoldable pub Inside : ℕ → ℕ → Headed → Type 0
+unfoldable pub Inside : ℕ → ℕ → ConditionHead → Type 0
 Inside at most (H.And p e) = (at < e) × (e ≤ most)
 Inside at most (H.Not p e) = (at < e) × (e ≤ most)
 Inside at most (H.Atom p e) = (at < e) × (e ≤ most)
@@ -78,7 +78,7 @@ Inside at most (H.Compared k e m) = (at < e) × (e ≤ most) × (k ≤ 4)
 Inside at most (H.Other r) = Unit {0}
 
 -- a bracket and its head word are two bytes at least, and take a level
-unfoldable pub Placed : ℕ → ℕ → ℕ → Headed → Type 0
+unfoldable pub Placed : ℕ → ℕ → ℕ → ConditionHead → Type 0
 Placed at most d (H.And p e) = (at + 2 ≤ e) × (e ≤ most) × (0 < d)
 Placed at most d (H.Not p e) = (at + 2 ≤ e) × (e ≤ most) × (0 < d)
 Placed at most d (H.Atom p e) = (at + 2 ≤ e) × (e ≤ most) × (0 < d)

@@ -1,5 +1,5 @@
 // Single conditions, as they are written or under `not`: facts, comparisons, and equalities of objects.
-use domain_due::Answer;
+use domain_due::Reading;
 use domain_expressions::leaves;
 use domain_expressions::leaves::Progress;
 use domain_expressions::references;
@@ -10,7 +10,7 @@ use domain_terms::scope::Counts;
 use text_tokens::runs;
 use text_tokens::tokens;
 use text_tokens::tokens::Token;
-use text_words::spelling::Found;
+use text_words::spelling::Place;
 ghost use mathlib.Core.Path.{_≡_};
 ghost use Prim.Native.Nat.{_+_, _-_, _≤_, _<_};
 ghost use mathlib.Core.Bool.{cond};
@@ -42,8 +42,8 @@ pub fn closed_at(text: &[u8], from: usize, d: usize, free: usize, left: usize) -
 {
     let a = domain_due::closing(text, from, d);
     match a {
-        Answer::Done(n, _) => Progress::Done(n, free, left),
-        Answer::Refused(k, p) => Progress::Refused(k, p),
+        Reading::Done(n, _) => Progress::Done(n, free, left),
+        Reading::Refused(k, p) => Progress::Refused(k, p),
     }
 }
 
@@ -65,7 +65,7 @@ pub fn atom_at(
 {
     let n = counts.predicates;
     let f = scope::find_in(tables, 3078, 4294, n, runs::part_of(text, p, e));
-    let Found::At(i) = f else {
+    let Place::At(i) = f else {
         return Progress::Refused(8, p);
     };
     if left == 0 {
@@ -96,11 +96,11 @@ fn comparison_at(
 {
     domain_literals::put(code, used, chosen(yes, 12, 17) + k);
     let a = trees::expression_at(text, from, d, tables, counts, code, used + 1);
-    let Answer::Done(mid, v) = a else {
+    let Reading::Done(mid, v) = a else {
         return leaves::progress_of(a, left);
     };
     let b = trees::expression_at(text, mid, d, tables, counts, code, v);
-    let Answer::Done(end, w) = b else {
+    let Reading::Done(end, w) = b else {
         return leaves::progress_of(b, left);
     };
     closed_at(text, end, d, w, left)
@@ -122,11 +122,11 @@ fn same_at(
     ensures { λ r. ⌜ ((c : Scope) → Scoped (now (tables .entry)) counts c → Written condCells (now (code .entry)) used r (now (code .exit)) (sameObjects (now (text .entry)) d c yes left from)) × Spent 2 (length (now (text .entry))) used from r ⌝ }
 {
     let a = arguments::argument_at(text, from, d, tables, counts);
-    let Answer::Done(mid, x) = a else {
+    let Reading::Done(mid, x) = a else {
         return leaves::progress_of(a, left);
     };
     let b = arguments::argument_at(text, mid, d, tables, counts);
-    let Answer::Done(end, y) = b else {
+    let Reading::Done(end, y) = b else {
         return leaves::progress_of(b, left);
     };
     domain_literals::put(code, used, chosen(yes, 2, 3));

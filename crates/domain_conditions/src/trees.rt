@@ -1,6 +1,6 @@
 // Conditions as trees: single ones, `not` around one, and `and` around any number; d levels of brackets and `left` single conditions are left.
 use crate::heads;
-use crate::heads::Headed;
+use crate::heads::ConditionHead;
 use crate::singles;
 use domain_expressions::leaves;
 use domain_expressions::leaves::Progress;
@@ -34,17 +34,17 @@ fn negated_at(
 {
     let h = heads::begun_at(text, from, d, left);
     match h {
-        Headed::And(p, _) => Progress::Refused(11, p),
-        Headed::Not(p, e) => {
+        ConditionHead::And(p, _) => Progress::Refused(11, p),
+        ConditionHead::Not(p, e) => {
             singles::atom_at(text, p, e, d - 1, tables, counts, false, code, used, left)
         }
-        Headed::Atom(p, e) => {
+        ConditionHead::Atom(p, e) => {
             singles::atom_at(text, p, e, d - 1, tables, counts, false, code, used, left)
         }
-        Headed::Compared(k, e, m) => {
+        ConditionHead::Compared(k, e, m) => {
             singles::compared_at(text, e, d - 1, tables, counts, false, k, code, used, m)
         }
-        Headed::Other(a) => leaves::progress_of(a, left),
+        ConditionHead::Other(a) => leaves::progress_of(a, left),
     }
 }
 
@@ -85,18 +85,18 @@ pub fn condition_at(
 {
     let h = heads::begun_at(text, from, d, left);
     match h {
-        Headed::And(_, e) => {
+        ConditionHead::And(_, e) => {
             domain_literals::put(code, used, 1);
             conditions_to(text, e, d - 1, tables, counts, code, used + 1, left)
         }
-        Headed::Not(_, e) => negation_at(text, e, d - 1, tables, counts, code, used, left),
-        Headed::Atom(p, e) => {
+        ConditionHead::Not(_, e) => negation_at(text, e, d - 1, tables, counts, code, used, left),
+        ConditionHead::Atom(p, e) => {
             singles::atom_at(text, p, e, d - 1, tables, counts, true, code, used, left)
         }
-        Headed::Compared(k, e, m) => {
+        ConditionHead::Compared(k, e, m) => {
             singles::compared_at(text, e, d - 1, tables, counts, true, k, code, used, m)
         }
-        Headed::Other(a) => leaves::progress_of(a, left),
+        ConditionHead::Other(a) => leaves::progress_of(a, left),
     }
 }
 

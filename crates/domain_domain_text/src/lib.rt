@@ -1,7 +1,7 @@
 // The text of a domain, read whole: its tables, and its actions as rows and cells.
 use domain_actions::acts;
-use domain_due::Answer;
-use domain_preamble::Begun;
+use domain_due::Reading;
+use domain_preamble::Preamble;
 use domain_terms::scope::Counts;
 ghost use mathlib.Core.Path.{_≡_};
 ghost use mathlib.Core.List.{[]};
@@ -36,12 +36,12 @@ fn acting_at(
 {
     let a = acts::actions_to(text, at, tables, counts, rows, code, starts);
     match a {
-        Answer::Refused(k, q) => Known::Refused(k, q),
-        Answer::Done(after, n) => {
+        Reading::Refused(k, q) => Known::Refused(k, q),
+        Reading::Done(after, n) => {
             let end = domain_sections::ending_at(text, after);
             match end {
-                Answer::Refused(k, q) => Known::Refused(k, q),
-                Answer::Done(_, _) => Known::Done(p, e, counts, n),
+                Reading::Refused(k, q) => Known::Refused(k, q),
+                Reading::Done(_, _) => Known::Done(p, e, counts, n),
             }
         }
     }
@@ -60,8 +60,8 @@ pub fn domain_at(
 {
     let b = domain_preamble::preamble_at(text, tables);
     match b {
-        Begun::Refused(k, p) => Known::Refused(k, p),
-        Begun::Done(at, p, e, counts) => {
+        Preamble::Refused(k, p) => Known::Refused(k, p),
+        Preamble::Done(at, p, e, counts) => {
             acting_at(text, at, p, e, counts, tables, rows, code, starts)
         }
     }

@@ -11,7 +11,7 @@ ghost use lib.ListN.{length};
 ghost use Rattle.domain_meaning.specs.Due.{numberOf, placeOf, opening, closing, wordDue, anyName, newName};
 ghost use Rattle.domain_due.specs.Answers.{answerOf, nameOf, Ahead};
 
-pub enum Answer {
+pub enum Reading {
     // the place after what was read, and a number: a place, or one that the reader says
     Done(usize, usize),
     // the refusal's number and place
@@ -19,27 +19,27 @@ pub enum Answer {
 }
 
 // A token that may not stand here, where d levels of brackets are left.
-pub fn refusal(t: Token, d: usize) -> Answer
-    ensures { λ r. ⌜ r ≡ Answer.Refused (numberOf d t) (placeOf t) ⌝ }
+pub fn refusal(t: Token, d: usize) -> Reading
+    ensures { λ r. ⌜ r ≡ Reading.Refused (numberOf d t) (placeOf t) ⌝ }
 {
     match t {
-        Token::Word(_, p, _) => Answer::Refused(3, p),
-        Token::Number(_, p, _) => Answer::Refused(3, p),
+        Token::Word(_, p, _) => Reading::Refused(3, p),
+        Token::Number(_, p, _) => Reading::Refused(3, p),
         Token::Open(p, _) => {
             if d == 0 {
-                return Answer::Refused(12, p);
+                return Reading::Refused(12, p);
             }
-            Answer::Refused(3, p)
+            Reading::Refused(3, p)
         }
-        Token::Close(p, _) => Answer::Refused(3, p),
-        Token::Mark(_, p, _) => Answer::Refused(3, p),
-        Token::Refusal(k, p) => Answer::Refused(k, p),
-        Token::End(p) => Answer::Refused(4, p),
+        Token::Close(p, _) => Reading::Refused(3, p),
+        Token::Mark(_, p, _) => Reading::Refused(3, p),
+        Token::Refusal(k, p) => Reading::Refused(k, p),
+        Token::End(p) => Reading::Refused(4, p),
     }
 }
 
 // An opening bracket.
-pub fn opening(text: &[u8], from: usize, d: usize) -> Answer
+pub fn opening(text: &[u8], from: usize, d: usize) -> Reading
     requires { ⌜ from ≤ length (now text) ⌝ }
     ensures { λ r. ⌜ (r ≡ answerOf (opening (now (text .entry)) d from)) × Ahead (length (now (text .entry))) from r ⌝ }
 {
@@ -48,13 +48,13 @@ pub fn opening(text: &[u8], from: usize, d: usize) -> Answer
         return refusal(t, d);
     };
     if d == 0 {
-        return Answer::Refused(12, p);
+        return Reading::Refused(12, p);
     }
-    Answer::Done(next, p)
+    Reading::Done(next, p)
 }
 
 // A closing bracket.
-pub fn closing(text: &[u8], from: usize, d: usize) -> Answer
+pub fn closing(text: &[u8], from: usize, d: usize) -> Reading
     requires { ⌜ from ≤ length (now text) ⌝ }
     ensures { λ r. ⌜ (r ≡ answerOf (closing (now (text .entry)) d from)) × Ahead (length (now (text .entry))) from r ⌝ }
 {
@@ -62,11 +62,11 @@ pub fn closing(text: &[u8], from: usize, d: usize) -> Answer
     let Token::Close(p, next) = t else {
         return refusal(t, d);
     };
-    Answer::Done(next, p)
+    Reading::Done(next, p)
 }
 
 // The word w.
-pub fn word_due(text: &[u8], from: usize, d: usize, w: &[u8]) -> Answer
+pub fn word_due(text: &[u8], from: usize, d: usize, w: &[u8]) -> Reading
     requires { ⌜ from ≤ length (now text) ⌝ }
     ensures { λ r. ⌜ (r ≡ answerOf (wordDue (now (text .entry)) d (now (w .entry)) from)) × Ahead (length (now (text .entry))) from r ⌝ }
 {
@@ -75,13 +75,13 @@ pub fn word_due(text: &[u8], from: usize, d: usize, w: &[u8]) -> Answer
         return refusal(t, d);
     };
     if spelling::same_word(tokens::word_of(text, t), w) {
-        return Answer::Done(e, p);
+        return Reading::Done(e, p);
     }
-    Answer::Refused(3, p)
+    Reading::Refused(3, p)
 }
 
 // Any name: where it ends, and where it begins.
-pub fn any_name(text: &[u8], from: usize, d: usize) -> Answer
+pub fn any_name(text: &[u8], from: usize, d: usize) -> Reading
     requires { ⌜ from ≤ length (now text) ⌝ }
     ensures { λ r. ⌜ (r ≡ nameOf (anyName (now (text .entry)) d from)) × Ahead (length (now (text .entry))) from r ⌝ }
 {
@@ -90,24 +90,24 @@ pub fn any_name(text: &[u8], from: usize, d: usize) -> Answer
         return refusal(t, d);
     };
     let Word::Name = k else {
-        return Answer::Refused(3, p);
+        return Reading::Refused(3, p);
     };
-    Answer::Done(e, p)
+    Reading::Done(e, p)
 }
 
 // A name that is declared here.
-pub fn new_name(text: &[u8], from: usize, d: usize) -> Answer
+pub fn new_name(text: &[u8], from: usize, d: usize) -> Reading
     requires { ⌜ from ≤ length (now text) ⌝ }
     ensures { λ r. ⌜ (r ≡ nameOf (newName (now (text .entry)) d from)) × Ahead (length (now (text .entry))) from r ⌝ }
 {
     let a = any_name(text, from, d);
-    let Answer::Done(e, p) = a else {
+    let Reading::Done(e, p) = a else {
         return a;
     };
     if fixed::is_reserved(runs::part_of(text, p, e)) {
-        return Answer::Refused(3, p);
+        return Reading::Refused(3, p);
     }
-    Answer::Done(e, p)
+    Reading::Done(e, p)
 }
 
 // Where a token begins.

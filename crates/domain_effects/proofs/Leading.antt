@@ -7,9 +7,9 @@ use types.Run.{OneOf, miss}
 use denote.Enum.Declared.{tagOf}
 use borrow.Author.Tests.{ne-eqb}
 use Rattle.text_words.specs.Fixed.{headOf}
-use Rattle.text_words.specs.declared.fixed.Head.{Head}
-use Rattle.text_words.specs.declared.fixed.Head.the-variants as H
-use Rattle.text_words.proofs.fixed.Head as head-type
+use Rattle.text_words.specs.declared.fixed.HeadWord.{HeadWord}
+use Rattle.text_words.specs.declared.fixed.HeadWord.the-variants as H
+use Rattle.text_words.proofs.fixed.HeadWord as head-type
 use Rattle.text_tokens.specs.Runs.{part}
 use Rattle.text_tokens.specs.Tokens.{tokenAt}
 use Rattle.text_tokens.specs.declared.tokens.Token.{Token}
@@ -22,17 +22,17 @@ use Rattle.domain_meaning.specs.Read.{Read, Reader, refused}
 use Rattle.domain_meaning.specs.Due.{numberOf, placeOf, opening}
 use Rattle.domain_meaning.specs.Terms.{Scope, Counted}
 use Rattle.domain_meaning.specs.Effects.{assign, raise, lower, Effect, effectHead, effectWord, effect}
-use Rattle.domain_due.specs.declared.Answer.{Answer}
-use Rattle.domain_due.specs.declared.Answer.the-variants.{Refused}
+use Rattle.domain_due.specs.declared.Reading.{Reading}
+use Rattle.domain_due.specs.declared.Reading.the-variants.{Refused}
 use Rattle.domain_due.proofs.Dues.{not-word, not-open}
 use Rattle.domain_effects.specs.Leads.{inBracket, Refuses, Leads, Inside}
-use Rattle.domain_effects.specs.declared.heads.Led.{Led}
-use Rattle.domain_effects.specs.declared.heads.Led.the-variants as L
+use Rattle.domain_effects.specs.declared.heads.EffectHead.{EffectHead}
+use Rattle.domain_effects.specs.declared.heads.EffectHead.the-variants as L
 
 -- ---- by the head word
 
 module _ (s : List ℕ) (d : ℕ) (c : Scope) (f : ℕ → Reader (Counted (List Effect))) (n : ℕ) where
-  module _ (h : Head) (p e : ℕ) where
+  module _ (h : HeadWord) (p e : ℕ) where
     pub lead-all : h ≡ H.And → Leads s d c f n (L.All e) (effectHead s d c f n h p e e)
     unfolding Leads
     lead-all q = rw q
@@ -53,7 +53,7 @@ module _ (s : List ℕ) (d : ℕ) (c : Scope) (f : ℕ → Reader (Counted (List
     unfolding Leads
     lead-lower q = rw q (lower, refl, refl)
 
-  pub lead-fact : (h : Head) (p e : ℕ) → OneOf (2 ∷ 3 ∷ 4 ∷ 5 ∷ 6 ∷ 7 ∷ 8 ∷ 12 ∷ []) (tagOf head-type.the-type h) → Leads s d c f n (L.Fact p e) (effectHead s d c f n h p e e)
+  pub lead-fact : (h : HeadWord) (p e : ℕ) → OneOf (2 ∷ 3 ∷ 4 ∷ 5 ∷ 6 ∷ 7 ∷ 8 ∷ 12 ∷ []) (tagOf head-type.the-type h) → Leads s d c f n (L.Fact p e) (effectHead s d c f n h p e e)
   unfolding Leads
   lead-fact H.And p e o = absurd (miss (2 ∷ 3 ∷ 4 ∷ 5 ∷ 6 ∷ 7 ∷ 8 ∷ 12 ∷ []) 0 tt o)
   lead-fact H.Not p e o = absurd (miss (2 ∷ 3 ∷ 4 ∷ 5 ∷ 6 ∷ 7 ∷ 8 ∷ 12 ∷ []) 1 tt o)
@@ -69,11 +69,11 @@ module _ (s : List ℕ) (d : ℕ) (c : Scope) (f : ℕ → Reader (Counted (List
   lead-fact H.Minus p e o = refl
   lead-fact H.Other p e o = refl
 
-  pub lead-refused : (r : Answer) (k p : ℕ) (x : Read (Counted (List Effect))) → r ≡ Refused k p → x ≡ refused k p → Leads s d c f n (L.Other r) x
+  pub lead-refused : (r : Reading) (k p : ℕ) (x : Read (Counted (List Effect))) → r ≡ Refused k p → x ≡ refused k p → Leads s d c f n (L.Other r) x
   unfolding Leads Refuses
   lead-refused r k p x e q = rw e q
 
-  pub lead-by : (r : Led) (x y : Read (Counted (List Effect))) → y ≡ x → Leads s d c f n r x → Leads s d c f n r y
+  pub lead-by : (r : EffectHead) (x y : Read (Counted (List Effect))) → y ≡ x → Leads s d c f n r x → Leads s d c f n r y
   lead-by r x y e h = rw e h
 
   -- ---- behind a bracket
@@ -131,11 +131,11 @@ module _ (least most levels : ℕ) where
   unfolding Inside
   inside-fact p e lo hi l = (lo, hi, l)
 
-  pub inside-other : (r : Answer) → Inside least most levels (L.Other r)
+  pub inside-other : (r : Reading) → Inside least most levels (L.Other r)
   unfolding Inside
   inside-other r = tt
 
-  pub inside-from : (r : Led) (lo hi few : ℕ) → least ≤ lo → hi ≤ most → few ≤ levels → Inside lo hi few r → Inside least most levels r
+  pub inside-from : (r : EffectHead) (lo hi few : ℕ) → least ≤ lo → hi ≤ most → few ≤ levels → Inside lo hi few r → Inside least most levels r
   unfolding Inside
   inside-from (L.All e) lo hi few a b i h = (omega (arith, h .0), omega (arith, h .1), omega (arith, h .2))
   inside-from (L.Not e) lo hi few a b i h = (omega (arith, h .0), omega (arith, h .1), omega (arith, h .2))

@@ -7,19 +7,19 @@ use lib.ListN.{length}
 use Rattle.domain_meaning.specs.Read.{Read, Reader}
 use Rattle.domain_meaning.specs.Terms.{Scope, Counted}
 use Rattle.domain_meaning.specs.Effects.{Change, Effect, becomesAt, changeAt, deletion, effectsTo}
-use Rattle.domain_due.specs.declared.Answer.{Answer}
-use Rattle.domain_due.specs.declared.Answer.the-variants as A
+use Rattle.domain_due.specs.declared.Reading.{Reading}
+use Rattle.domain_due.specs.declared.Reading.the-variants as A
 use Rattle.domain_expressions.specs.Codes.{Written, Spent, passed}
 use Rattle.domain_expressions.specs.declared.leaves.Progress.{Progress}
 use Rattle.domain_expressions.proofs.Ends.{written-refused, spent-refused}
 use Rattle.domain_stored_meaning.specs.Cells.{changeCell, effectsCells}
 use Rattle.domain_effects.specs.Leads.{Refuses, Changes, Leads, Inside}
-use Rattle.domain_effects.specs.declared.heads.Led.{Led}
-use Rattle.domain_effects.specs.declared.heads.Led.the-variants as L
+use Rattle.domain_effects.specs.declared.heads.EffectHead.{EffectHead}
+use Rattle.domain_effects.specs.declared.heads.EffectHead.the-variants as L
 
 -- ---- places
 
-module _ (least most levels : ℕ) (r : Led) where
+module _ (least most levels : ℕ) (r : EffectHead) where
   pub all-place : (e : ℕ) → r ≡ L.All e → Inside least most levels r → (least ≤ e) × (e ≤ most) × (0 < levels)
   unfolding Inside
   all-place e q h = rw q at h
@@ -38,7 +38,7 @@ module _ (least most levels : ℕ) (r : Led) where
 
 -- ---- the ways
 
-module _ (s : List ℕ) (d : ℕ) (c : Scope) (f : ℕ → Reader (Counted (List Effect))) (n : ℕ) (r : Led) (x : Read (Counted (List Effect))) (h : Leads s d c f n r x)
+module _ (s : List ℕ) (d : ℕ) (c : Scope) (f : ℕ → Reader (Counted (List Effect))) (n : ℕ) (r : EffectHead) (x : Read (Counted (List Effect))) (h : Leads s d c f n r x)
     (code : List ℕ) (u : ℕ) (b : Progress) (m : List ℕ) where
   pub whole-all : (e : ℕ) → r ≡ L.All e → Written effectsCells code u b m (effectsTo (length s + 1) s d f n e) → Written effectsCells code u b m x
   unfolding Leads
@@ -56,22 +56,22 @@ module _ (s : List ℕ) (d : ℕ) (c : Scope) (f : ℕ → Reader (Counted (List
   unfolding Leads
   whole-fact p e q w = let k : x ≡ becomesAt s d c true n p e e = rw q at h in rw k w
 
-  refuses : (a : Answer) → r ≡ L.Other a → Refuses a x
+  refuses : (a : Reading) → r ≡ L.Other a → Refuses a x
   unfolding Leads
   refuses a q = rw q at h
 
-  other-written : (a : Answer) (l : ℕ) → Refuses a x → b ≡ passed l a → Written effectsCells code u b m x
+  other-written : (a : Reading) (l : ℕ) → Refuses a x → b ≡ passed l a → Written effectsCells code u b m x
   unfolding Refuses
   other-written (A.Done i v) l w e = absurd w
   other-written (A.Refused k p) l w e = written-refused effectsCells code u b m x k p w e
 
-  other-spent : (a : Answer) (l more most at : ℕ) → Refuses a x → b ≡ passed l a → Spent more most u at b
+  other-spent : (a : Reading) (l more most at : ℕ) → Refuses a x → b ≡ passed l a → Spent more most u at b
   unfolding Refuses
   other-spent (A.Done i v) l more most at w e = absurd w
   other-spent (A.Refused k p) l more most at w e = spent-refused more most u at b k p e
 
-  pub whole-other : (a : Answer) (l : ℕ) → r ≡ L.Other a → b ≡ passed l a → Written effectsCells code u b m x
+  pub whole-other : (a : Reading) (l : ℕ) → r ≡ L.Other a → b ≡ passed l a → Written effectsCells code u b m x
   whole-other a l q e = other-written a l (refuses a q) e
 
-  pub spent-other : (a : Answer) (l more most at : ℕ) → r ≡ L.Other a → b ≡ passed l a → Spent more most u at b
+  pub spent-other : (a : Reading) (l more most at : ℕ) → r ≡ L.Other a → b ≡ passed l a → Spent more most u at b
   spent-other a l more most at q e = other-spent a l more most at (refuses a q) e

@@ -9,10 +9,10 @@ use Rattle.domain_meaning.specs.Due.{token, wrong, onWord}
 use Rattle.domain_meaning.specs.Terms.{Scope, Counted}
 use Rattle.domain_meaning.specs.Effects.{Change, Effect, becomesAt, changeAt, deletion, effectsTo, effectWord}
 use Rattle.domain_stored_meaning.specs.Cells.{changeCell}
-use Rattle.domain_due.specs.declared.Answer.{Answer}
-use Rattle.domain_due.specs.declared.Answer.the-variants.{Done, Refused}
-use Rattle.domain_effects.specs.declared.heads.Led.{Led}
-use Rattle.domain_effects.specs.declared.heads.Led.the-variants as L
+use Rattle.domain_due.specs.declared.Reading.{Reading}
+use Rattle.domain_due.specs.declared.Reading.the-variants.{Done, Refused}
+use Rattle.domain_effects.specs.declared.heads.EffectHead.{EffectHead}
+use Rattle.domain_effects.specs.declared.heads.EffectHead.the-variants as L
 
 -- behind an effect's bracket; f reads an effect one level down
 abbrev pub inBracket : List ℕ → ℕ → Scope → (ℕ → Reader (Counted (List Effect))) → ℕ → Reader (Counted (List Effect))
@@ -21,7 +21,7 @@ inBracket s d c f n = do
   onWord h (effectWord s d c f n) (wrong d h)
 
 -- a refusal is that of the definition
-unfoldable pub Refuses : Answer → Read (Counted (List Effect)) → Type 0
+unfoldable pub Refuses : Reading → Read (Counted (List Effect)) → Type 0
 Refuses (Done a v) x = ⊥
 Refuses (Refused k p) x = x ≡ refused k p
 
@@ -30,7 +30,7 @@ abbrev pub Changes : List ℕ → ℕ → Scope → ℕ → ℕ → ℕ → ℕ 
 Changes s d c n tag p e x = (how : Change) × (tag ≡ changeCell how) × (x ≡ changeAt s d c how n p e)
 
 -- what is read behind the head word, where n effects are left
-unfoldable pub Leads : List ℕ → ℕ → Scope → (ℕ → Reader (Counted (List Effect))) → ℕ → Led → Read (Counted (List Effect)) → Type 0
+unfoldable pub Leads : List ℕ → ℕ → Scope → (ℕ → Reader (Counted (List Effect))) → ℕ → EffectHead → Read (Counted (List Effect)) → Type 0
 Leads s d c f n (L.All e) x = x ≡ effectsTo (length s + 1) s d f n e
 Leads s d c f n (L.Not e) x = x ≡ deletion s d c n e
 Leads s d c f n (L.Change tag p e) x = Changes s d c n tag p e x
@@ -38,7 +38,7 @@ Leads s d c f n (L.Fact p e) x = x ≡ becomesAt s d c true n p e e
 Leads s d c f n (L.Other r) x = Refuses r x
 
 -- a head word ends from `least` to `most`, and stands in one of so many levels; the cell of a change leaves room for a count of arguments
-unfoldable pub Inside : ℕ → ℕ → ℕ → Led → Type 0
+unfoldable pub Inside : ℕ → ℕ → ℕ → EffectHead → Type 0
 Inside least most levels (L.All e) = (least ≤ e) × (e ≤ most) × (0 < levels)
 Inside least most levels (L.Not e) = (least ≤ e) × (e ≤ most) × (0 < levels)
 Inside least most levels (L.Change tag p e) = (least ≤ e) × (e ≤ most) × (0 < levels) × (tag ≤ 251)

@@ -1,5 +1,5 @@
 // Single effects: a fact that becomes true or false, a number that is changed.
-use domain_due::Answer;
+use domain_due::Reading;
 use domain_expressions::leaves;
 use domain_expressions::leaves::Progress;
 use domain_expressions::references;
@@ -11,8 +11,8 @@ use text_tokens::tokens;
 use text_tokens::tokens::Token;
 use text_tokens::tokens::Word;
 use text_words::fixed;
-use text_words::fixed::Head;
-use text_words::spelling::Found;
+use text_words::fixed::HeadWord;
+use text_words::spelling::Place;
 ghost use mathlib.Core.Path.{_≡_};
 ghost use Prim.Native.Nat.{_+_, _-_, _≤_};
 ghost use mathlib.Core.Bool.{Bool, cond};
@@ -43,7 +43,7 @@ pub fn becomes_at(
 {
     let n = counts.predicates;
     let f = scope::find_in(tables, 3078, 4294, n, runs::part_of(text, p, e));
-    let Found::At(i) = f else {
+    let Place::At(i) = f else {
         return Progress::Refused(8, p);
     };
     if left == 0 {
@@ -65,22 +65,22 @@ fn target_at(
     tag: usize,
     code: &mut [u8],
     used: usize,
-) -> Answer
+) -> Reading
     requires { ⌜ (from ≤ length (now text)) × Scopes (now tables) counts × (tag ≤ 251) × (used + (length (now text) - from) ≤ 18446744073709551615) ⌝ }
     ensures { λ r. ⌜ ((c : Scope) → Scoped (now (tables .entry)) counts c → Wrote (refCells tag) (now (code .entry)) used r (now (code .exit)) (target (now (text .entry)) d c from)) × Ahead (length (now (text .entry))) from r × Room used from r ⌝ }
 {
     let a = domain_due::opening(text, from, d);
-    let Answer::Done(next, _) = a else {
+    let Reading::Done(next, _) = a else {
         return a;
     };
     let b = domain_due::any_name(text, next, d - 1);
-    let Answer::Done(e, p) = b else {
+    let Reading::Done(e, p) = b else {
         return b;
     };
     let n = counts.functions;
     let f = scope::find_in(tables, 4294, 4902, n, runs::part_of(text, p, e));
-    let Found::At(i) = f else {
-        return Answer::Refused(8, p);
+    let Place::At(i) = f else {
+        return Reading::Refused(8, p);
     };
     references::reference_at(text, e, d - 1, tables, counts, 4294, n, i, tag, code, used)
 }
@@ -105,15 +105,15 @@ pub fn change_at(
         return Progress::Refused(12, p);
     }
     let a = target_at(text, e, d, tables, counts, tag, code, used);
-    let Answer::Done(after, v) = a else {
+    let Reading::Done(after, v) = a else {
         return leaves::progress_of(a, left);
     };
     let x = trees::expression_at(text, after, d, tables, counts, code, v);
-    let Answer::Done(end, free) = x else {
+    let Reading::Done(end, free) = x else {
         return leaves::progress_of(x, left);
     };
     let b = domain_due::closing(text, end, d);
-    let Answer::Done(next, _) = b else {
+    let Reading::Done(next, _) = b else {
         return leaves::progress_of(b, left);
     };
     Progress::Done(next, free, left - 1)
@@ -140,7 +140,7 @@ fn deleted_at(
     let Word::Name = k else {
         return Progress::Refused(3, p);
     };
-    if let Head::And = fixed::head_of(tokens::word_of(text, t)) {
+    if let HeadWord::And = fixed::head_of(tokens::word_of(text, t)) {
         return Progress::Refused(11, p);
     }
     becomes_at(text, p, e, d, tables, counts, 8, code, used, left)
@@ -161,7 +161,7 @@ pub fn deletion_at(
     ensures { λ r. ⌜ ((c : Scope) → Scoped (now (tables .entry)) counts c → Written effectsCells (now (code .entry)) used r (now (code .exit)) (deletion (now (text .entry)) d c left from)) × Spent 0 (length (now (text .entry))) used from r ⌝ }
 {
     let a = domain_due::opening(text, from, d);
-    let Answer::Done(next, _) = a else {
+    let Reading::Done(next, _) = a else {
         return leaves::progress_of(a, left);
     };
     let x = deleted_at(text, next, d - 1, tables, counts, code, used, left);
@@ -169,7 +169,7 @@ pub fn deletion_at(
         return x;
     };
     let b = domain_due::closing(text, end, d);
-    let Answer::Done(after, _) = b else {
+    let Reading::Done(after, _) = b else {
         return leaves::progress_of(b, left);
     };
     Progress::Done(after, v, l)

@@ -1,6 +1,6 @@
 // Effects and lists of them: one behind the other, as they are written.
 use crate::heads;
-use crate::heads::Led;
+use crate::heads::EffectHead;
 use crate::singles;
 use domain_expressions::leaves;
 use domain_expressions::leaves::Progress;
@@ -31,15 +31,24 @@ pub fn effect_at(
 {
     let b = heads::begun_at(text, from, d);
     match b {
-        Led::All(e) => effects_to(text, e, d - 1, tables, counts, code, used, left),
-        Led::Not(e) => singles::deletion_at(text, e, d - 1, tables, counts, code, used, left),
-        Led::Change(tag, p, e) => {
+        EffectHead::All(e) => effects_to(text, e, d - 1, tables, counts, code, used, left),
+        EffectHead::Not(e) => singles::deletion_at(
+            text,
+            e,
+            d - 1,
+            tables,
+            counts,
+            code,
+            used,
+            left,
+        ),
+        EffectHead::Change(tag, p, e) => {
             singles::change_at(text, p, e, d - 1, tables, counts, tag, code, used, left)
         }
-        Led::Fact(p, e) => {
+        EffectHead::Fact(p, e) => {
             singles::becomes_at(text, p, e, d - 1, tables, counts, 4, code, used, left)
         }
-        Led::Other(a) => leaves::progress_of(a, left),
+        EffectHead::Other(a) => leaves::progress_of(a, left),
     }
 }
 

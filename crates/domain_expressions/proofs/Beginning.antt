@@ -9,9 +9,9 @@ use lib.ListN.{length}
 use lib.Signed.{mag}
 use types.Run.{OneOf, miss}
 use denote.Enum.Declared.{tagOf}
-use Rattle.text_words.specs.declared.fixed.Head.{Head}
-use Rattle.text_words.specs.declared.fixed.Head.the-variants as H
-use Rattle.text_words.proofs.fixed.Head as head-type
+use Rattle.text_words.specs.declared.fixed.HeadWord.{HeadWord}
+use Rattle.text_words.specs.declared.fixed.HeadWord.the-variants as H
+use Rattle.text_words.proofs.fixed.HeadWord as head-type
 use Rattle.text_tokens.specs.Tokens.{tokenAt}
 use Rattle.text_tokens.specs.declared.tokens.Token.{Token}
 use Rattle.text_tokens.specs.declared.tokens.Token.the-variants as T
@@ -21,22 +21,22 @@ use Rattle.text_tokens.proofs.tokens.Token as token-type
 use Rattle.domain_meaning.specs.Read.{Read, Reader, got, refused}
 use Rattle.domain_meaning.specs.Due.{numberOf, placeOf}
 use Rattle.domain_meaning.specs.Terms.{Scope, Expr, number, Counted, counts, counted, operation, headed, inBracket, expr}
-use Rattle.domain_due.specs.declared.Answer.{Answer}
-use Rattle.domain_due.specs.declared.Answer.the-variants.{Refused}
+use Rattle.domain_due.specs.declared.Reading.{Reading}
+use Rattle.domain_due.specs.declared.Reading.the-variants.{Refused}
 use Rattle.domain_due.proofs.Dues.{not-word, not-number, not-open}
 use Rattle.domain_literals.specs.Literal.{numberCells}
 use Rattle.domain_expressions.specs.Begins.{Bracketed, Begins, Inside, Placed}
-use Rattle.domain_expressions.specs.declared.heads.Begun.{Begun}
-use Rattle.domain_expressions.specs.declared.heads.Begun.the-variants as B
+use Rattle.domain_expressions.specs.declared.heads.ExpressionHead.{ExpressionHead}
+use Rattle.domain_expressions.specs.declared.heads.ExpressionHead.the-variants as B
 
 -- ---- behind a bracket
 
 module _ (s : List ℕ) (d : ℕ) (c : Scope) (f : ℕ → Reader (Counted Expr)) (n : ℕ) where
-  pub bracket-refused : (r : Answer) (k p : ℕ) (x : Read (Counted Expr)) → r ≡ Refused k p → x ≡ refused k p → Bracketed s d c f n (B.Other r) x
+  pub bracket-refused : (r : Reading) (k p : ℕ) (x : Read (Counted Expr)) → r ≡ Refused k p → x ≡ refused k p → Bracketed s d c f n (B.Other r) x
   unfolding Bracketed
   bracket-refused r k p x e q = rw e q
 
-  pub bracket-by : (r : Begun) (x y : Read (Counted Expr)) → y ≡ x → Bracketed s d c f n r x → Bracketed s d c f n r y
+  pub bracket-by : (r : ExpressionHead) (x y : Read (Counted Expr)) → y ≡ x → Bracketed s d c f n r x → Bracketed s d c f n r y
   bracket-by r x y e h = rw e h
 
   pub bracket-name : (p e : ℕ) (x : Read (Counted Expr)) → x ≡ headed s d c f n W.Name p e e → Bracketed s d c f n (B.Function p e) x
@@ -50,7 +50,7 @@ module _ (s : List ℕ) (d : ℕ) (c : Scope) (f : ℕ → Reader (Counted Expr)
   pub head-word : (at : ℕ) (k j : Word) (p e : ℕ) → tokenAt s at ≡ T.Word k p e → k ≡ j → inBracket s d c f n at ≡ headed s d c f n j p e e
   head-word at k j p e q h = rw (q, h)
 
-  module _ (h : Head) (p e : ℕ) where
+  module _ (h : HeadWord) (p e : ℕ) where
     pub plus-none : h ≡ H.Plus → n ≡ 0 → operation s d f n h p e ≡ refused 12 p
     unfolding counted
     plus-none q z = rw (q, z)
@@ -59,7 +59,7 @@ module _ (s : List ℕ) (d : ℕ) (c : Scope) (f : ℕ → Reader (Counted Expr)
     unfolding counted
     minus-none q z = rw (q, z)
 
-  pub other-head : (h : Head) (p e : ℕ) → OneOf (0 ∷ 1 ∷ 2 ∷ 3 ∷ 4 ∷ 5 ∷ 6 ∷ 9 ∷ 10 ∷ 11 ∷ 12 ∷ []) (tagOf head-type.the-type h) → operation s d f n h p e ≡ refused 3 p
+  pub other-head : (h : HeadWord) (p e : ℕ) → OneOf (0 ∷ 1 ∷ 2 ∷ 3 ∷ 4 ∷ 5 ∷ 6 ∷ 9 ∷ 10 ∷ 11 ∷ 12 ∷ []) (tagOf head-type.the-type h) → operation s d f n h p e ≡ refused 3 p
   other-head H.Plus p e o = absurd (miss (0 ∷ 1 ∷ 2 ∷ 3 ∷ 4 ∷ 5 ∷ 6 ∷ 9 ∷ 10 ∷ 11 ∷ 12 ∷ []) 7 tt o)
   other-head H.Minus p e o = absurd (miss (0 ∷ 1 ∷ 2 ∷ 3 ∷ 4 ∷ 5 ∷ 6 ∷ 9 ∷ 10 ∷ 11 ∷ 12 ∷ []) 8 tt o)
   other-head H.And p e o = refl
@@ -75,19 +75,19 @@ module _ (s : List ℕ) (d : ℕ) (c : Scope) (f : ℕ → Reader (Counted Expr)
   other-head H.Other p e o = refl
 
 module _ (s : List ℕ) (d : ℕ) (c : Scope) (f : ℕ → Reader (Counted Expr)) where
-  pub plus-some : (n : ℕ) (h : Head) (p e : ℕ) → h ≡ H.Plus → (n ≡ 0 → ⊥) → Bracketed s d c f n (B.Operation false e (n - 1)) (operation s d f n h p e)
+  pub plus-some : (n : ℕ) (h : HeadWord) (p e : ℕ) → h ≡ H.Plus → (n ≡ 0 → ⊥) → Bracketed s d c f n (B.Operation false e (n - 1)) (operation s d f n h p e)
   unfolding counted Bracketed
   plus-some zero h p e q z = absurd (z refl)
   plus-some (suc n) h p e q z = let k : suc n - 1 ≡ n = omega arith in rw (q, k)
 
-  pub minus-some : (n : ℕ) (h : Head) (p e : ℕ) → h ≡ H.Minus → (n ≡ 0 → ⊥) → Bracketed s d c f n (B.Operation true e (n - 1)) (operation s d f n h p e)
+  pub minus-some : (n : ℕ) (h : HeadWord) (p e : ℕ) → h ≡ H.Minus → (n ≡ 0 → ⊥) → Bracketed s d c f n (B.Operation true e (n - 1)) (operation s d f n h p e)
   unfolding counted Bracketed
   minus-some zero h p e q z = absurd (z refl)
   minus-some (suc n) h p e q z = let k : suc n - 1 ≡ n = omega arith in rw (q, k)
 
 -- ---- places
 
-pub inside-other : (at most : ℕ) (r : Answer) → Inside at most (B.Other r)
+pub inside-other : (at most : ℕ) (r : Reading) → Inside at most (B.Other r)
 unfolding Inside
 inside-other at most r = tt
 
@@ -99,14 +99,14 @@ pub inside-function : (at most p e : ℕ) → at < e → e ≤ most → Inside a
 unfolding Inside
 inside-function at most p e lo hi = (lo, hi)
 
-pub inside-from : (r : Begun) (at p most e : ℕ) → at ≤ p → e ≤ most → Inside p e r → Inside at most r
+pub inside-from : (r : ExpressionHead) (at p most e : ℕ) → at ≤ p → e ≤ most → Inside p e r → Inside at most r
 unfolding Inside
 inside-from (B.Number z b m) at p most e lo hi h = h
 inside-from (B.Function a b) at p most e lo hi h = (omega (arith, h .0), omega (arith, h .1))
 inside-from (B.Operation minus b m) at p most e lo hi h = (omega (arith, h .0), omega (arith, h .1))
 inside-from (B.Other a) at p most e lo hi h = tt
 
-pub placed-other : (at most d : ℕ) (r : Answer) → Placed at most d (B.Other r)
+pub placed-other : (at most d : ℕ) (r : Reading) → Placed at most d (B.Other r)
 unfolding Placed
 placed-other at most d r = tt
 
@@ -114,7 +114,7 @@ pub placed-number : (at most d : ℕ) (z : ℤ) (e m : ℕ) → at < e → e ≤
 unfolding Placed
 placed-number at most d z e m lo hi room small = (lo, hi, room, small)
 
-pub placed-inside : (r : Begun) (at a most d : ℕ) → at < a → 0 < d → Inside a most r → Placed at most d r
+pub placed-inside : (r : ExpressionHead) (at a most d : ℕ) → at < a → 0 < d → Inside a most r → Placed at most d r
 unfolding Inside Placed
 placed-inside (B.Number z b m) at a most d lo k h = absurd h
 placed-inside (B.Function p b) at a most d lo k h = (omega (arith, h .0), h .1, k)
@@ -124,7 +124,7 @@ placed-inside (B.Other r) at a most d lo k h = tt
 -- ---- an expression
 
 module _ (s : List ℕ) (c : Scope) where
-  pub begin-refused : (d n : ℕ) (r : Answer) (k p : ℕ) (x : Read (Counted Expr)) → r ≡ Refused k p → x ≡ refused k p → Begins s c d n (B.Other r) x
+  pub begin-refused : (d n : ℕ) (r : Reading) (k p : ℕ) (x : Read (Counted Expr)) → r ≡ Refused k p → x ≡ refused k p → Begins s c d n (B.Other r) x
   unfolding Begins
   begin-refused d n r k p x e q = rw e q
 
@@ -132,7 +132,7 @@ module _ (s : List ℕ) (c : Scope) where
   unfolding Begins
   begin-number d n z e m x q = q
 
-  pub begin-bracket : (d n : ℕ) (r : Begun) (x : Read (Counted Expr)) → Bracketed s (d - 1) c (expr (d - 1) s c) n r x → Begins s c d n r x
+  pub begin-bracket : (d n : ℕ) (r : ExpressionHead) (x : Read (Counted Expr)) → Bracketed s (d - 1) c (expr (d - 1) s c) n r x → Begins s c d n r x
   unfolding Begins Bracketed
   begin-bracket d n (B.Number z e m) x h = absurd h
   begin-bracket d n (B.Function p e) x h = h

@@ -7,21 +7,21 @@ use lib.IntN.{ℤ}
 use lib.ListN.{length, set}
 use lib.Seq.{sets}
 use lib.Signed.{mag}
-use Rattle.text_words.specs.declared.spelling.Found.{Found}
-use Rattle.text_words.specs.declared.spelling.Found.the-variants as F
+use Rattle.text_words.specs.declared.spelling.Place.{Place}
+use Rattle.text_words.specs.declared.spelling.Place.the-variants as F
 use Rattle.text_tokens.specs.Tokens.{tokenAt}
 use Rattle.domain_meaning.specs.Read.{Read, got, refused, andThen, give}
 use Rattle.domain_meaning.specs.Terms.{Scope, Expr, number, Counted, counts, operandsEnd, functionAt, expr, expression}
 use Rattle.domain_due.specs.Answers.{Ahead}
-use Rattle.domain_due.specs.declared.Answer.{Answer}
-use Rattle.domain_due.specs.declared.Answer.the-variants as A
+use Rattle.domain_due.specs.declared.Reading.{Reading}
+use Rattle.domain_due.specs.declared.Reading.the-variants as A
 use Rattle.domain_due.proofs.Dues.{close-in}
 use Rattle.domain_terms.specs.Cells.{Wrote}
 use Rattle.domain_literals.specs.Literal.{numberCells}
 use Rattle.domain_expressions.specs.Codes.{cellsOf, Written, Spent, passed, Joined, loneEnd, Over}
 use Rattle.domain_expressions.specs.Begins.{operands, Refuses, Begins, Placed}
-use Rattle.domain_expressions.specs.declared.heads.Begun.{Begun}
-use Rattle.domain_expressions.specs.declared.heads.Begun.the-variants as B
+use Rattle.domain_expressions.specs.declared.heads.ExpressionHead.{ExpressionHead}
+use Rattle.domain_expressions.specs.declared.heads.ExpressionHead.the-variants as B
 use Rattle.domain_expressions.specs.declared.leaves.Progress.{Progress}
 use Rattle.domain_expressions.specs.declared.leaves.Progress.the-variants.{Done, Refused}
 use Rattle.domain_expressions.proofs.Ends.{written-refused}
@@ -29,7 +29,7 @@ use Rattle.domain_expressions.proofs.Operands.{written-got, written-not
 
 -- ---- places
 
-module _ (at most d : ℕ) (r : Begun) where
+module _ (at most d : ℕ) (r : ExpressionHead) where
   pub number-place : (z : ℤ) (e m : ℕ) → r ≡ B.Number z e m → Placed at most d r → (at < e) × (e ≤ most) × (length (numberCells z) + at ≤ e + 1) × (mag z < 1099511627776)
   unfolding Placed
   number-place z e m q h = rw q at h
@@ -42,12 +42,12 @@ module _ (at most d : ℕ) (r : Begun) where
   unfolding Placed
   operation-place negative e m q h = rw q at h
 
-pub lone-in : (s : List ℕ) (a n : ℕ) (negative : Bool) (f : Found) → a ≤ length s → f ≡ loneEnd negative (tokenAt s a) → f ≡ F.At n → (a < n) × (n ≤ length s)
+pub lone-in : (s : List ℕ) (a n : ℕ) (negative : Bool) (f : Place) → a ≤ length s → f ≡ loneEnd negative (tokenAt s a) → f ≡ F.At n → (a < n) × (n ≤ length s)
 lone-in s a n negative f h e q = let c = lone-token negative (tokenAt s a) n (sym e ∙ q) in close-in s a h (c .place) n (c .is)
 
 -- ---- the ways
 
-module _ (s : List ℕ) (c : Scope) (d n : ℕ) (r : Begun) (x : Read (Counted Expr)) (h : Begins s c d n r x) where
+module _ (s : List ℕ) (c : Scope) (d n : ℕ) (r : ExpressionHead) (x : Read (Counted Expr)) (h : Begins s c d n r x) where
   pub whole-number : (z : ℤ) (e m : ℕ) (code : List ℕ) (u v : ℕ) (code′ : List ℕ) → r ≡ B.Number z e m → v ≡ u + length (numberCells z) → code′ ≡ sets code u (numberCells z)
       → Written cellsOf code u (Done e v m) code′ x
   unfolding Begins Written cellsOf
@@ -58,23 +58,23 @@ module _ (s : List ℕ) (c : Scope) (d n : ℕ) (r : Begun) (x : Read (Counted E
   unfolding Begins
   whole-function p e code u a code′ q w = let k : x ≡ functionAt s (d - 1) c n p e e = rw q at h in rw k w
 
-  refuses : (a : Answer) → r ≡ B.Other a → Refuses a x
+  refuses : (a : Reading) → r ≡ B.Other a → Refuses a x
   unfolding Begins
   refuses a q = rw q at h
 
-  other-written : (a : Answer) (l : ℕ) (code : List ℕ) (u : ℕ) (b : Progress) → Refuses a x → b ≡ passed l a → Written cellsOf code u b code x
+  other-written : (a : Reading) (l : ℕ) (code : List ℕ) (u : ℕ) (b : Progress) → Refuses a x → b ≡ passed l a → Written cellsOf code u b code x
   other-written (A.Done i v) l code u b w e = absurd w
   other-written (A.Refused k p) l code u b w e = written-refused cellsOf code u b code x k p w e
 
-  other-spent : (a : Answer) (l more most u at : ℕ) (b : Progress) → Refuses a x → b ≡ passed l a → Spent more most u at b
+  other-spent : (a : Reading) (l more most u at : ℕ) (b : Progress) → Refuses a x → b ≡ passed l a → Spent more most u at b
   unfolding Spent
   other-spent (A.Done i v) l more most u at b w e = absurd w
   other-spent (A.Refused k p) l more most u at b w e = rw e tt
 
-  pub whole-other : (a : Answer) (l : ℕ) (code : List ℕ) (u : ℕ) (b : Progress) → r ≡ B.Other a → b ≡ passed l a → Written cellsOf code u b code x
+  pub whole-other : (a : Reading) (l : ℕ) (code : List ℕ) (u : ℕ) (b : Progress) → r ≡ B.Other a → b ≡ passed l a → Written cellsOf code u b code x
   whole-other a l code u b q e = other-written a l code u b (refuses a q) e
 
-  pub spent-other : (a : Answer) (l more most u at : ℕ) (b : Progress) → r ≡ B.Other a → b ≡ passed l a → Spent more most u at b
+  pub spent-other : (a : Reading) (l more most u at : ℕ) (b : Progress) → r ≡ B.Other a → b ≡ passed l a → Spent more most u at b
   spent-other a l more most u at b q e = other-spent a l more most u at b (refuses a q) e
 
   module _ (negative : Bool) (e m : ℕ) (q : r ≡ B.Operation negative e m) (code : List ℕ) (u : ℕ) (r₁ : Progress) (m₁ : List ℕ)
@@ -86,7 +86,7 @@ module _ (s : List ℕ) (c : Scope) (d n : ℕ) (r : Begun) (x : Read (Counted E
     pub whole-first : (k p : ℕ) → r₁ ≡ Refused k p → Written cellsOf code u r₁ m₁ x
     whole-first k p i = written-refused cellsOf code u r₁ m₁ x k p (way ∙ operands-refused s (d - 1) (expr (d - 1) s c) m e negative k p (written-not cellsOf code (u + 1) r₁ m₁ _ k p w₁ i)) i
 
-    module _ (a v l : ℕ) (i : r₁ ≡ Done a v l) (f : Found) (j : f ≡ loneEnd negative (tokenAt s a)) where
+    module _ (a v l : ℕ) (i : r₁ ≡ Done a v l) (f : Place) (j : f ≡ loneEnd negative (tokenAt s a)) where
       pub whole-lone : (k : ℕ) (m₂ : List ℕ) → f ≡ F.At k → m₂ ≡ set m₁ u 0 → Written cellsOf code u (Done k v l) m₂ x
       whole-lone k m₂ o p =
           let g = written-got cellsOf code (u + 1) r₁ m₁ _ a v l w₁ i in
@@ -115,7 +115,7 @@ module _ (s : List ℕ) (c : Scope) (d n : ℕ) (r : Begun) (x : Read (Counted E
 
 -- ---- an expression of its own
 
-abbrev alone : Progress → Answer
+abbrev alone : Progress → Reading
 alone (Done a v l) = A.Done a v
 alone (Refused k p) = A.Refused k p
 

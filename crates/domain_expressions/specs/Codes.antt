@@ -6,14 +6,14 @@ use mathlib.Core.Bool.{Bool, cond}
 use lib.ListN.{length, set}
 use lib.Seq.{sets}
 use Rattle.text_tokens.specs.declared.tokens.Token.{Token}
-use Rattle.text_words.specs.declared.spelling.Found.{Found}
-use Rattle.text_words.specs.declared.spelling.Found.the-variants.{At, Nothing}
+use Rattle.text_words.specs.declared.spelling.Place.{Place}
+use Rattle.text_words.specs.declared.spelling.Place.the-variants.{At, Nothing}
 use Rattle.domain_meaning.specs.Read.{Read, got, refused}
 use Rattle.domain_meaning.specs.Due.{onClose, afterOf}
 use Rattle.domain_meaning.specs.Terms.{Ref, Expr, number, value, minus, difference, plus, Counted}
 use Rattle.domain_literals.specs.Literal.{numberCells}
-use Rattle.domain_due.specs.declared.Answer.{Answer}
-use Rattle.domain_due.specs.declared.Answer.the-variants as A
+use Rattle.domain_due.specs.declared.Reading.{Reading}
+use Rattle.domain_due.specs.declared.Reading.the-variants as A
 use Rattle.domain_terms.specs.Cells.{argCells}
 use Rattle.domain_expressions.specs.declared.leaves.Progress.{Progress}
 use Rattle.domain_expressions.specs.declared.leaves.Progress.the-variants.{Done, Refused}
@@ -42,12 +42,12 @@ Spent more n used from (Done a v l) = (from < a) × (a ≤ n) × (used ≤ v) ×
 Spent more n used from (Refused k p) = Unit {0}
 
 -- of an expression of its own, at most one cell more was written than bytes were read
-unfoldable pub Over : ℕ → ℕ → Answer → Type 0
+unfoldable pub Over : ℕ → ℕ → Reading → Type 0
 Over used from (A.Done a v) = (used ≤ v) × (v + from ≤ used + a + 1)
 Over used from (A.Refused k p) = Unit {0}
 
 -- an answer as it is passed on, where so many may follow
-abbrev pub passed : ℕ → Answer → Progress
+abbrev pub passed : ℕ → Reading → Progress
 passed left (A.Done n v) = Done n v left
 passed left (A.Refused k p) = Refused k p
 
@@ -57,5 +57,5 @@ Joined code used free left negative r code′ (got p n) = (r ≡ Done n free lef
 Joined code used free left negative r code′ (refused k p) = r ≡ Refused k p
 
 -- where the operands of `-` end behind the first, if it is the only one
-abbrev pub loneEnd : Bool → Token → Found
+abbrev pub loneEnd : Bool → Token → Place
 loneEnd negative t = cond negative (onClose t (λ p. At (afterOf t)) Nothing) Nothing

@@ -1,12 +1,12 @@
 // What an expression is made of besides expressions: functions, and the ends of operands.
 use crate::references;
-use domain_due::Answer;
+use domain_due::Reading;
 use domain_terms::scope;
 use domain_terms::scope::Counts;
 use text_tokens::runs;
 use text_tokens::tokens;
 use text_tokens::tokens::Token;
-use text_words::spelling::Found;
+use text_words::spelling::Place;
 ghost use mathlib.Core.Path.{_≡_};
 ghost use Prim.Native.Nat.{_+_, _-_, _≤_, _<_};
 ghost use mathlib.Core.Bool.{cond};
@@ -25,12 +25,12 @@ pub enum Progress {
 }
 
 // An answer as it is passed on, where so many may follow.
-pub fn progress_of(a: Answer, left: usize) -> Progress
+pub fn progress_of(a: Reading, left: usize) -> Progress
     ensures { λ r. ⌜ r ≡ passed left a ⌝ }
 {
     match a {
-        Answer::Done(n, v) => Progress::Done(n, v, left),
-        Answer::Refused(k, p) => Progress::Refused(k, p),
+        Reading::Done(n, v) => Progress::Done(n, v, left),
+        Reading::Refused(k, p) => Progress::Refused(k, p),
     }
 }
 
@@ -51,7 +51,7 @@ pub fn function_at(
 {
     let n = counts.functions;
     let f = scope::find_in(tables, 4294, 4902, n, runs::part_of(text, p, e));
-    let Found::At(i) = f else {
+    let Place::At(i) = f else {
         return Progress::Refused(8, p);
     };
     if left == 0 {
@@ -64,33 +64,33 @@ pub fn function_at(
 }
 
 // Where the operands of `-` end behind the first, if it is the only one.
-pub fn lone_end(text: &[u8], from: usize, minus: bool) -> Found
+pub fn lone_end(text: &[u8], from: usize, minus: bool) -> Place
     ensures { λ r. ⌜ r ≡ loneEnd minus (tokenAt (now (text .entry)) from) ⌝ }
 {
     if !minus {
-        return Found::Nothing;
+        return Place::Nothing;
     }
     let t = tokens::token_at(text, from);
     let Token::Close(_, n) = t else {
-        return Found::Nothing;
+        return Place::Nothing;
     };
-    Found::At(n)
+    Place::At(n)
 }
 
 // Behind the last operand: a closing bracket.
-pub fn operands_end(text: &[u8], from: usize, d: usize, left: usize) -> Answer
+pub fn operands_end(text: &[u8], from: usize, d: usize, left: usize) -> Reading
     requires { ⌜ from ≤ length (now text) ⌝ }
     ensures { λ r. ⌜ (r ≡ answerOf (operandsEnd (now (text .entry)) d left from)) × Ahead (length (now (text .entry))) from r ⌝ }
 {
     let t = tokens::token_at(text, from);
     if let Token::Close(p, n) = t {
-        return Answer::Done(n, p);
+        return Reading::Done(n, p);
     }
     if let Token::Number(_, p, _) = t {
         if left == 0 {
-            return Answer::Refused(12, p);
+            return Reading::Refused(12, p);
         }
-        return Answer::Refused(3, p);
+        return Reading::Refused(3, p);
     }
     domain_due::refusal(t, d)
 }
@@ -110,7 +110,7 @@ pub fn joined_at(
     ensures { λ r. ⌜ Joined (now (code .entry)) used free left minus r (now (code .exit)) (operandsEnd (now (text .entry)) d left from) × Spent 0 (length (now (text .entry))) free from r ⌝ }
 {
     let a = operands_end(text, from, d, left);
-    let Answer::Done(n, _) = a else {
+    let Reading::Done(n, _) = a else {
         return progress_of(a, left);
     };
     domain_literals::put(code, used, operator_cell(minus));

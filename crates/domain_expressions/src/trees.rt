@@ -1,11 +1,11 @@
 // Expressions: a number, `(f args)`, `+` of two, or `-` of one or two expressions; at most 16 operators and operands.
 use crate::heads;
-use crate::heads::Begun;
+use crate::heads::ExpressionHead;
 use crate::leaves;
 use crate::leaves::Progress;
-use domain_due::Answer;
+use domain_due::Reading;
 use domain_terms::scope::Counts;
-use text_words::spelling::Found;
+use text_words::spelling::Place;
 ghost use mathlib.Core.Path.{_≡_};
 ghost use Prim.Native.Nat.{_+_, _-_, _≤_};
 ghost use lib.ListN.{length};
@@ -31,17 +31,21 @@ pub fn expr_at(
 {
     let b = heads::begun_at(text, from, d, left);
     match b {
-        Begun::Number(z, e, m) => Progress::Done(e, domain_literals::put_number(code, used, z), m),
-        Begun::Function(p, e) => {
+        ExpressionHead::Number(z, e, m) => Progress::Done(
+            e,
+            domain_literals::put_number(code, used, z),
+            m,
+        ),
+        ExpressionHead::Function(p, e) => {
             leaves::function_at(text, p, e, d - 1, tables, counts, code, used, left)
         }
-        Begun::Other(a) => leaves::progress_of(a, left),
-        Begun::Operation(minus, e, m) => {
+        ExpressionHead::Other(a) => leaves::progress_of(a, left),
+        ExpressionHead::Operation(minus, e, m) => {
             let x = expr_at(text, e, d - 1, tables, counts, code, used + 1, m);
             let Progress::Done(after, v, l) = x else {
                 return x;
             };
-            if let Found::At(n) = leaves::lone_end(text, after, minus) {
+            if let Place::At(n) = leaves::lone_end(text, after, minus) {
                 domain_literals::put(code, used, 0);
                 return Progress::Done(n, v, l);
             }
@@ -63,13 +67,13 @@ pub fn expression_at(
     counts: Counts,
     code: &mut [u8],
     used: usize,
-) -> Answer
+) -> Reading
     requires { ⌜ (from ≤ length (now text)) × Scopes (now tables) counts × (used + (length (now text) - from) + 1 ≤ 18446744073709551615) ⌝ }
     ensures { λ r. ⌜ ((c : Scope) → Scoped (now (tables .entry)) counts c → Wrote cellsOf (now (code .entry)) used r (now (code .exit)) (expression (now (text .entry)) d c from)) × Ahead (length (now (text .entry))) from r × Over used from r ⌝ }
 {
     let x = expr_at(text, from, d, tables, counts, code, used, 16);
     match x {
-        Progress::Done(n, v, _) => Answer::Done(n, v),
-        Progress::Refused(k, p) => Answer::Refused(k, p),
+        Progress::Done(n, v, _) => Reading::Done(n, v),
+        Progress::Refused(k, p) => Reading::Refused(k, p),
     }
 }

@@ -5,8 +5,8 @@ use Prim.Native.Nat.{ℕ, zero, suc, _+_, _-_}
 use native.Mathlib.Omega.{arith}
 use lib.ListN.{length, length-append}
 use Rattle.text_words.specs.Fixed.{headOf}
-use Rattle.text_words.specs.declared.fixed.Head.{Head}
-use Rattle.text_words.specs.declared.fixed.Head.the-variants as H
+use Rattle.text_words.specs.declared.fixed.HeadWord.{HeadWord}
+use Rattle.text_words.specs.declared.fixed.HeadWord.the-variants as H
 use Rattle.text_tokens.specs.Runs.{part}
 use Rattle.text_tokens.specs.Tokens.{tokenAt}
 use Rattle.text_tokens.specs.declared.tokens.Word.{Word}
@@ -53,7 +53,7 @@ module _ (s : List ℕ) (c : Scope) where
   counted-first : (p n at : ℕ) (f : ℕ → Reader (Counted Cond)) → ((m i : ℕ) → Fits condSize i 2 (f m i)) → Fits condSize at 2 (andThen (counted p n at) f)
   counted-first p n at f h = then-fits f (counted-fits p n at) (λ m i l k. fits-also (h m i) l (λ a e u. omega arith))
 
-  operated-fits : (d : ℕ) (yes′ : Bool) (n : ℕ) (w : Head) (p at : ℕ) → Fits condSize at 2 (operated s d c yes′ n w p at)
+  operated-fits : (d : ℕ) (yes′ : Bool) (n : ℕ) (w : HeadWord) (p at : ℕ) → Fits condSize at 2 (operated s d c yes′ n w p at)
   operated-fits d yes′ n H.Equal p at = counted-first p n at _ (λ m i. equality-fits d yes′ m i)
   operated-fits d yes′ n H.Less p at = counted-first p n at _ (λ m i. comparison-fits d yes′ less m i)
   operated-fits d yes′ n H.AtMost p at = counted-first p n at _ (λ m i. comparison-fits d yes′ atMost m i)

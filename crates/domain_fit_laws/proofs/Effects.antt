@@ -6,8 +6,8 @@ use Prim.Native.Nat.{ℕ, zero, suc, _+_, _-_}
 use native.Mathlib.Omega.{arith}
 use lib.ListN.{length, length-append}
 use Rattle.text_words.specs.Fixed.{headOf}
-use Rattle.text_words.specs.declared.fixed.Head.{Head}
-use Rattle.text_words.specs.declared.fixed.Head.the-variants as H
+use Rattle.text_words.specs.declared.fixed.HeadWord.{HeadWord}
+use Rattle.text_words.specs.declared.fixed.HeadWord.the-variants as H
 use Rattle.text_tokens.specs.Runs.{part}
 use Rattle.text_tokens.specs.Tokens.{tokenAt}
 use Rattle.text_tokens.specs.declared.tokens.Word.{Word}
@@ -89,7 +89,7 @@ module _ (s : List ℕ) (c : Scope) where
       (λ p a h k. then-fits _ (in-deletion-fits (d - 1) n a) (λ x b l u. then-fits _ (closing-fits s d b) (λ q i v y. fits (omega arith) (omega arith))))
 
   module _ (d : ℕ) (f : ℕ → Reader (Counted (List Effect))) (r : (n at : ℕ) → Fits effectsSize at 0 (f n at)) (n : ℕ) where
-    head-fits : (w : Head) (p e at : ℕ) → Fits effectsSize at 2 (effectHead s d c f n w p e at)
+    head-fits : (w : HeadWord) (p e at : ℕ) → Fits effectsSize at 2 (effectHead s d c f n w p e at)
     head-fits H.And p e at = list-fits s d f r (length s + 1) n at
     head-fits H.Not p e at = deletion-fits d n at
     head-fits H.Assign p e at = change-fits d assign n p at

@@ -11,8 +11,8 @@ use lib.Dec.{leb}
 use lib.ListN.{length, getD}
 use borrow.Author.Tests.{leb-false}
 use Rattle.text_words.specs.Bytes.{kindOf, onStart}
-use Rattle.text_words.specs.declared.fixed.Head.{Head}
-use Rattle.text_words.specs.declared.fixed.Head.the-variants as H
+use Rattle.text_words.specs.declared.fixed.HeadWord.{HeadWord}
+use Rattle.text_words.specs.declared.fixed.HeadWord.the-variants as H
 use Rattle.text_tokens.specs.Runs.{gapEnd}
 use Rattle.text_tokens.specs.Tokens.{isPast, bracketOf, domainRun, endOf, tokenAt}
 use Rattle.text_tokens.specs.declared.tokens.Token.{Token}
@@ -176,7 +176,7 @@ module _ {A : Type 0} {w : A → ℕ} {b m : ℕ} where
   close-ahead (T.Refusal k p) f g n h o = o
   close-ahead (T.End p) f g n h o = o
 
-  pub name-fits : (h : Head) (x y o : Reader A) (n : ℕ) → Fits w b m (x n) → Fits w b m (y n) → Fits w b m (o n) → Fits w b m (onName h x y o n)
+  pub name-fits : (h : HeadWord) (x y o : Reader A) (n : ℕ) → Fits w b m (x n) → Fits w b m (y n) → Fits w b m (o n) → Fits w b m (onName h x y o n)
   name-fits H.And x y o n h i j = h
   name-fits H.Not x y o n h i j = i
   name-fits H.Equal x y o n h i j = j

@@ -9,8 +9,8 @@ use lib.ListN.{length}
 use Rattle.text_words.specs.Bytes.{bytes}
 use Rattle.text_words.specs.Spelling.{sameWord}
 use Rattle.text_words.specs.Fixed.{isReserved}
-use Rattle.text_words.specs.declared.spelling.Found.{Found}
-use Rattle.text_words.specs.declared.spelling.Found.the-variants as F
+use Rattle.text_words.specs.declared.spelling.Place.{Place}
+use Rattle.text_words.specs.declared.spelling.Place.the-variants as F
 use Rattle.text_tokens.specs.Runs.{part}
 use Rattle.text_tokens.specs.Tokens.{tokenAt, spotAt}
 use Rattle.text_tokens.specs.declared.tokens.Token.{Token}
@@ -45,7 +45,7 @@ type-named-ahead : (ts : Table) (b p : ℕ) (w : List ℕ) (at : ℕ) → Ahead 
 unfolding typeNamed
 type-named-ahead ts b p w at = go (lookup ts w)
   where
-    go : (f : Found) → Ahead at (onFound f (λ i. cond (ltb i b) (give i) (refuse 8 p)) (refuse 8 p) at)
+    go : (f : Place) → Ahead at (onFound f (λ i. cond (ltb i b) (give i) (refuse 8 p)) (refuse 8 p) at)
     go (F.At i) = either-fits (ltb i b) _ _ at (ahead at at (omega arith)) stops
     go F.Nothing = stops
 

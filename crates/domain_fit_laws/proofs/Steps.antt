@@ -7,8 +7,8 @@ use lib.Dec.{eqb, ltb}
 use lib.ListN.{length}
 use Rattle.text_words.specs.Spelling.{sameWord}
 use Rattle.text_words.specs.Fixed.{isReserved}
-use Rattle.text_words.specs.declared.spelling.Found.{Found}
-use Rattle.text_words.specs.declared.spelling.Found.the-variants as F
+use Rattle.text_words.specs.declared.spelling.Place.{Place}
+use Rattle.text_words.specs.declared.spelling.Place.the-variants as F
 use Rattle.text_tokens.specs.Runs.{part}
 use Rattle.domain_meaning.specs.Read.{Reader, give, refuse}
 use Rattle.domain_meaning.specs.Tables.{Table, lookup, onFound, fresh, declared}
@@ -45,7 +45,7 @@ pub declared-fits : (t : Table) (p : ℕ) (w : List ℕ) (at : ℕ) → Fits (λ
 unfolding declared
 declared-fits t p w at = go (lookup t w)
   where
-    go : (f : Found) → Fits (λ _. 0) at 0 (onFound f (λ i. give i) (refuse 8 p) at)
+    go : (f : Place) → Fits (λ _. 0) at 0 (onFound f (λ i. give i) (refuse 8 p) at)
     go (F.At i) = fits {n = at} (omega arith) (omega arith)
     go F.Nothing = stops
 
@@ -56,7 +56,7 @@ fresh-fits max t p w at = go (lookup t w)
     room : Reader ℕ
     room = cond (ltb (length t) max) (give p) (refuse 12 p)
 
-    go : (f : Found) → Fits (λ _. 0) at 0 (onFound f (λ i. refuse 7 p) room at)
+    go : (f : Place) → Fits (λ _. 0) at 0 (onFound f (λ i. refuse 7 p) room at)
     go (F.At i) = stops
     go F.Nothing = either-fits (ltb (length t) max) _ _ at (fits (omega arith) (omega arith)) stops
 

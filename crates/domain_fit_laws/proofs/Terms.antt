@@ -6,8 +6,8 @@ use native.Mathlib.Omega.{arith}
 use lib.Dec.{eqb}
 use lib.ListN.{length, length-append, length-map}
 use Rattle.text_words.specs.Fixed.{headOf}
-use Rattle.text_words.specs.declared.fixed.Head.{Head}
-use Rattle.text_words.specs.declared.fixed.Head.the-variants as H
+use Rattle.text_words.specs.declared.fixed.HeadWord.{HeadWord}
+use Rattle.text_words.specs.declared.fixed.HeadWord.the-variants as H
 use Rattle.text_tokens.specs.Runs.{part}
 use Rattle.text_tokens.specs.Tokens.{tokenAt}
 use Rattle.text_tokens.specs.declared.tokens.Word.{Word}
@@ -89,7 +89,7 @@ module _ (s : List ℕ) (c : Scope) (d : ℕ) (f : ℕ → Reader (Counted Expr)
       (then-fits _ (r (a .left) i)
       (λ b j l m. then-fits _ (end-fits s d (b .left) j) (λ q e u v. fits (omega arith) (omega (arith, length-append (cellsOf (a .tree)) (cellsOf (b .tree))))))))
 
-  operation-fits : (n : ℕ) (w : Head) (p at : ℕ) → Fits exprSize at 2 (operation s d f n w p at)
+  operation-fits : (n : ℕ) (w : HeadWord) (p at : ℕ) → Fits exprSize at 2 (operation s d f n w p at)
   operation-fits n H.Plus p at = then-fits _ (counted-fits p n at) (λ m i h k. fits-also (plus-fits m i) h (λ a e l. omega arith))
   operation-fits n H.Minus p at = then-fits _ (counted-fits p n at) (λ m i h k. fits-also (minus-fits m i) h (λ a e l. omega arith))
   operation-fits n H.And p at = stops

@@ -10,7 +10,7 @@ use borrow.Author.Tests.{leb-true, ltb-true, lt-ltb}
 use Rattle.text_words.specs.Bytes.{bytes, lowerOf, inRun}
 use Rattle.text_words.specs.Spelling.{sameWord, nameByte, nameBytes, isName, placeFrom, wordsOf, wordIn, isAt}
 use Rattle.text_words.specs.Fixed.{isListed, isOperator}
-use Rattle.text_words.specs.declared.spelling.Found.the-variants.{Nothing}
+use Rattle.text_words.specs.declared.spelling.Place.the-variants.{Nothing}
 use Rattle.text_words.proofs.Steps.{at-cons}
 use Rattle.text_tokens.specs.Runs.{part, run, runEnd}
 use Rattle.text_tokens.specs.Numbers.{leading, restOf, numberFrom, numberOf, decimal}

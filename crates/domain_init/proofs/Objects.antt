@@ -4,8 +4,8 @@ use mathlib.Core.List.{List, [], _∷_}
 use mathlib.Core.Bool.{Bool, true, false, cond}
 use Prim.Native.Nat.{ℕ, suc}
 use lib.ListN.{length}
-use Rattle.text_words.specs.declared.spelling.Found.{Found}
-use Rattle.text_words.specs.declared.spelling.Found.the-variants as F
+use Rattle.text_words.specs.declared.spelling.Place.{Place}
+use Rattle.text_words.specs.declared.spelling.Place.the-variants as F
 use Rattle.text_tokens.specs.Runs.{part}
 use Rattle.text_tokens.specs.Tokens.{tokenAt}
 use Rattle.text_tokens.specs.declared.tokens.Token.{Token}
@@ -54,7 +54,7 @@ module _ (s : List ℕ) (d : ℕ) (c : Scope) (out : c .inAction ≡ false) wher
   unfolding Every declared
   word-object W.Name p e at = go (lookup (c .objects) (part s p e)) refl
     where
-      go : (f : Found) → lookup (c .objects) (part s p e) ≡ f → Every Whole (andThen (onFound f (λ i. give i) (refuse 8 p) at) (λ i. give (objectAt c p i)))
+      go : (f : Place) → lookup (c .objects) (part s p e) ≡ f → Every Whole (andThen (onFound f (λ i. give i) (refuse 8 p) at) (λ i. give (objectAt c p i)))
       go (F.At i) q = found-below (c .objects) (part s p e) i q
       go F.Nothing q = tt
   word-object W.Variable p e at = rw out tt

@@ -1,7 +1,7 @@
 // What init holds: facts, and numbers behind `=`.
 use crate::grounds;
 use crate::values;
-use domain_due::Answer;
+use domain_due::Reading;
 use domain_terms::scope::Counts;
 use text_tokens::tokens;
 use text_tokens::tokens::Token;
@@ -29,45 +29,45 @@ fn fact_at(
     tables: &[u8],
     counts: Counts,
     facts: &mut [u8],
-) -> Answer
+) -> Reading
     requires { ⌜ (e ≤ length (now text)) × Scopes (now tables) counts ⌝ }
     ensures { λ r. ⌜ ((c : Scope) (x : Init) (numbers : List ℤ) → Scoped (now (tables .entry)) counts c → c .inAction ≡ false → Stands (now (facts .entry)) numbers x → Took r (now (facts .exit)) numbers (factOf (now (text .entry)) c x p e e)) × Ahead (length (now (text .entry))) e r ⌝ }
 {
     let n = counts.predicates;
     let a = grounds::ground_at(text, p, e, 13, tables, counts, 3078, 4294, n);
-    let Answer::Done(after, i) = a else {
+    let Reading::Done(after, i) = a else {
         return a;
     };
     domain_literals::put(facts, i, 1);
-    Answer::Done(after, 0)
+    Reading::Done(after, 0)
 }
 
 // Behind `=`: the index of the number that is given, if it is not given yet.
-fn target_at(text: &[u8], from: usize, tables: &[u8], counts: Counts, numbers: &[i64]) -> Answer
+fn target_at(text: &[u8], from: usize, tables: &[u8], counts: Counts, numbers: &[i64]) -> Reading
     requires { ⌜ (from ≤ length (now text)) × Scopes (now tables) counts ⌝ }
     ensures { λ r. ⌜ ((c : Scope) (x : Init) (facts : List ℕ) → Scoped (now (tables .entry)) counts c → c .inAction ≡ false → sumsFit c ≡ true → Stands facts (now (numbers .entry)) x → r ≡ answerOf (targetOf (now (text .entry)) c x from)) × Ahead (length (now (text .entry))) from r ⌝ }
 {
     let o = domain_due::opening(text, from, 13);
-    let Answer::Done(inside, _) = o else {
+    let Reading::Done(inside, _) = o else {
         return o;
     };
     let w = domain_due::any_name(text, inside, 12);
-    let Answer::Done(e, p) = w else {
+    let Reading::Done(e, p) = w else {
         return w;
     };
     let n = counts.functions;
     let a = grounds::ground_at(text, p, e, 12, tables, counts, 4294, 4902, n);
-    let Answer::Done(_, i) = a else {
+    let Reading::Done(_, i) = a else {
         return a;
     };
     if values::is_defined(numbers, i) {
-        return Answer::Refused(7, p);
+        return Reading::Refused(7, p);
     }
     a
 }
 
 // The value of number i, and the closing bracket.
-fn value_at(text: &[u8], from: usize, i: usize, numbers: &mut [i64]) -> Answer
+fn value_at(text: &[u8], from: usize, i: usize, numbers: &mut [i64]) -> Reading
     requires { ⌜ from ≤ length (now text) ⌝ }
     ensures { λ r. ⌜ ((x : Init) (facts : List ℕ) → Stands facts (now (numbers .entry)) x → Took r facts (now (numbers .exit)) (valueFor (now (text .entry)) x i from)) × Ahead (length (now (text .entry))) from r ⌝ }
 {
@@ -76,20 +76,26 @@ fn value_at(text: &[u8], from: usize, i: usize, numbers: &mut [i64]) -> Answer
         return domain_due::refusal(t, 13);
     };
     let a = domain_due::closing(text, e, 13);
-    let Answer::Done(after, _) = a else {
+    let Reading::Done(after, _) = a else {
         return a;
     };
     values::put(numbers, i, z);
-    Answer::Done(after, 0)
+    Reading::Done(after, 0)
 }
 
 // Behind `=`: a number with its value, to the closing bracket.
-fn number_at(text: &[u8], from: usize, tables: &[u8], counts: Counts, numbers: &mut [i64]) -> Answer
+fn number_at(
+    text: &[u8],
+    from: usize,
+    tables: &[u8],
+    counts: Counts,
+    numbers: &mut [i64],
+) -> Reading
     requires { ⌜ (from ≤ length (now text)) × Scopes (now tables) counts ⌝ }
     ensures { λ r. ⌜ ((c : Scope) (x : Init) (facts : List ℕ) → Scoped (now (tables .entry)) counts c → c .inAction ≡ false → sumsFit c ≡ true → Stands facts (now (numbers .entry)) x → Took r facts (now (numbers .exit)) (valueOf (now (text .entry)) c x from)) × Ahead (length (now (text .entry))) from r ⌝ }
 {
     let a = target_at(text, from, tables, counts, numbers);
-    let Answer::Done(after, i) = a else {
+    let Reading::Done(after, i) = a else {
         return a;
     };
     value_at(text, after, i, numbers)
@@ -103,12 +109,12 @@ fn entry_at(
     counts: Counts,
     facts: &mut [u8],
     numbers: &mut [i64],
-) -> Answer
+) -> Reading
     requires { ⌜ (from ≤ length (now text)) × Scopes (now tables) counts ⌝ }
     ensures { λ r. ⌜ ((c : Scope) (x : Init) → Scoped (now (tables .entry)) counts c → c .inAction ≡ false → sumsFit c ≡ true → Stands (now (facts .entry)) (now (numbers .entry)) x → Took r (now (facts .exit)) (now (numbers .exit)) (entryOf (now (text .entry)) c x from)) × Ahead (length (now (text .entry))) from r ⌝ }
 {
     let o = domain_due::opening(text, from, 14);
-    let Answer::Done(inside, _) = o else {
+    let Reading::Done(inside, _) = o else {
         return o;
     };
     let t = tokens::token_at(text, inside);
@@ -121,10 +127,10 @@ fn entry_at(
             if spelling::same_word(tokens::word_of(text, t), b"=") {
                 return number_at(text, e, tables, counts, numbers);
             }
-            Answer::Refused(3, p)
+            Reading::Refused(3, p)
         }
-        Word::Variable => Answer::Refused(3, p),
-        Word::Keyword => Answer::Refused(3, p),
+        Word::Variable => Reading::Refused(3, p),
+        Word::Keyword => Reading::Refused(3, p),
     }
 }
 
@@ -136,7 +142,7 @@ pub fn init_to(
     counts: Counts,
     facts: &mut [u8],
     numbers: &mut [i64],
-) -> Answer
+) -> Reading
     requires { ⌜ (from ≤ length (now text)) × Scopes (now tables) counts × (now facts ≡ noFacts) × (now numbers ≡ noNumbers) ⌝ }
     ensures { λ r. ⌜ ((c : Scope) (k : ℕ) → Scoped (now (tables .entry)) counts c → c .inAction ≡ false → sumsFit c ≡ true → length (now (text .entry)) - from < k → Begins r (now (facts .exit)) (now (numbers .exit)) (initTo k (now (text .entry)) c nothing from)) × Ahead (length (now (text .entry))) from r ⌝ }
 {
@@ -144,10 +150,10 @@ pub fn init_to(
     loop {
         let t = tokens::token_at(text, at);
         if let Token::Close(_, next) = t {
-            return Answer::Done(next, 0);
+            return Reading::Done(next, 0);
         }
         let a = entry_at(text, at, tables, counts, facts, numbers);
-        let Answer::Done(after, _) = a else {
+        let Reading::Done(after, _) = a else {
             return a;
         };
         at = after;

@@ -1,10 +1,10 @@
 // Ground facts and numbers: a name with objects, and its index.
-use domain_due::Answer;
+use domain_due::Reading;
 use domain_terms::arguments;
 use domain_terms::scope;
 use domain_terms::scope::Counts;
 use text_tokens::runs;
-use text_words::spelling::Found;
+use text_words::spelling::Place;
 ghost use mathlib.Core.Path.{_≡_};
 ghost use Prim.Native.Nat.{ℕ, _≤_, _<_};
 ghost use mathlib.Core.Bool.{false};
@@ -42,18 +42,18 @@ fn index_at(
     off: usize,
     n: usize,
     i: usize,
-) -> Answer
+) -> Reading
     requires { ⌜ (from ≤ length (now text)) × Scopes (now tables) counts × Signatures (now tables) off n × (i < n) ⌝ }
     ensures { λ r. ⌜ ((c : Scope) (m to : ℕ) (t : Table) → Scoped (now (tables .entry)) counts c → c .inAction ≡ false → Holds m (part (now (tables .entry)) off to) n t → AllSigned t → r ≡ answerOf (groundBehind (now (text .entry)) d c t i from)) × Ahead (length (now (text .entry))) from r ⌝ }
 {
     let objects = counts.objects;
     let mut cells = [0u8; 4];
     let a = arguments::arguments_at(text, from, d, tables, counts, off, n, i, &mut cells, 0);
-    let Answer::Done(after, k) = a else {
+    let Reading::Done(after, k) = a else {
         return a;
     };
     let low = numeral_of(&cells, k, objects);
-    Answer::Done(
+    Reading::Done(
         after,
         domain_indexes::first_of(tables, off, n, objects, i) + low,
     )
@@ -70,13 +70,13 @@ pub fn ground_at(
     off: usize,
     to: usize,
     n: usize,
-) -> Answer
+) -> Reading
     requires { ⌜ (e ≤ length (now text)) × Scopes (now tables) counts × Listed (now tables) off to n ⌝ }
     ensures { λ r. ⌜ ((c : Scope) (m : ℕ) (t : Table) → Scoped (now (tables .entry)) counts c → c .inAction ≡ false → Holds m (part (now (tables .entry)) off to) n t → AllSigned t → r ≡ answerOf (groundOf (now (text .entry)) d c t p e e)) × Ahead (length (now (text .entry))) e r ⌝ }
 {
     let f = scope::find_in(tables, off, to, n, runs::part_of(text, p, e));
-    let Found::At(i) = f else {
-        return Answer::Refused(8, p);
+    let Place::At(i) = f else {
+        return Reading::Refused(8, p);
     };
     index_at(text, e, d, tables, counts, off, n, i)
 }

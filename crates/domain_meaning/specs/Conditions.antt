@@ -4,8 +4,8 @@ use mathlib.Core.List.{List}
 use mathlib.Core.Bool.{Bool, true, false}
 use lib.ListN.{length}
 use Rattle.text_words.specs.Fixed.{headOf}
-use Rattle.text_words.specs.declared.fixed.Head.{Head}
-use Rattle.text_words.specs.declared.fixed.Head.the-variants as H
+use Rattle.text_words.specs.declared.fixed.HeadWord.{HeadWord}
+use Rattle.text_words.specs.declared.fixed.HeadWord.the-variants as H
 use Rattle.text_tokens.specs.Runs.{part}
 use Rattle.text_tokens.specs.declared.tokens.Word.{Word}
 use Rattle.text_tokens.specs.declared.tokens.Word.the-variants as W
@@ -64,7 +64,7 @@ equality s d c yes′ m = do
   onWord t (λ k p e. sameObjects s d c yes′ m) (comparison s d c yes′ equal m)
 
 -- a condition that begins with an operator at p
-abbrev pub operated : List ℕ → ℕ → Scope → Bool → ℕ → Head → ℕ → Reader (Counted Cond)
+abbrev pub operated : List ℕ → ℕ → Scope → Bool → ℕ → HeadWord → ℕ → Reader (Counted Cond)
 operated s d c yes′ n H.Equal p = do
   m ← counted p n
   equality s d c yes′ m

@@ -4,8 +4,8 @@ use mathlib.Core.List.{List, [], _∷_, _++_}
 use mathlib.Core.Bool.{Bool, true, false}
 use lib.ListN.{length}
 use Rattle.text_words.specs.Fixed.{headOf}
-use Rattle.text_words.specs.declared.fixed.Head.{Head}
-use Rattle.text_words.specs.declared.fixed.Head.the-variants as H
+use Rattle.text_words.specs.declared.fixed.HeadWord.{HeadWord}
+use Rattle.text_words.specs.declared.fixed.HeadWord.the-variants as H
 use Rattle.text_tokens.specs.Runs.{part}
 use Rattle.text_tokens.specs.declared.tokens.Word.{Word}
 use Rattle.text_tokens.specs.declared.tokens.Word.the-variants as W
@@ -83,7 +83,7 @@ effectsTo (suc k) s d f n = do
         xs ← effectsTo k s d f (x .left)
         give (counts (x .tree ++ xs .tree) (xs .left)))
 
-abbrev pub effectHead : List ℕ → ℕ → Scope → (ℕ → Reader (Counted (List Effect))) → ℕ → Head → ℕ → ℕ → Reader (Counted (List Effect))
+abbrev pub effectHead : List ℕ → ℕ → Scope → (ℕ → Reader (Counted (List Effect))) → ℕ → HeadWord → ℕ → ℕ → Reader (Counted (List Effect))
 effectHead s d c f n H.And p e = effectsTo (length s + 1) s d f n
 effectHead s d c f n H.Not p e = deletion s d c n
 effectHead s d c f n H.Assign p e = changeAt s d c assign n p

@@ -5,8 +5,8 @@ use mathlib.Core.Bool.{Bool, cond, _||_}
 use lib.ListN.{length, getD, drop}
 use lib.Dec.{eqb, ltb}
 use Rattle.text_words.specs.Spelling.{placeFrom}
-use Rattle.text_words.specs.declared.spelling.Found.{Found}
-use Rattle.text_words.specs.declared.spelling.Found.the-variants.{At, Nothing}
+use Rattle.text_words.specs.declared.spelling.Place.{Place}
+use Rattle.text_words.specs.declared.spelling.Place.the-variants.{At, Nothing}
 use Rattle.domain_meaning.specs.Read.{Reader, refuse, give}
 
 -- a declared name, and the numbers that are kept with it: of a type its parent, of an object or a variable its type,
@@ -36,10 +36,10 @@ abbrev pub wantedOf : Entry → List ℕ
 wantedOf e = drop 1 (infoOf e)
 
 -- where a name first stands in a table
-unfoldable pub lookup : Table → List ℕ → Found
+unfoldable pub lookup : Table → List ℕ → Place
 lookup t w = placeFrom 0 (map nameOf t) w
 
-abbrev pub onFound : {A : Type 0} → Found → (ℕ → A) → A → A
+abbrev pub onFound : {A : Type 0} → Place → (ℕ → A) → A → A
 onFound (At i) f n = f i
 onFound Nothing f n = n
 

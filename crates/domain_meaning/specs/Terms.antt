@@ -6,8 +6,8 @@ use lib.IntN.{ℤ}
 use lib.Dec.{eqb}
 use lib.ListN.{length}
 use Rattle.text_words.specs.Fixed.{headOf}
-use Rattle.text_words.specs.declared.fixed.Head.{Head}
-use Rattle.text_words.specs.declared.fixed.Head.the-variants as H
+use Rattle.text_words.specs.declared.fixed.HeadWord.{HeadWord}
+use Rattle.text_words.specs.declared.fixed.HeadWord.the-variants as H
 use Rattle.text_tokens.specs.Runs.{part}
 use Rattle.text_tokens.specs.declared.tokens.Token.{Token}
 use Rattle.text_tokens.specs.declared.tokens.Word.{Word}
@@ -163,7 +163,7 @@ minusOf s d f n = do
         give (counts (difference (a .tree) (b .tree)) (b .left)))
 
 -- what to do with the heads `and` and `not`, and with any other
-abbrev pub onName : {A : Type 0} → Head → A → A → A → A
+abbrev pub onName : {A : Type 0} → HeadWord → A → A → A → A
 onName H.And a n o = a
 onName H.Not a n o = n
 onName H.Equal a n o = o
@@ -178,7 +178,7 @@ onName H.Increase a n o = o
 onName H.Decrease a n o = o
 onName H.Other a n o = o
 
-abbrev pub operation : List ℕ → ℕ → (ℕ → Reader (Counted Expr)) → ℕ → Head → ℕ → Reader (Counted Expr)
+abbrev pub operation : List ℕ → ℕ → (ℕ → Reader (Counted Expr)) → ℕ → HeadWord → ℕ → Reader (Counted Expr)
 operation s d f n H.Plus p = do
   m ← counted p n
   plusOf s d f m

@@ -12,8 +12,8 @@ use Rattle.domain_meaning.specs.Due.{Name}
 use Rattle.domain_meaning.specs.Lists.{declarations}
 use Rattle.domain_meaning.specs.Domain.{Opened, opened, other, onOpened, Vocabulary, headingOf, beginsWith, flagsSection, typesSection, constantsSection, declaredSection, vocabulary}
 use Rattle.domain_due.specs.Answers.{answerOf}
-use Rattle.domain_due.specs.declared.Answer.{Answer}
-use Rattle.domain_due.specs.declared.Answer.the-variants as A
+use Rattle.domain_due.specs.declared.Reading.{Reading}
+use Rattle.domain_due.specs.declared.Reading.the-variants as A
 use Rattle.domain_due.proofs.Dues.{answer-refused}
 use Rattle.domain_sections.specs.Openings.{titledOf, TitledIn}
 use Rattle.domain_sections.specs.declared.Titled.{Titled}
@@ -25,8 +25,8 @@ use Rattle.domain_typed_lists.proofs.Outcomes.{As, outcome-refused}
 use Rattle.domain_terms.specs.Scoped.{AllSigned}
 use Rattle.domain_terms.proofs.Signing.{declarations-signed}
 use Rattle.domain_preamble.specs.Beginning.{begunOf, Listed, Declares}
-use Rattle.domain_preamble.specs.declared.Begun.{Begun}
-use Rattle.domain_preamble.specs.declared.Begun.the-variants.{Done, Refused}
+use Rattle.domain_preamble.specs.declared.Preamble.{Preamble}
+use Rattle.domain_preamble.specs.declared.Preamble.the-variants.{Done, Refused}
 use Rattle.domain_preamble.proofs.Headed.{then-got}
 
 -- ---- the heading, and the flags
@@ -59,7 +59,7 @@ pub untitled : (s tables : List ℕ) (t : Titled) (k i : ℕ) → t ≡ titledOf
 unfolding vocabulary Declares
 untitled s tables t k i g q = rw (untitled-by (headingOf s (bytes "domain") 0) k i (sym g ∙ q))
 
-pub flags-refused : (s tables : List ℕ) (t : Titled) (a p e : ℕ) (r : Answer) (u : Begun) (k i : ℕ) → t ≡ titledOf (headingOf s (bytes "domain") 0) → t ≡ T.At a p e
+pub flags-refused : (s tables : List ℕ) (t : Titled) (a p e : ℕ) (r : Reading) (u : Preamble) (k i : ℕ) → t ≡ titledOf (headingOf s (bytes "domain") 0) → t ≡ T.At a p e
     → r ≡ answerOf (flagsSection s a) → r ≡ A.Refused k i → u ≡ begunOf r → Declares s u tables (vocabulary s 0)
 unfolding vocabulary Declares
 flags-refused s tables t a p e r u k i g h f q b =
@@ -68,7 +68,7 @@ flags-refused s tables t a p e r u k i g h f q b =
 
 -- ---- where a section that may be missing ends
 
-pub onwards-done : (n at a v : ℕ) (r : Answer) → r ≡ A.Done a v → Onwards n at r → (at ≤ a) × (a ≤ n)
+pub onwards-done : (n at a v : ℕ) (r : Reading) → r ≡ A.Done a v → Onwards n at r → (at ≤ a) × (a ≤ n)
 unfolding Onwards
 onwards-done n at a v r q h = rw q at h
 
@@ -90,7 +90,7 @@ held : (m : ℕ) (rows : List ℕ) (a n : ℕ) (x : Read Table) (t : As m rows a
 held m rows a n x t = rw (t .holds .count) at (t .holds)
 
 module _ (s : List ℕ) (h : Name) (a v from : ℕ) (g : headingOf s (bytes "domain") 0 ≡ got h a) (x1 : flagsSection s a ≡ got v from) (p e : ℕ) (ts os ps fs : List ℕ) where
-  module _ (r : Answer) (u : Begun) (k i : ℕ) (q : r ≡ A.Refused k i) (b : u ≡ begunOf r) where
+  module _ (r : Reading) (u : Preamble) (k i : ℕ) (q : r ≡ A.Refused k i) (b : u ≡ begunOf r) where
     stops : (x : Read Vocabulary) → x ≡ refused k i → Listed (length s) h from p e u ts os ps fs x
     unfolding Listed
     stops x z = rw z (b ∙ ap begunOf q)

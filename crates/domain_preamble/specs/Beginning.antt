@@ -8,16 +8,16 @@ use Rattle.text_tokens.specs.Runs.{part}
 use Rattle.domain_meaning.specs.Read.{Read, got, refused}
 use Rattle.domain_meaning.specs.Due.{Name}
 use Rattle.domain_meaning.specs.Domain.{Vocabulary, scopeIn}
-use Rattle.domain_due.specs.declared.Answer.{Answer}
-use Rattle.domain_due.specs.declared.Answer.the-variants as A
+use Rattle.domain_due.specs.declared.Reading.{Reading}
+use Rattle.domain_due.specs.declared.Reading.the-variants as A
 use Rattle.domain_rows.specs.Held.{Holds}
 use Rattle.domain_terms.specs.Scoped.{AllSigned, Scoped}
 use Rattle.domain_terms.specs.declared.scope.Counts.{Counts}
-use Rattle.domain_preamble.specs.declared.Begun.{Begun}
-use Rattle.domain_preamble.specs.declared.Begun.the-variants.{Done, Refused}
+use Rattle.domain_preamble.specs.declared.Preamble.{Preamble}
+use Rattle.domain_preamble.specs.declared.Preamble.the-variants.{Done, Refused}
 
 -- a refusal, and 0 where there is none
-abbrev pub begunOf : Answer → Begun
+abbrev pub begunOf : Reading → Preamble
 begunOf (A.Done a v) = Refused 0 0
 begunOf (A.Refused k p) = Refused k p
 
@@ -26,7 +26,7 @@ abbrev pub countsOf : Vocabulary → Counts
 countsOf v = record { types = length (v .types); objects = length (v .constants); predicates = length (v .predicates); functions = length (v .functions); variables = 0; in_action = false }
 
 -- four tables of their own hold what is declared from `from` on, in a domain of the name h, which stands from p to e
-pub record Lists (len : ℕ) (h : Name) (from p e : ℕ) (r : Begun) (ts os ps fs : List ℕ) (v : Vocabulary) (n : ℕ) : Type 0 where
+pub record Lists (len : ℕ) (h : Name) (from p e : ℕ) (r : Preamble) (ts os ps fs : List ℕ) (v : Vocabulary) (n : ℕ) : Type 0 where
   pub is : r ≡ Done n p e (countsOf v)
   pub name : v .name ≡ h .word
   pub types : Holds 17 ts (length (v .types)) (v .types)
@@ -38,12 +38,12 @@ pub record Lists (len : ℕ) (h : Name) (from p e : ℕ) (r : Begun) (ts os ps f
   pub onwards : from ≤ n
   pub within : n ≤ len
 
-unfoldable pub Listed : ℕ → Name → ℕ → ℕ → ℕ → Begun → List ℕ → List ℕ → List ℕ → List ℕ → Read Vocabulary → Type 0
+unfoldable pub Listed : ℕ → Name → ℕ → ℕ → ℕ → Preamble → List ℕ → List ℕ → List ℕ → List ℕ → Read Vocabulary → Type 0
 Listed len h from p e r ts os ps fs (got v n) = Lists len h from p e r ts os ps fs v n
 Listed len h from p e r ts os ps fs (refused k q) = r ≡ Refused k q
 
 -- the text s was read up to n: its name stands in it, and the tables are those of the scope in which its actions begin
-pub record Declared (s : List ℕ) (r : Begun) (tables : List ℕ) (v : Vocabulary) (n : ℕ) : Type 0 where
+pub record Declared (s : List ℕ) (r : Preamble) (tables : List ℕ) (v : Vocabulary) (n : ℕ) : Type 0 where
   pub from : ℕ
   pub to : ℕ
   pub is : r ≡ Done n from to (countsOf v)
@@ -54,6 +54,6 @@ pub record Declared (s : List ℕ) (r : Begun) (tables : List ℕ) (v : Vocabula
   pub past : 6 ≤ n
   pub within : n ≤ length s
 
-unfoldable pub Declares : List ℕ → Begun → List ℕ → Read Vocabulary → Type 0
+unfoldable pub Declares : List ℕ → Preamble → List ℕ → Read Vocabulary → Type 0
 Declares s r tables (got v n) = Declared s r tables v n
 Declares s r tables (refused k p) = r ≡ Refused k p

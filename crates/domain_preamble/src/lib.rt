@@ -1,7 +1,7 @@
 // What a domain declares before its actions: its name, and the types, constants, predicates and functions in the tables of one scope.
 pub mod vocabulary;
 
-use domain_due::Answer;
+use domain_due::Reading;
 use domain_sections::Titled;
 use domain_terms::scope::Counts;
 ghost use mathlib.Core.Path.{_≡_};
@@ -17,18 +17,18 @@ ghost use Rattle.domain_rows.specs.Held.{rowsOf};
 ghost use Rattle.domain_preamble.specs.Beginning.{begunOf, Listed, Declares};
 
 // What was begun: the place after it, the name from, to, and how many names each table has.
-pub enum Begun {
+pub enum Preamble {
     Done(usize, usize, usize, Counts),
     Refused(u8, usize),
 }
 
 // What was refused in a section.
-fn not_begun(a: Answer) -> Begun
+fn not_begun(a: Reading) -> Preamble
     ensures { λ r. ⌜ r ≡ begunOf a ⌝ }
 {
     match a {
-        Answer::Done(_, _) => Begun::Refused(0, 0),
-        Answer::Refused(k, p) => Begun::Refused(k, p),
+        Reading::Done(_, _) => Preamble::Refused(0, 0),
+        Reading::Refused(k, p) => Preamble::Refused(k, p),
     }
 }
 
@@ -42,24 +42,24 @@ fn tables_at(
     objects: &mut [u8],
     predicates: &mut [u8],
     functions: &mut [u8],
-) -> Begun
+) -> Preamble
     requires { ⌜ (from ≤ length (now text)) × (now types ≡ rowsOf 17 []) × (now objects ≡ rowsOf 64 []) × (now predicates ≡ rowsOf 32 []) × (now functions ≡ rowsOf 16 []) ⌝ }
     ensures { λ r. ⌜ ((n : Name) (a v : ℕ) → headingOf (now (text .entry)) (bytes "domain") 0 ≡ got n a → flagsSection (now (text .entry)) a ≡ got v from → Listed (length (now (text .entry))) n from p e r (now (types .exit)) (now (objects .exit)) (now (predicates .exit)) (now (functions .exit)) (vocabulary (now (text .entry)) 0)) ⌝ }
 {
     let first = vocabulary::types_section(text, from, types);
-    let Answer::Done(a, tn) = first else {
+    let Reading::Done(a, tn) = first else {
         return not_begun(first);
     };
     let second = vocabulary::constants_section(text, a, types, tn, objects);
-    let Answer::Done(b, on) = second else {
+    let Reading::Done(b, on) = second else {
         return not_begun(second);
     };
     let third = vocabulary::declared_section(text, b, b":predicates", types, tn, predicates, 32, 3);
-    let Answer::Done(c, pn) = third else {
+    let Reading::Done(c, pn) = third else {
         return not_begun(third);
     };
     let last = vocabulary::declared_section(text, c, b":functions", types, tn, functions, 16, 2);
-    let Answer::Done(end, count) = last else {
+    let Reading::Done(end, count) = last else {
         return not_begun(last);
     };
     let counts = Counts {
@@ -70,7 +70,7 @@ fn tables_at(
         variables: 0,
         in_action: false,
     };
-    Begun::Done(end, p, e, counts)
+    Preamble::Done(end, p, e, counts)
 }
 
 // Each table in its place among the tables of a scope.
@@ -85,15 +85,15 @@ fn store(tables: &mut [u8], types: &[u8], objects: &[u8], predicates: &[u8], fun
 }
 
 // The text of a domain up to its actions. Of a text that is refused the tables tell nothing.
-pub fn preamble_at(text: &[u8], tables: &mut [u8]) -> Begun
+pub fn preamble_at(text: &[u8], tables: &mut [u8]) -> Preamble
     requires { ⌜ now tables ≡ rowsOf 133 [] ⌝ }
     ensures { λ r. ⌜ Declares (now (text .entry)) r (now (tables .exit)) (vocabulary (now (text .entry)) 0) ⌝ }
 {
     match domain_sections::heading_at(text, 0, b"domain") {
-        Titled::Refused(k, p) => Begun::Refused(k, p),
+        Titled::Refused(k, p) => Preamble::Refused(k, p),
         Titled::At(behind, p, e) => {
             let flags = vocabulary::flags_section(text, behind);
-            let Answer::Done(from, _) = flags else {
+            let Reading::Done(from, _) = flags else {
                 return not_begun(flags);
             };
             let mut types = [0u8; 646];

@@ -2,7 +2,7 @@
 pub mod premises;
 
 use domain_conditions::trees;
-use domain_due::Answer;
+use domain_due::Reading;
 use domain_expressions::leaves::Progress;
 use domain_init::entries;
 use domain_sections::Opened;
@@ -28,39 +28,39 @@ fn init_at(
     counts: Counts,
     facts: &mut [u8],
     numbers: &mut [i64],
-) -> Answer
+) -> Reading
     requires { ⌜ (from ≤ length (now text)) × Scopes (now tables) counts × (now facts ≡ noFacts) × (now numbers ≡ noNumbers) ⌝ }
     ensures { λ r. ⌜ ((c : Scope) → Scoped (now (tables .entry)) counts c → c .inAction ≡ false → Started c r (now (facts .exit)) (now (numbers .exit)) (startAt (now (text .entry)) c from)) × Onwards (length (now (text .entry))) from r ⌝ }
 {
     let o = domain_sections::begins_at(text, from, b":init");
     let Opened::At(p, inside) = o else {
-        return Answer::Done(from, 0);
+        return Reading::Done(from, 0);
     };
     let a = premises::sums_at(tables, counts, inside, p);
-    let Answer::Done(_, _) = a else {
+    let Reading::Done(_, _) = a else {
         return a;
     };
     let b = entries::init_to(text, inside, tables, counts, facts, numbers);
-    let Answer::Done(after, _) = b else {
+    let Reading::Done(after, _) = b else {
         return b;
     };
-    Answer::Done(after, 1)
+    Reading::Done(after, 1)
 }
 
 // The goal's condition, to the section's closing bracket: at most 64 single ones.
-fn goal_to(text: &[u8], from: usize, tables: &[u8], counts: Counts, goal: &mut [u8]) -> Answer
+fn goal_to(text: &[u8], from: usize, tables: &[u8], counts: Counts, goal: &mut [u8]) -> Reading
     requires { ⌜ (1 < from) × (from ≤ length (now text)) × Scopes (now tables) counts ⌝ }
     ensures { λ r. ⌜ ((c : Scope) → Scoped (now (tables .entry)) counts c → Reached (length (now (text .entry))) r (now (goal .entry)) (now (goal .exit)) (goalTo (now (text .entry)) c from)) ⌝ }
 {
     let g = trees::condition_at(text, from, 14, tables, counts, goal, 0, 64);
     match g {
-        Progress::Refused(k, p) => Answer::Refused(k, p),
+        Progress::Refused(k, p) => Reading::Refused(k, p),
         Progress::Done(after, _, _) => {
             let z = domain_due::closing(text, after, 14);
-            let Answer::Done(behind, _) = z else {
+            let Reading::Done(behind, _) = z else {
                 return z;
             };
-            Answer::Done(behind, 0)
+            Reading::Done(behind, 0)
         }
     }
 }
@@ -73,19 +73,19 @@ fn goal_at(
     counts: Counts,
     judged: bool,
     goal: &mut [u8],
-) -> Answer
+) -> Reading
     requires { ⌜ (0 < from) × (from ≤ length (now text)) × Scopes (now tables) counts ⌝ }
     ensures { λ r. ⌜ ((c : Scope) → Scoped (now (tables .entry)) counts c → Aimed (length (now (text .entry))) c judged r (now (goal .entry)) (now (goal .exit)) (goalFrom (now (text .entry)) c judged from)) ⌝ }
 {
     let s = premises::section_due(text, from, b":goal");
-    let Answer::Done(inside, p) = s else {
+    let Reading::Done(inside, p) = s else {
         return s;
     };
     if judged {
         return goal_to(text, inside, tables, counts, goal);
     }
     let a = premises::sums_at(tables, counts, inside, p);
-    let Answer::Done(_, _) = a else {
+    let Reading::Done(_, _) = a else {
         return a;
     };
     goal_to(text, inside, tables, counts, goal)
@@ -100,23 +100,23 @@ fn rest_at(
     facts: &mut [u8],
     numbers: &mut [i64],
     goal: &mut [u8],
-) -> Answer
+) -> Reading
     requires { ⌜ (0 < from) × (from ≤ length (now text)) × Scopes (now tables) counts × (now facts ≡ noFacts) × (now numbers ≡ noNumbers) ⌝ }
     ensures { λ r. ⌜ ((c : Scope) → Scoped (now (tables .entry)) counts c → c .inAction ≡ false → Settled (now (text .entry)) c r (now (facts .exit)) (now (numbers .exit)) (now (goal .entry)) (now (goal .exit)) (restOf (now (text .entry)) c from)) ⌝ }
 {
     let i = init_at(text, from, tables, counts, facts, numbers);
-    let Answer::Done(a, given) = i else {
+    let Reading::Done(a, given) = i else {
         return i;
     };
     let g = goal_at(text, a, tables, counts, given == 1, goal);
-    let Answer::Done(b, _) = g else {
+    let Reading::Done(b, _) = g else {
         return g;
     };
     let z = domain_sections::ending_at(text, b);
-    let Answer::Done(end, _) = z else {
+    let Reading::Done(end, _) = z else {
         return z;
     };
-    Answer::Done(end, counts.objects)
+    Reading::Done(end, counts.objects)
 }
 
 // The text of a problem, NAME being its domain's: where it ends, and how many objects there are. They replace the objects' rows of `tables`.
@@ -128,12 +128,12 @@ pub fn problem_at(
     facts: &mut [u8],
     numbers: &mut [i64],
     goal: &mut [u8],
-) -> Answer
+) -> Reading
     requires { ⌜ Scopes (now tables) counts × (length (now tables) ≡ 5054) × (now facts ≡ noFacts) × (now numbers ≡ noNumbers) × (counts .variables ≡ 0) × (counts .in_action ≡ false) ⌝ }
     ensures { λ r. ⌜ ((d : Domain) → Scoped (now (tables .entry)) counts (scopeOf d (d .constants)) → now (name .entry) ≡ d .name → Posed (now (text .entry)) d counts r (now (tables .exit)) (now (facts .exit)) (now (numbers .exit)) (now (goal .entry)) (now (goal .exit)) (readProblem (now (text .entry)) d)) ⌝ }
 {
     let p = premises::premises_at(text, tables, counts, name);
-    let Answer::Done(from, objects) = p else {
+    let Reading::Done(from, objects) = p else {
         return p;
     };
     let all = Counts {

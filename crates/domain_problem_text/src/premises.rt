@@ -1,5 +1,5 @@
 // What a problem has before init: its heading, its domain's name, its objects; and the sums that are judged at `:init` or `:goal`.
-use domain_due::Answer;
+use domain_due::Reading;
 use domain_sections::Opened;
 use domain_sections::Titled;
 use domain_terms::scope::Counts;
@@ -30,55 +30,55 @@ pub fn sums_fit(tables: &[u8], counts: Counts) -> bool
 }
 
 // The sums are judged at p: where they fit, reading goes on at `from`.
-pub fn sums_at(tables: &[u8], counts: Counts, from: usize, p: usize) -> Answer
+pub fn sums_at(tables: &[u8], counts: Counts, from: usize, p: usize) -> Reading
     requires { ⌜ Scopes (now tables) counts ⌝ }
     ensures { λ r. ⌜ ((c : Scope) → Scoped (now (tables .entry)) counts c → r ≡ answerOf (sumsAt c p from)) ⌝ }
 {
     if sums_fit(tables, counts) {
-        return Answer::Done(from, p);
+        return Reading::Done(from, p);
     }
-    Answer::Refused(12, p)
+    Reading::Refused(12, p)
 }
 
 // The section w is due: its bracket, then its word.
-pub fn section_due(text: &[u8], from: usize, w: &[u8]) -> Answer
+pub fn section_due(text: &[u8], from: usize, w: &[u8]) -> Reading
     requires { ⌜ from ≤ length (now text) ⌝ }
     ensures { λ r. ⌜ (r ≡ answerOf (sectionDueOf (now (text .entry)) (now (w .entry)) from)) × Ahead (length (now (text .entry))) from r ⌝ }
 {
     let a = domain_due::opening(text, from, 15);
-    let Answer::Done(inside, _) = a else {
+    let Reading::Done(inside, _) = a else {
         return a;
     };
     domain_due::word_due(text, inside, 14, w)
 }
 
 // `(:domain NAME)`, NAME being that of the domain.
-pub fn of_domain(text: &[u8], from: usize, name: &[u8]) -> Answer
+pub fn of_domain(text: &[u8], from: usize, name: &[u8]) -> Reading
     requires { ⌜ from ≤ length (now text) ⌝ }
     ensures { λ r. ⌜ ((d : Domain) → now (name .entry) ≡ d .name → r ≡ answerOf (ofDomain (now (text .entry)) d from)) × Ahead (length (now (text .entry))) from r ⌝ }
 {
     let s = section_due(text, from, b":domain");
-    let Answer::Done(inside, _) = s else {
+    let Reading::Done(inside, _) = s else {
         return s;
     };
     let n = domain_due::any_name(text, inside, 14);
-    let Answer::Done(e, p) = n else {
+    let Reading::Done(e, p) = n else {
         return n;
     };
     if spelling::same_word(runs::part_of(text, p, e), name) {
         return domain_due::closing(text, e, 14);
     }
-    Answer::Refused(13, p)
+    Reading::Refused(13, p)
 }
 
 // The objects, behind the domain's constants in the rows of `tables`: the place after them, and how many there are.
-fn objects_section(text: &[u8], from: usize, tables: &mut [u8], counts: Counts) -> Answer
+fn objects_section(text: &[u8], from: usize, tables: &mut [u8], counts: Counts) -> Reading
     requires { ⌜ (from ≤ length (now text)) × Scopes (now tables) counts × (length (now tables) ≡ 5054) ⌝ }
     ensures { λ r. ⌜ ((d : Domain) → Scoped (now (tables .entry)) counts (scopeOf d (d .constants)) → Grounded counts r (now (tables .exit)) d (section (now (text .entry)) ":objects" (d .constants) (namesTo (now (text .entry)) (d .types) 64 (d .constants)) from)) × Onwards (length (now (text .entry))) from r ⌝ }
 {
     let o = domain_sections::begins_at(text, from, b":objects");
     let Opened::At(_, inside) = o else {
-        return Answer::Done(from, counts.objects);
+        return Reading::Done(from, counts.objects);
     };
     let mut types = [0u8; 646];
     domain_rows::copy(&mut types, 0, runs::part_of(tables, 0, 646));
@@ -95,7 +95,7 @@ fn objects_section(text: &[u8], from: usize, tables: &mut [u8], counts: Counts) 
 }
 
 // What a problem has before init: the place after it, and how many objects there are. They replace the objects' rows of `tables`.
-pub fn premises_at(text: &[u8], tables: &mut [u8], counts: Counts, name: &[u8]) -> Answer
+pub fn premises_at(text: &[u8], tables: &mut [u8], counts: Counts, name: &[u8]) -> Reading
     requires { ⌜ Scopes (now tables) counts × (length (now tables) ≡ 5054) ⌝ }
     ensures { λ r. ⌜ ((d : Domain) → Scoped (now (tables .entry)) counts (scopeOf d (d .constants)) → now (name .entry) ≡ d .name → Grounded counts r (now (tables .exit)) d (premises (now (text .entry)) d 0)) × Onwards (length (now (text .entry))) 6 r ⌝ }
 {
@@ -103,11 +103,11 @@ pub fn premises_at(text: &[u8], tables: &mut [u8], counts: Counts, name: &[u8]) 
     match h {
         Titled::At(a, _, _) => {
             let n = of_domain(text, a, name);
-            let Answer::Done(b, _) = n else {
+            let Reading::Done(b, _) = n else {
                 return n;
             };
             objects_section(text, b, tables, counts)
         }
-        Titled::Refused(k, p) => Answer::Refused(k, p),
+        Titled::Refused(k, p) => Reading::Refused(k, p),
     }
 }

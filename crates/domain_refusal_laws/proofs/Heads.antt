@@ -7,8 +7,8 @@ use lib.ListN.{length}
 use lib.Dec.{eqb, ltb}
 use Rattle.text_words.specs.Spelling.{sameWord}
 use Rattle.text_words.specs.Fixed.{isReserved}
-use Rattle.text_words.specs.declared.spelling.Found.{Found}
-use Rattle.text_words.specs.declared.spelling.Found.the-variants as F
+use Rattle.text_words.specs.declared.spelling.Place.{Place}
+use Rattle.text_words.specs.declared.spelling.Place.the-variants as F
 use Rattle.text_tokens.specs.Runs.{part}
 use Rattle.text_tokens.specs.declared.tokens.Word.{Word}
 use Rattle.text_tokens.specs.declared.tokens.Word.the-variants as W
@@ -25,7 +25,7 @@ pub fresh-held : (max : ℕ) (t : Table) (p : ℕ) (w : List ℕ) (n : ℕ) → 
 unfolding fresh
 fresh-held max t p w n = go (lookup t w) (ltb (length t) max)
   where
-    go : (f : Found) (b : Bool) → Held p n (onFound f (λ i. refuse 7 p) (cond b (give p) (refuse 12 p)) n)
+    go : (f : Place) (b : Bool) → Held p n (onFound f (λ i. refuse 7 p) (cond b (give p) (refuse 12 p)) n)
     go (F.At i) b = stops 7 refl
     go F.Nothing true = stays p refl
     go F.Nothing false = stops 12 refl
@@ -34,7 +34,7 @@ pub declared-held : (t : Table) (p : ℕ) (w : List ℕ) (n : ℕ) → Held p n 
 unfolding declared
 declared-held t p w n = go (lookup t w)
   where
-    go : (f : Found) → Held p n (onFound f (λ i. give i) (refuse 8 p) n)
+    go : (f : Place) → Held p n (onFound f (λ i. give i) (refuse 8 p) n)
     go (F.At i) = stays i refl
     go F.Nothing = stops 8 refl
 

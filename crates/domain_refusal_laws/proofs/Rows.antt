@@ -10,8 +10,8 @@ use lib.Dec.{ltb}
 use Rattle.text_words.specs.Bytes.{bytes}
 use Rattle.text_words.specs.Spelling.{sameWord}
 use Rattle.text_words.specs.Fixed.{isReserved}
-use Rattle.text_words.specs.declared.spelling.Found.{Found}
-use Rattle.text_words.specs.declared.spelling.Found.the-variants as F
+use Rattle.text_words.specs.declared.spelling.Place.{Place}
+use Rattle.text_words.specs.declared.spelling.Place.the-variants as F
 use Rattle.text_tokens.specs.Runs.{part}
 use Rattle.text_tokens.specs.Tokens.{tokenAt, spotAt}
 use Rattle.text_tokens.specs.declared.tokens.Word.{Word}
@@ -41,7 +41,7 @@ type-held ts b p w n = go (lookup ts w)
     below i true = stays i refl
     below i false = stops 8 refl
 
-    go : (f : Found) → Held p n (onFound f (λ i. cond (ltb i b) (give i) (refuse 8 p)) (refuse 8 p) n)
+    go : (f : Place) → Held p n (onFound f (λ i. cond (ltb i b) (give i) (refuse 8 p)) (refuse 8 p) n)
     go (F.At i) = below i (ltb i b)
     go F.Nothing = stops 8 refl
 

@@ -8,8 +8,8 @@ use lib.IntN.{ℤ}
 use lib.Dec.{eqb, leb}
 use lib.ListN.{length}
 use borrow.Author.Tests.{leb-true}
-use Rattle.text_words.specs.declared.spelling.Found.{Found}
-use Rattle.text_words.specs.declared.spelling.Found.the-variants as F
+use Rattle.text_words.specs.declared.spelling.Place.{Place}
+use Rattle.text_words.specs.declared.spelling.Place.the-variants as F
 use Rattle.text_tokens.specs.Tokens.{tokenAt}
 use Rattle.text_tokens.specs.declared.tokens.Word.{Word}
 use Rattle.text_tokens.specs.declared.tokens.Token.{Token}
@@ -84,7 +84,7 @@ module _ {A : Type 0} {s : List ℕ} {x from : ℕ} {Q : A → Type 0} where
   choose true h k = h
   choose false h k = k
 
-  pub found : {b : ℕ} {f : ℕ → Reader A} {o : Reader A} (t : Found) → ((i : ℕ) → Sound s x from b Q (f i)) → Sound s x from b Q o → Sound s x from b Q (onFound t f o)
+  pub found : {b : ℕ} {f : ℕ → Reader A} {o : Reader A} (t : Place) → ((i : ℕ) → Sound s x from b Q (f i)) → Sound s x from b Q o → Sound s x from b Q (onFound t f o)
   found (F.At i) h k = h i
   found F.Nothing h k = k
 

@@ -7,8 +7,8 @@ use native.Mathlib.Omega.{arith}
 use lib.Dec.{eqb}
 use lib.ListN.{length}
 use Rattle.text_words.specs.Fixed.{headOf}
-use Rattle.text_words.specs.declared.fixed.Head.{Head}
-use Rattle.text_words.specs.declared.fixed.Head.the-variants as H
+use Rattle.text_words.specs.declared.fixed.HeadWord.{HeadWord}
+use Rattle.text_words.specs.declared.fixed.HeadWord.the-variants as H
 use Rattle.text_tokens.specs.Runs.{part}
 use Rattle.text_tokens.specs.declared.tokens.Word.{Word}
 use Rattle.text_tokens.specs.declared.tokens.Word.the-variants as W
@@ -87,7 +87,7 @@ module _ {s : List ℕ} {x : ℕ} where
         (λ p q. then (closing-sound d) (λ i _. gives tt))
         (then (h _ (a .left)) (λ b _. then (operands-sound d (b .left)) (λ i _. gives tt))))
 
-    operation-sound : {from p : ℕ} (n : ℕ) (y : Head) → Stands s p → Sound s x from 0 Any (operation s d f n y p)
+    operation-sound : {from p : ℕ} (n : ℕ) (y : HeadWord) → Stands s p → Sound s x from 0 Any (operation s d f n y p)
     operation-sound n H.And q = refuses refl q
     operation-sound n H.Not q = refuses refl q
     operation-sound n H.Equal q = refuses refl q
@@ -122,7 +122,7 @@ module _ {s : List ℕ} {x : ℕ} where
 
   -- ---- conditions
 
-  on-name : {A : Type 0} {from b : ℕ} {l m o : Reader A} (y : Head) → Sound s x from b Any l → Sound s x from b Any m → Sound s x from b Any o → Sound s x from b Any (onName y l m o)
+  on-name : {A : Type 0} {from b : ℕ} {l m o : Reader A} (y : HeadWord) → Sound s x from b Any l → Sound s x from b Any m → Sound s x from b Any o → Sound s x from b Any (onName y l m o)
   on-name H.And f g h = f
   on-name H.Not f g h = g
   on-name H.Equal f g h = h
@@ -154,7 +154,7 @@ module _ {s : List ℕ} {x : ℕ} where
     unfolding equality
     equality-sound yes′ m = peek-word (objects-sound yes′ m) (comparison-sound yes′ equal m)
 
-    operated-sound : {from p : ℕ} (yes′ : Bool) (n : ℕ) (y : Head) → Stands s p → Sound s x from 0 Any (operated s d c yes′ n y p)
+    operated-sound : {from p : ℕ} (yes′ : Bool) (n : ℕ) (y : HeadWord) → Stands s p → Sound s x from 0 Any (operated s d c yes′ n y p)
     operated-sound yes′ n H.And h = refuses refl h
     operated-sound yes′ n H.Not h = refuses refl h
     operated-sound yes′ n H.Equal h = then (counted-sound n h) (λ m _. equality-sound yes′ m)
@@ -246,7 +246,7 @@ module _ {s : List ℕ} {x : ℕ} where
       (then (h _ n) (λ y _. then (effects-sound k d h (y .left) (omega arith)) (λ ys _. gives tt)))
 
   module _ (d : ℕ) (c : Scope) {f : ℕ → Reader (Counted (List Effect))} (h : Takes s x f) where
-    effect-head : {from : ℕ} (n : ℕ) (y : Head) (p e : ℕ) → Stands s p → Sound s x from 0 Any (effectHead s d c f n y p e)
+    effect-head : {from : ℕ} (n : ℕ) (y : HeadWord) (p e : ℕ) → Stands s p → Sound s x from 0 Any (effectHead s d c f n y p e)
     effect-head n H.And p e q = fewer (effects-sound (length s + 1) d h n (omega arith))
     effect-head n H.Not p e q = fewer (deletion-sound d c n)
     effect-head n H.Equal p e q = becomes-sound d c true n e q

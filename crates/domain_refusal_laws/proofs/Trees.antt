@@ -7,8 +7,8 @@ use native.Mathlib.Omega.{arith}
 use lib.ListN.{length}
 use lib.Dec.{eqb}
 use Rattle.text_words.specs.Fixed.{headOf}
-use Rattle.text_words.specs.declared.fixed.Head.{Head}
-use Rattle.text_words.specs.declared.fixed.Head.the-variants as H
+use Rattle.text_words.specs.declared.fixed.HeadWord.{HeadWord}
+use Rattle.text_words.specs.declared.fixed.HeadWord.the-variants as H
 use Rattle.text_tokens.specs.Runs.{part}
 use Rattle.text_tokens.specs.Tokens.{tokenAt}
 use Rattle.text_tokens.specs.declared.tokens.Word.{Word}
@@ -58,7 +58,7 @@ module _ {E : Edge} (d : ℕ) (c : Scope) {f : List ℕ → ℕ → Reader (Coun
       (λ p k. after (then (closing-local d) (λ i. gives {a = counts (minus (a .tree)) (a .left)})))
       (λ t. after (then (h (a .left)) (λ b. then (operands-local d (b .left)) (λ i. gives {a = counts (difference (a .tree) (b .tree)) (b .left)}))))))
 
-  operation-behind : {k : Word} (n : ℕ) (x : Head) (p e : ℕ) → Behind E (T.Word k p e) e (Over E (next E)) (λ v. operation v d (f v) n x p)
+  operation-behind : {k : Word} (n : ℕ) (x : HeadWord) (p e : ℕ) → Behind E (T.Word k p e) e (Over E (next E)) (λ v. operation v d (f v) n x p)
   operation-behind n H.And p e = refuses
   operation-behind n H.Not p e = refuses
   operation-behind n H.Equal p e = refuses
@@ -93,7 +93,7 @@ expression-local d c = then (expr-local d c 16) (λ x. gives)
 
 -- ---- conditions
 
-on-name : {A : Type 0} {E : Edge} {F : ℕ → Type 0} {t : Token} {n : ℕ} {a b o : List ℕ → Reader A} (x : Head)
+on-name : {A : Type 0} {E : Edge} {F : ℕ → Type 0} {t : Token} {n : ℕ} {a b o : List ℕ → Reader A} (x : HeadWord)
     → Behind E t n F a → Behind E t n F b → Behind E t n F o → Behind E t n F (λ v. onName x (a v) (b v) (o v))
 on-name H.And f g h = f
 on-name H.Not f g h = g
@@ -126,7 +126,7 @@ module _ {E : Edge} (d : ℕ) (c : Scope) where
   unfolding equality
   equality-local y m = peek-then (λ n. on-word (λ k p e. after (objects-local y m)) (λ t. after (comparison-local y equal m)))
 
-  operated-behind : {k : Word} {i : ℕ} (y : Bool) (n : ℕ) (x : Head) (p e : ℕ) → Behind E (T.Word k p e) i (Over E (next E)) (λ v. operated v d c y n x p)
+  operated-behind : {k : Word} {i : ℕ} (y : Bool) (n : ℕ) (x : HeadWord) (p e : ℕ) → Behind E (T.Word k p e) i (Over E (next E)) (λ v. operated v d c y n x p)
   operated-behind y n H.And p e = refuses
   operated-behind y n H.Not p e = refuses
   operated-behind y n H.Equal p e = held (counted p n) (counted-held p n) (λ m. after (equality-local y m))
@@ -259,7 +259,7 @@ module _ (d : ℕ) (c : Scope) {f : List ℕ → ℕ → Reader (Counted (List E
   list-behind {E} n =
       bounded (λ k v. effectsTo k v d (f v) n) (λ s at j k a b. effects-suffice s d (h .1) j k n at (enough s j at a) (enough s k at b)) (λ k. effects-local k d (h .0 E) n)
 
-  effect-head : {E : Edge} {k : Word} (n : ℕ) (x : Head) (p e : ℕ) → Behind E (T.Word k p e) e (Over E (next E)) (λ v. effectHead v d c (f v) n x p e)
+  effect-head : {E : Edge} {k : Word} (n : ℕ) (x : HeadWord) (p e : ℕ) → Behind E (T.Word k p e) e (Over E (next E)) (λ v. effectHead v d c (f v) n x p e)
   effect-head n H.And p e = after (list-behind n)
   effect-head n H.Not p e = after (deletion-local d c n)
   effect-head n H.Equal p e = becomes-behind d c true n p e

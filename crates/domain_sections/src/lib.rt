@@ -1,5 +1,5 @@
 // What frames the sections of domain and problem: their first words, the end of the text, and the requirement flags.
-use domain_due::Answer;
+use domain_due::Reading;
 use text_tokens::tokens;
 use text_tokens::tokens::Token;
 use text_tokens::tokens::Word;
@@ -40,7 +40,7 @@ pub fn begins_at(text: &[u8], from: usize, w: &[u8]) -> Opened
 }
 
 // The bracket that closes the text's first one, and behind it the end.
-pub fn ending_at(text: &[u8], from: usize) -> Answer
+pub fn ending_at(text: &[u8], from: usize) -> Reading
     ensures { λ r. ⌜ r ≡ answerOf (ending (now (text .entry)) from) ⌝ }
 {
     let t = tokens::token_at(text, from);
@@ -54,7 +54,7 @@ pub fn ending_at(text: &[u8], from: usize) -> Answer
     let Token::End(p) = u else {
         return domain_due::refusal(u, 16);
     };
-    Answer::Done(p, p)
+    Reading::Done(p, p)
 }
 
 // A heading: the place after it, and its name from, to.
@@ -64,12 +64,12 @@ pub enum Titled {
 }
 
 // What was refused in a heading.
-fn untitled(a: Answer) -> Titled
+fn untitled(a: Reading) -> Titled
     ensures { λ r. ⌜ r ≡ untitledOf a ⌝ }
 {
     match a {
-        Answer::Done(_, _) => Titled::Refused(0, 0),
-        Answer::Refused(k, p) => Titled::Refused(k, p),
+        Reading::Done(_, _) => Titled::Refused(0, 0),
+        Reading::Refused(k, p) => Titled::Refused(k, p),
     }
 }
 
@@ -79,27 +79,27 @@ pub fn heading_at(text: &[u8], from: usize, w: &[u8]) -> Titled
     ensures { λ r. ⌜ (r ≡ titledOf (headingOf (now (text .entry)) (now (w .entry)) from)) × TitledIn (length (now (text .entry))) r ⌝ }
 {
     let first = domain_due::opening(text, from, 16);
-    let Answer::Done(a, _) = first else {
+    let Reading::Done(a, _) = first else {
         return untitled(first);
     };
     let define = domain_due::word_due(text, a, 15, b"define");
-    let Answer::Done(b, _) = define else {
+    let Reading::Done(b, _) = define else {
         return untitled(define);
     };
     let second = domain_due::opening(text, b, 15);
-    let Answer::Done(c, _) = second else {
+    let Reading::Done(c, _) = second else {
         return untitled(second);
     };
     let word = domain_due::word_due(text, c, 14, w);
-    let Answer::Done(d, _) = word else {
+    let Reading::Done(d, _) = word else {
         return untitled(word);
     };
     let name = domain_due::any_name(text, d, 14);
-    let Answer::Done(e, place) = name else {
+    let Reading::Done(e, place) = name else {
         return untitled(name);
     };
     let last = domain_due::closing(text, e, 14);
-    let Answer::Done(next, _) = last else {
+    let Reading::Done(next, _) = last else {
         return untitled(last);
     };
     Titled::At(next, place, e)
@@ -116,31 +116,31 @@ fn is_colon(text: &[u8], p: usize) -> bool
 }
 
 // A requirement flag: 11 if it is not carried, however long.
-fn flag_of(text: &[u8], t: Token) -> Answer
+fn flag_of(text: &[u8], t: Token) -> Reading
     ensures { λ r. ⌜ r ≡ answerOf (flagOf (now (text .entry)) t (afterOf t)) ⌝ }
 {
     if let Token::Refusal(k, p) = t {
         if k == 5 {
             if is_colon(text, p) {
-                return Answer::Refused(11, p);
+                return Reading::Refused(11, p);
             }
         }
-        return Answer::Refused(k, p);
+        return Reading::Refused(k, p);
     }
     let Token::Word(kind, p, e) = t else {
         return domain_due::refusal(t, 14);
     };
     let Word::Keyword = kind else {
-        return Answer::Refused(3, p);
+        return Reading::Refused(3, p);
     };
     if fixed::is_flag(tokens::word_of(text, t)) {
-        return Answer::Done(e, p);
+        return Reading::Done(e, p);
     }
-    Answer::Refused(11, p)
+    Reading::Refused(11, p)
 }
 
 // The requirement flags, to their closing bracket.
-pub fn flags_to(text: &[u8], from: usize) -> Answer
+pub fn flags_to(text: &[u8], from: usize) -> Reading
     requires { ⌜ from ≤ length (now text) ⌝ }
     ensures { λ r. ⌜ ((k : ℕ) → length (now (text .entry)) - from < k → r ≡ answerOf (flagsTo k (now (text .entry)) from)) × Ahead (length (now (text .entry))) from r ⌝ }
 {
@@ -148,10 +148,10 @@ pub fn flags_to(text: &[u8], from: usize) -> Answer
     loop {
         let t = tokens::token_at(text, at);
         if let Token::Close(p, next) = t {
-            return Answer::Done(next, p);
+            return Reading::Done(next, p);
         }
         let f = flag_of(text, t);
-        let Answer::Done(after, _) = f else {
+        let Reading::Done(after, _) = f else {
             return f;
         };
         at = after;

@@ -3,8 +3,8 @@ use mathlib.Core.Path.{_≡_, refl}
 use mathlib.Core.Bool.{Bool, true, false, cond}
 use Prim.Native.Nat.{ℕ}
 use lib.IntN.{ℤ}
-use Rattle.text_words.specs.declared.fixed.Head.{Head}
-use Rattle.text_words.specs.declared.fixed.Head.the-variants as H
+use Rattle.text_words.specs.declared.fixed.HeadWord.{HeadWord}
+use Rattle.text_words.specs.declared.fixed.HeadWord.the-variants as H
 use Rattle.text_tokens.specs.declared.tokens.Token.{Token}
 use Rattle.text_tokens.specs.declared.tokens.Token.the-variants as T
 use Rattle.text_tokens.specs.declared.tokens.Word.{Word}
@@ -73,7 +73,7 @@ module _ {A : Type 0} {P : A → Type 0} where
   number-gives (T.Refusal k p) f g n h o = o
   number-gives (T.End p) f g n h o = o
 
-  pub name-gives : (w : Head) (a b o : Reader A) (n : ℕ) → Gives P (a n) → Gives P (b n) → Gives P (o n) → Gives P (onName w a b o n)
+  pub name-gives : (w : HeadWord) (a b o : Reader A) (n : ℕ) → Gives P (a n) → Gives P (b n) → Gives P (o n) → Gives P (onName w a b o n)
   name-gives H.And a b o n h i j = h
   name-gives H.Not a b o n h i j = i
   name-gives H.Equal a b o n h i j = j

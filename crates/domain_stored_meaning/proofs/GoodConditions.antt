@@ -5,8 +5,8 @@ use Prim.Native.Nat.{ℕ, zero, suc, _+_, _-_, _≤_}
 use native.Mathlib.Omega.{arith}
 use lib.ListN.{length}
 use Rattle.text_words.specs.Fixed.{headOf}
-use Rattle.text_words.specs.declared.fixed.Head.{Head}
-use Rattle.text_words.specs.declared.fixed.Head.the-variants as H
+use Rattle.text_words.specs.declared.fixed.HeadWord.{HeadWord}
+use Rattle.text_words.specs.declared.fixed.HeadWord.the-variants as H
 use Rattle.text_tokens.specs.Runs.{part}
 use Rattle.text_tokens.specs.Tokens.{tokenAt}
 use Rattle.text_tokens.specs.declared.tokens.Word.{Word}
@@ -68,7 +68,7 @@ module _ (s : List ℕ) (c : Scope) (z : Sized c) (e : ℕ) where
     unfolding equality
     equality-gives yes′ m at = word-gives (tokenAt s at) _ _ at (λ k p i. same-gives d yes′ m at) (comparison-gives yes′ equal m at)
 
-    operated-gives : (yes′ : Bool) (n : ℕ) (w : Head) (p at : ℕ) → Gives (GoodOf (suc e)) (operated s d c yes′ n w p at)
+    operated-gives : (yes′ : Bool) (n : ℕ) (w : HeadWord) (p at : ℕ) → Gives (GoodOf (suc e)) (operated s d c yes′ n w p at)
     operated-gives yes′ n H.Equal p at = behind-gives (counted p n at) _ (λ m i. equality-gives yes′ m i)
     operated-gives yes′ n H.Less p at = behind-gives (counted p n at) _ (λ m i. comparison-gives yes′ less m i)
     operated-gives yes′ n H.AtMost p at = behind-gives (counted p n at) _ (λ m i. comparison-gives yes′ atMost m i)

@@ -9,8 +9,8 @@ use lib.Dec.{ltb}
 use lib.ListN.{length, length-append, length-map}
 use borrow.Author.Tests.{ltb-true}
 use Rattle.text_words.specs.Bytes.{bytes}
-use Rattle.text_words.specs.declared.spelling.Found.{Found}
-use Rattle.text_words.specs.declared.spelling.Found.the-variants as F
+use Rattle.text_words.specs.declared.spelling.Place.{Place}
+use Rattle.text_words.specs.declared.spelling.Place.the-variants as F
 use Rattle.text_tokens.specs.Tokens.{tokenAt}
 use Rattle.domain_meaning.specs.Read.{Reader, got, give, refuse, andThen}
 use Rattle.domain_meaning.specs.Tables.{Entry, entry, Table, typeOf, wantedOf, lookup, onFound, fresh, withType, retype}
@@ -41,7 +41,7 @@ fresh-gives max t p w at = go (lookup t w)
     room true e = gives (ltb-true (length t) max e)
     room false e = refuses
 
-    go : (f : Found) → Gives (λ q. length t < max) (onFound f (λ i. refuse 7 p) (cond (ltb (length t) max) (give p) (refuse 12 p)) at)
+    go : (f : Place) → Gives (λ q. length t < max) (onFound f (λ i. refuse 7 p) (cond (ltb (length t) max) (give p) (refuse 12 p)) at)
     go (F.At i) = refuses
     go F.Nothing = room (ltb (length t) max) refl
 

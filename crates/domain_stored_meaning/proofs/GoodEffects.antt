@@ -5,8 +5,8 @@ use Prim.Native.Nat.{ℕ, zero, suc, _+_, _-_, _≤_}
 use native.Mathlib.Omega.{arith}
 use lib.ListN.{length}
 use Rattle.text_words.specs.Fixed.{headOf}
-use Rattle.text_words.specs.declared.fixed.Head.{Head}
-use Rattle.text_words.specs.declared.fixed.Head.the-variants as H
+use Rattle.text_words.specs.declared.fixed.HeadWord.{HeadWord}
+use Rattle.text_words.specs.declared.fixed.HeadWord.the-variants as H
 use Rattle.text_tokens.specs.Runs.{part}
 use Rattle.text_tokens.specs.Tokens.{tokenAt}
 use Rattle.text_tokens.specs.declared.tokens.Word.{Word}
@@ -73,7 +73,7 @@ module _ (s : List ℕ) (c : Scope) (z : Sized c) where
       behind-gives (opening s d at) _ (λ p a. then-gives _ (in-deletion-gives (d - 1) n a) (λ x b g. behind-gives (closing s d b) _ (λ q i. gives g)))
 
   module _ (d : ℕ) (f : ℕ → Reader (Counted (List Effect))) (h : d ≤ 15) (r : (n at : ℕ) → Gives GoodOf (f n at)) (n : ℕ) where
-    head-gives : (w : Head) (p e at : ℕ) → Gives GoodOf (effectHead s d c f n w p e at)
+    head-gives : (w : HeadWord) (p e at : ℕ) → Gives GoodOf (effectHead s d c f n w p e at)
     head-gives H.And p e at = list-gives s d f r (length s + 1) n at
     head-gives H.Not p e at = deletion-gives d n at
     head-gives H.Assign p e at = change-gives d assign n p at h

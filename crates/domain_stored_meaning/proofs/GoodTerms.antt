@@ -8,10 +8,10 @@ use lib.IntN.{ℤ, pos}
 use lib.ListN.{length}
 use lib.Signed.{mag}
 use Rattle.text_words.specs.Fixed.{headOf}
-use Rattle.text_words.specs.declared.fixed.Head.{Head}
-use Rattle.text_words.specs.declared.fixed.Head.the-variants as H
-use Rattle.text_words.specs.declared.spelling.Found.{Found}
-use Rattle.text_words.specs.declared.spelling.Found.the-variants as F
+use Rattle.text_words.specs.declared.fixed.HeadWord.{HeadWord}
+use Rattle.text_words.specs.declared.fixed.HeadWord.the-variants as H
+use Rattle.text_words.specs.declared.spelling.Place.{Place}
+use Rattle.text_words.specs.declared.spelling.Place.the-variants as F
 use Rattle.text_tokens.specs.Runs.{part}
 use Rattle.text_tokens.specs.Numbers.{signed}
 use Rattle.text_tokens.specs.Tokens.{tokenAt}
@@ -34,7 +34,7 @@ declared-gives : (t : Table) (p : ℕ) (w : List ℕ) (at : ℕ) → Gives (λ i
 unfolding declared
 declared-gives t p w at = go (lookup t w) refl
   where
-    go : (f : Found) → lookup t w ≡ f → Gives (λ i. i < length t) (onFound f (λ i. give i) (refuse 8 p) at)
+    go : (f : Place) → lookup t w ≡ f → Gives (λ i. i < length t) (onFound f (λ i. give i) (refuse 8 p) at)
     go (F.At i) e = gives (found-below t w i e)
     go F.Nothing e = refuses
 
@@ -119,7 +119,7 @@ module _ (s : List ℕ) (c : Scope) (z : Sized c) (d e : ℕ) (f : ℕ → Reade
       (λ a i g. close-gives (tokenAt s i) _ _ i (λ p. behind-gives (closing s d i) _ (λ q m. gives g))
       (then-gives _ (h (a .left) i) (λ b j k. behind-gives (operandsEnd s d (b .left) j) _ (λ q m. gives (g, k)))))
 
-  operation-gives : (n : ℕ) (w : Head) (p at : ℕ) → Gives (GoodOf (suc e)) (operation s d f n w p at)
+  operation-gives : (n : ℕ) (w : HeadWord) (p at : ℕ) → Gives (GoodOf (suc e)) (operation s d f n w p at)
   operation-gives n H.Plus p at = behind-gives (counted p n at) _ (λ m k. plus-gives m k)
   operation-gives n H.Minus p at = behind-gives (counted p n at) _ (λ m k. minus-gives m k)
   operation-gives n H.And p at = refuses

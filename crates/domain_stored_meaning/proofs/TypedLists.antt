@@ -7,8 +7,8 @@ use native.Mathlib.Omega.{arith}
 use lib.Dec.{ltb}
 use lib.ListN.{length, length-append, length-map}
 use borrow.Author.Tests.{ltb-true}
-use Rattle.text_words.specs.declared.spelling.Found.{Found}
-use Rattle.text_words.specs.declared.spelling.Found.the-variants as F
+use Rattle.text_words.specs.declared.spelling.Place.{Place}
+use Rattle.text_words.specs.declared.spelling.Place.the-variants as F
 use Rattle.domain_meaning.specs.Read.{Reader, give, refuse, andThen}
 use Rattle.domain_meaning.specs.Tables.{Entry, entry, Table, lookup, onFound, fresh, withType, retype}
 use Rattle.domain_meaning.specs.Lists.{Item, closes, dash, names, onItem, item, declare, waiting, group, typeDue, typed, namesTo, variablesTo, typesTo}
@@ -24,7 +24,7 @@ fresh-gives max t p w at = go (lookup t w)
     room true e = gives (ltb-true (length t) max e)
     room false e = refuses
 
-    go : (f : Found) → Gives (λ q. length t < max) (onFound f (λ i. refuse 7 p) (cond (ltb (length t) max) (give p) (refuse 12 p)) at)
+    go : (f : Place) → Gives (λ q. length t < max) (onFound f (λ i. refuse 7 p) (cond (ltb (length t) max) (give p) (refuse 12 p)) at)
     go (F.At i) = refuses
     go F.Nothing = room (ltb (length t) max) refl
 

@@ -12,7 +12,7 @@ use lib.ListN.{length, getD, drop, length-take, length-drop, length-map, List·g
 use lib.Seq.{getD-take, getD-drop, getD-append-add}
 use lib.Dec.{eqb}
 use Rattle.text_words.specs.Spelling.{sameWord, placeFrom}
-use Rattle.text_words.specs.declared.spelling.Found.the-variants.{At}
+use Rattle.text_words.specs.declared.spelling.Place.the-variants.{At}
 use Rattle.text_tokens.specs.Runs.{part}
 use Rattle.domain_meaning.specs.Tables.{entry, nameOf, infoOf, Table, entryAt, typeOf, lookup, isBelow}
 use Rattle.domain_rows.specs.Held.{byteAt, rowOf, Holds}

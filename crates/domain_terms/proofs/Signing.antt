@@ -7,8 +7,8 @@ use native.Mathlib.Omega.{arith}
 use lib.Dec.{ltb}
 use lib.ListN.{length, length-append, length-map}
 use borrow.Author.Tests.{ltb-true}
-use Rattle.text_words.specs.declared.spelling.Found.{Found}
-use Rattle.text_words.specs.declared.spelling.Found.the-variants as F
+use Rattle.text_words.specs.declared.spelling.Place.{Place}
+use Rattle.text_words.specs.declared.spelling.Place.the-variants as F
 use Rattle.text_tokens.specs.Tokens.{tokenAt}
 use Rattle.text_tokens.specs.declared.tokens.Token.{Token}
 use Rattle.text_tokens.specs.declared.tokens.Token.the-variants as T
@@ -48,7 +48,7 @@ fresh-room max t p w at v n h = go (lookup t w) h
     room true e q = ltb-true (length t) max e
     room false e q = never 12 p n v q
 
-    go : (f : Found) → onFound f (λ i. refuse 7 p) (cond (ltb (length t) max) (give p) (refuse 12 p)) at ≡ got v n → length t < max
+    go : (f : Place) → onFound f (λ i. refuse 7 p) (cond (ltb (length t) max) (give p) (refuse 12 p)) at ≡ got v n → length t < max
     go (F.At i) q = never 7 p n v q
     go F.Nothing q = room (ltb (length t) max) refl q
 

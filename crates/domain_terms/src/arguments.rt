@@ -1,12 +1,12 @@
 // Arguments: each is an object or a parameter, of the wanted type or below it.
 use crate::scope;
 use crate::scope::Counts;
-use domain_due::Answer;
+use domain_due::Reading;
 use text_tokens::runs;
 use text_tokens::tokens;
 use text_tokens::tokens::Token;
 use text_tokens::tokens::Word;
-use text_words::spelling::Found;
+use text_words::spelling::Place;
 ghost use mathlib.Core.Path.{_≡_};
 ghost use Prim.Native.Nat.{ℕ, _+_, _-_, _≤_, _<_};
 ghost use lib.ListN.{length};
@@ -21,37 +21,37 @@ ghost use Rattle.domain_terms.specs.Scoped.{Scoped, Scopes, AllSigned, S
 ghost use Rattle.domain_terms.specs.Cells.{cellAnswer, typeOfCell, argCells, Wrote, Cellular, Room};
 
 // An object's name w, which stands from p to e: its cell.
-fn object_at(w: &[u8], p: usize, e: usize, tables: &[u8], counts: Counts) -> Answer
+fn object_at(w: &[u8], p: usize, e: usize, tables: &[u8], counts: Counts) -> Reading
     requires { ⌜ Scopes (now tables) counts ⌝ }
     ensures { λ r. ⌜ ((s : List ℕ) (c : Scope) → now (w .entry) ≡ part s p e → Scoped (now (tables .entry)) counts c → r ≡ cellAnswer (givenBy s c W.Name p e e)) × Cellular r ⌝ }
 {
     let n = counts.objects;
     let f = scope::find_in(tables, 646, 3078, n, w);
-    let Found::At(i) = f else {
-        return Answer::Refused(8, p);
+    let Place::At(i) = f else {
+        return Reading::Refused(8, p);
     };
-    Answer::Done(e, i)
+    Reading::Done(e, i)
 }
 
 // A variable from its mark at p to e: its cell, in an action.
-fn variable_at(text: &[u8], p: usize, e: usize, tables: &[u8], counts: Counts) -> Answer
+fn variable_at(text: &[u8], p: usize, e: usize, tables: &[u8], counts: Counts) -> Reading
     requires { ⌜ Scopes (now tables) counts × (p < e) ⌝ }
     ensures { λ r. ⌜ ((c : Scope) → Scoped (now (tables .entry)) counts c → r ≡ cellAnswer (givenBy (now (text .entry)) c W.Variable p e e)) × Cellular r ⌝ }
 {
     let n = counts.variables;
     let known = counts.in_action;
     if !known {
-        return Answer::Refused(3, p);
+        return Reading::Refused(3, p);
     }
     let f = scope::find_in(tables, 4902, 5054, n, runs::part_of(text, p + 1, e));
-    let Found::At(i) = f else {
-        return Answer::Refused(8, p);
+    let Place::At(i) = f else {
+        return Reading::Refused(8, p);
     };
-    Answer::Done(e, 64 + i)
+    Reading::Done(e, 64 + i)
 }
 
 // An argument: its cell.
-pub fn argument_at(text: &[u8], from: usize, d: usize, tables: &[u8], counts: Counts) -> Answer
+pub fn argument_at(text: &[u8], from: usize, d: usize, tables: &[u8], counts: Counts) -> Reading
     requires { ⌜ (from ≤ length (now text)) × Scopes (now tables) counts ⌝ }
     ensures { λ r. ⌜ ((c : Scope) → Scoped (now (tables .entry)) counts c → r ≡ cellAnswer (argument (now (text .entry)) d c from)) × Cellular r × Ahead (length (now (text .entry))) from r ⌝ }
 {
@@ -62,8 +62,8 @@ pub fn argument_at(text: &[u8], from: usize, d: usize, tables: &[u8], counts: Co
     match k {
         Word::Name => object_at(tokens::word_of(text, t), p, e, tables, counts),
         Word::Variable => variable_at(text, p, e, tables, counts),
-        Word::Keyword => Answer::Refused(3, p),
-        Word::Operator => Answer::Refused(3, p),
+        Word::Keyword => Reading::Refused(3, p),
+        Word::Operator => Reading::Refused(3, p),
     }
 }
 
@@ -101,7 +101,7 @@ pub fn arguments_at(
     i: usize,
     code: &mut [u8],
     used: usize,
-) -> Answer
+) -> Reading
     requires { ⌜ (from ≤ length (now text)) × Scopes (now tables) counts × Signatures (now tables) off n × (i < n) × (used + (length (now text) - from) ≤ 18446744073709551615) ⌝ }
     ensures { λ r. ⌜ ((c : Scope) (m to : ℕ) (t : Table) → Scoped (now (tables .entry)) counts c → Holds m (part (now (tables .entry)) off to) n t → AllSigned t → Wrote argCells (now (code .entry)) used r (now (code .exit)) (arguments (now (text .entry)) d c (wantedOf (entryAt t i)) from)) × Ahead (length (now (text .entry))) from r × Room used from r ⌝ }
 {
@@ -113,19 +113,19 @@ pub fn arguments_at(
         let t = tokens::token_at(text, at);
         if let Token::Close(p, next) = t {
             if j < arity {
-                return Answer::Refused(9, p);
+                return Reading::Refused(9, p);
             }
-            return Answer::Done(next, u);
+            return Reading::Done(next, u);
         }
         let a = argument_at(text, at, d, tables, counts);
-        let Answer::Done(after, x) = a else {
+        let Reading::Done(after, x) = a else {
             return a;
         };
         if arity <= j {
-            return Answer::Refused(9, domain_due::place_of(t));
+            return Reading::Refused(9, domain_due::place_of(t));
         }
         if !fits_at(tables, counts, x, scope::kept_in(tables, off, n, i, j + 1)) {
-            return Answer::Refused(10, domain_due::place_of(t));
+            return Reading::Refused(10, domain_due::place_of(t));
         }
         domain_literals::put(code, u, x);
         u += 1;

@@ -1,7 +1,7 @@
 // What has been declared where a condition or an effect stands: five tables of rows in one lent slice, and their counts.
 use text_tokens::runs;
 use text_words::names;
-use text_words::spelling::Found;
+use text_words::spelling::Place;
 ghost use mathlib.Core.Path.{_≡_};
 ghost use Prim.Native.Nat.{ℕ, _+_, _*_, _≤_, _<_};
 ghost use lib.ListN.{length, getD};
@@ -22,7 +22,7 @@ pub struct Counts {
 }
 
 // The number of a name in the table from `from` to `to`, which has n names.
-pub fn find_in(tables: &[u8], from: usize, to: usize, n: usize, w: &[u8]) -> Found
+pub fn find_in(tables: &[u8], from: usize, to: usize, n: usize, w: &[u8]) -> Place
     ensures { λ r. ⌜ ((m : ℕ) (t : Table) → Holds m (part (now (tables .entry)) from to) n t → r ≡ lookup t (now (w .entry))) ⌝ }
 {
     names::find(runs::part_of(tables, from, to), n, w)

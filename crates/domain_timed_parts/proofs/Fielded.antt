@@ -8,7 +8,7 @@ use native.Mathlib.Numerals.{add-one}
 use lib.ListN.{length, set, length-append}
 use lib.Seq.{sets}
 use Rattle.text_words.specs.Spelling.{sameWord}
-use Rattle.text_words.specs.declared.spelling.Found.the-variants.{At, Nothing}
+use Rattle.text_words.specs.declared.spelling.Place.the-variants.{At, Nothing}
 use Rattle.text_tokens.specs.Runs.{part}
 use Rattle.text_tokens.specs.Tokens.{tokenAt}
 use Rattle.text_tokens.specs.declared.tokens.Token.{Token}
@@ -17,7 +17,7 @@ use Rattle.domain_meaning.specs.Read.{_>>=_, Read, Reader, got, refused, give, 
 use Rattle.domain_meaning.specs.Due.{token, onWord}
 use Rattle.domain_meaning.specs.Terms.{Scope, Counted, counts}
 use Rattle.domain_meaning.specs.Actions.{Timed, parts, atStart, fieldOf}
-use Rattle.domain_due.specs.declared.Answer.the-variants as A
+use Rattle.domain_due.specs.declared.Reading.the-variants as A
 use Rattle.domain_terms.specs.Cells.{Wrote}
 use Rattle.domain_expressions.specs.Codes.{Written, Spent}
 use Rattle.domain_expressions.specs.declared.leaves.Progress.{Progress}

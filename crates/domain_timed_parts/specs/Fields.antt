@@ -2,23 +2,23 @@
 use Prim.Native.Nat.{ℕ, _+_, _≤_, _<_}
 use mathlib.Core.List.{List, [], _∷_, _++_}
 use mathlib.Core.Bool.{Bool, true, false, cond}
-use Rattle.text_words.specs.declared.spelling.Found.{Found}
-use Rattle.text_words.specs.declared.spelling.Found.the-variants.{At, Nothing}
-use Rattle.domain_due.specs.declared.Answer.{Answer}
-use Rattle.domain_due.specs.declared.Answer.the-variants.{Done, Refused}
+use Rattle.text_words.specs.declared.spelling.Place.{Place}
+use Rattle.text_words.specs.declared.spelling.Place.the-variants.{At, Nothing}
+use Rattle.domain_due.specs.declared.Reading.{Reading}
+use Rattle.domain_due.specs.declared.Reading.the-variants.{Done, Refused}
 use Rattle.domain_meaning.specs.Read.{_>>=_, Read, Reader, got, refused, give}
 use Rattle.domain_meaning.specs.Terms.{Scope, Counted, counts}
 use Rattle.domain_meaning.specs.Actions.{Timed, parts, atStart, fieldOf, treeOf}
 use Rattle.domain_timed_parts.specs.Bodies.{bodyOf, timedCells}
 
 -- whether a field's word follows: where it ends
-abbrev pub fieldFound : Read Bool → Found
+abbrev pub fieldFound : Read Bool → Place
 fieldFound (got true n) = At n
 fieldFound (got false n) = Nothing
 fieldFound (refused k p) = Nothing
 
 -- the word ends within the text's n bytes and past `at`
-unfoldable pub Farther : ℕ → ℕ → Found → Type 0
+unfoldable pub Farther : ℕ → ℕ → Place → Type 0
 Farther n at (At e) = (at < e) × (e ≤ n)
 Farther n at Nothing = Unit {0}
 
@@ -39,6 +39,6 @@ abbrev pub endedCells : List (Timed (List ℕ)) → List ℕ
 endedCells xs = timedCells xs ++ 0 ∷ []
 
 -- the place after is within the text's n bytes and not before `at`; at most two cells more were written than bytes were read
-unfoldable pub Onwards : ℕ → ℕ → ℕ → Answer → Type 0
+unfoldable pub Onwards : ℕ → ℕ → ℕ → Reading → Type 0
 Onwards n used at (Done a v) = (at ≤ a) × (a ≤ n) × (used ≤ v) × (v + at ≤ used + a + 2)
 Onwards n used at (Refused k p) = Unit {0}

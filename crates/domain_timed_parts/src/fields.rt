@@ -1,13 +1,13 @@
 // The fields of an action that hold its condition and its effect, each optional.
 use crate::bodies;
 use crate::timed;
-use domain_due::Answer;
+use domain_due::Reading;
 use domain_expressions::leaves::Progress;
 use domain_terms::scope::Counts;
 use text_tokens::tokens;
 use text_tokens::tokens::Token;
 use text_words::spelling;
-use text_words::spelling::Found;
+use text_words::spelling::Place;
 ghost use mathlib.Core.Path.{_≡_};
 ghost use Prim.Native.Nat.{_+_, _-_, _≤_};
 ghost use lib.ListN.{length};
@@ -20,18 +20,18 @@ ghost use Rattle.domain_timed_parts.specs.Bodies.{timedCells};
 ghost use Rattle.domain_timed_parts.specs.Fields.{fieldFound, Farther, partsOf, fieldParts, endedCells, Onwards};
 
 // Whether a field's word follows: where it ends.
-fn field_at(text: &[u8], from: usize, w: &[u8]) -> Found
+fn field_at(text: &[u8], from: usize, w: &[u8]) -> Place
     requires { ⌜ from ≤ length (now text) ⌝ }
     ensures { λ r. ⌜ (r ≡ fieldFound (fieldOf (now (text .entry)) (now (w .entry)) from)) × Farther (length (now (text .entry))) from r ⌝ }
 {
     let t = tokens::token_at(text, from);
     let Token::Word(_, p, e) = t else {
-        return Found::Nothing;
+        return Place::Nothing;
     };
     if spelling::same_word(tokens::word_of(text, t), w) {
-        return Found::At(e);
+        return Place::At(e);
     }
-    Found::Nothing
+    Place::Nothing
 }
 
 // Behind a field's word: the parts of a durative action, or the one condition or effect of a simple one, which is at its start.
@@ -68,14 +68,14 @@ pub fn field_parts(
     left: usize,
     durative: bool,
     over: bool,
-) -> Answer
+) -> Reading
     requires { ⌜ (from ≤ length (now text)) × Scopes (now tables) counts × (used + (length (now text) - from) + 3 ≤ 18446744073709551615) ⌝ }
     ensures { λ r. ⌜ ((c : Scope) → Scoped (now (tables .entry)) counts c → Wrote endedCells (now (code .entry)) used r (now (code .exit)) (fieldParts durative over (now (text .entry)) c (now (w .entry)) left from)) × Onwards (length (now (text .entry))) used from r ⌝ }
 {
     let f = field_at(text, from, w);
-    let Found::At(inside) = f else {
+    let Place::At(inside) = f else {
         domain_literals::put(code, used, 0);
-        return Answer::Done(from, used + 1);
+        return Reading::Done(from, used + 1);
     };
     let x = held_at(
         text,
@@ -91,8 +91,8 @@ pub fn field_parts(
     match x {
         Progress::Done(after, free, _) => {
             domain_literals::put(code, free, 0);
-            Answer::Done(after, free + 1)
+            Reading::Done(after, free + 1)
         }
-        Progress::Refused(k, p) => Answer::Refused(k, p),
+        Progress::Refused(k, p) => Reading::Refused(k, p),
     }
 }

@@ -1,7 +1,7 @@
 // "In a durative action each part, under at most one outer `and`, is `at start`, `over all` (conditions only) or `at end` around a condition or effect."
 use crate::bodies;
 use crate::times;
-use domain_due::Answer;
+use domain_due::Reading;
 use domain_expressions::leaves;
 use domain_expressions::leaves::Progress;
 use domain_terms::scope::Counts;
@@ -33,7 +33,7 @@ fn part_behind(
     ensures { λ r. ⌜ ((c : Scope) → Scoped (now (tables .entry)) counts c → Written timedCells (now (code .entry)) used r (now (code .exit)) (partBehind (now (text .entry)) over (bodyOf over (now (text .entry)) c) d left p e e)) × Spent 0 (length (now (text .entry))) used e r ⌝ }
 {
     let w = times::time_of(text, p, e, d, over);
-    let Answer::Done(at, when) = w else {
+    let Reading::Done(at, when) = w else {
         return leaves::progress_of(w, left);
     };
     domain_literals::put(code, used, when);
@@ -42,7 +42,7 @@ fn part_behind(
         return x;
     };
     let c = domain_due::closing(text, after, d);
-    let Answer::Done(end, _) = c else {
+    let Reading::Done(end, _) = c else {
         return leaves::progress_of(c, more);
     };
     Progress::Done(end, free, more)
@@ -64,7 +64,7 @@ fn part_at(
     ensures { λ r. ⌜ ((c : Scope) → Scoped (now (tables .entry)) counts c → Written timedCells (now (code .entry)) used r (now (code .exit)) (partAt (now (text .entry)) over (bodyOf over (now (text .entry)) c) d left from)) × Spent 0 (length (now (text .entry))) used from r ⌝ }
 {
     let o = domain_due::opening(text, from, d);
-    let Answer::Done(inside, _) = o else {
+    let Reading::Done(inside, _) = o else {
         return leaves::progress_of(o, left);
     };
     let t = tokens::token_at(text, inside);
@@ -123,7 +123,7 @@ pub fn parts_at(
     ensures { λ r. ⌜ ((c : Scope) → Scoped (now (tables .entry)) counts c → Written timedCells (now (code .entry)) used r (now (code .exit)) (parts (now (text .entry)) over (bodyOf over (now (text .entry)) c) d left from)) × Spent 0 (length (now (text .entry))) used from r ⌝ }
 {
     let o = domain_due::opening(text, from, d);
-    let Answer::Done(inside, _) = o else {
+    let Reading::Done(inside, _) = o else {
         return leaves::progress_of(o, left);
     };
     let t = tokens::token_at(text, inside);

@@ -2,10 +2,10 @@
 use crate::items;
 use crate::items::Item;
 use crate::types;
-use domain_due::Answer;
+use domain_due::Reading;
 use text_tokens::runs;
 use text_words::names;
-use text_words::spelling::Found;
+use text_words::spelling::Place;
 ghost use mathlib.Core.Path.{_≡_};
 ghost use mathlib.Core.Bool.{cond};
 ghost use mathlib.Core.List.{List, []};
@@ -28,17 +28,17 @@ pub fn fresh_at(
     rows: &[u8],
     max: usize,
     n: usize,
-) -> Answer
+) -> Reading
     ensures { λ r. ⌜ ((m : ℕ) (t : Table) → Holds m (now (rows .entry)) n t → r ≡ answerOf (fresh max t place (part (now (text .entry)) start end) end)) × Room max n r ⌝ }
 {
     let f = names::find(rows, n, runs::part_of(text, start, end));
-    let Found::Nothing = f else {
-        return Answer::Refused(7, place);
+    let Place::Nothing = f else {
+        return Reading::Refused(7, place);
     };
     if max <= n {
-        return Answer::Refused(12, place);
+        return Reading::Refused(12, place);
     }
-    Answer::Done(end, place)
+    Reading::Done(end, place)
 }
 
 // A name more in the table, an object.
@@ -50,17 +50,17 @@ fn declare_name(
     rows: &mut [u8],
     max: usize,
     n: usize,
-) -> Answer
+) -> Reading
     requires { ⌜ (length (part (now text) start end) ≤ 32) × Stands max (now rows) n ⌝ }
     ensures { λ r. ⌜ ((t : Table) → Holds max (now (rows .entry)) n t → Outcome max r (now (rows .exit)) (declare max t place (part (now (text .entry)) start end) end)) ⌝ }
 {
     let f = fresh_at(text, place, start, end, rows, max, n);
-    let Answer::Done(after, _) = f else {
+    let Reading::Done(after, _) = f else {
         return f;
     };
     let object = [0u8; 1];
     domain_rows::enter(rows, max, n, runs::part_of(text, start, end), &object);
-    Answer::Done(after, n + 1)
+    Reading::Done(after, n + 1)
 }
 
 // Behind a dash: a type's parent stands before the group, any other type is in `types`.
@@ -73,7 +73,7 @@ fn type_of_group(
     rows: &[u8],
     g: usize,
     n: usize,
-) -> Answer
+) -> Reading
     requires { ⌜ (from ≤ length (now text)) × (tn ≤ 255) × (g ≤ 255) ⌝ }
     ensures { λ r. ⌜ ((m : ℕ) (ts t : Table) → Holds 17 (now (types .entry)) tn ts → Holds m (now (rows .entry)) n t → r ≡ answerOf (typeDue (now (text .entry)) (cond own t ts) (cond own g (length ts)) from)) × Ahead (length (now (text .entry))) from r × Below 256 r ⌝ }
 {
@@ -95,19 +95,19 @@ fn group_at(
     max: usize,
     g: usize,
     n: usize,
-) -> Answer
+) -> Reading
     requires { ⌜ (from ≤ length (now text)) × Stands 17 (now types) tn × Stands max (now rows) n × (n ≤ 255) ⌝ }
     ensures { λ r. ⌜ ((ts t : Table) → Holds 17 (now (types .entry)) tn ts → Holds max (now (rows .entry)) n t → Outcome max r (now (rows .exit)) (andThen (waiting t g p from) (λ _. group (now (text .entry)) own ts t g))) × Ahead (length (now (text .entry))) from r ⌝ }
 {
     if n <= g {
-        return Answer::Refused(3, p);
+        return Reading::Refused(3, p);
     }
     let a = type_of_group(text, from, own, types, tn, rows, g, n);
-    let Answer::Done(after, k) = a else {
+    let Reading::Done(after, k) = a else {
         return a;
     };
     domain_rows::fill(rows, max, g, n, k as u8);
-    Answer::Done(after, n)
+    Reading::Done(after, n)
 }
 
 // The list's rest, to its closing bracket: of names or of variables (`var`), of types (`own`) or of what has a type of `types`.
@@ -121,17 +121,17 @@ pub fn typed_list(
     rows: &mut [u8],
     max: usize,
     mut n: usize,
-) -> Answer
+) -> Reading
     requires { ⌜ (at ≤ length (now text)) × Stands 17 (now types) tn × Stands max (now rows) n × (max ≤ 255) ⌝ }
     ensures { λ r. ⌜ ((ts t : Table) (k : ℕ) → Holds 17 (now (types .entry)) tn ts → Holds max (now (rows .entry)) n t → length (now (text .entry)) - at < k → Outcome max r (now (rows .exit)) (typed k (now (text .entry)) var own ts max t n at)) × Ahead (length (now (text .entry))) at r ⌝ }
 {
     let mut g = n;
     loop {
         match items::item_at(text, at, var) {
-            Item::Close(next) => return Answer::Done(next, n),
+            Item::Close(next) => return Reading::Done(next, n),
             Item::Dash(p, next) => {
                 let a = group_at(text, p, next, own, types, tn, rows, max, g, n);
-                let Answer::Done(after, m) = a else {
+                let Reading::Done(after, m) = a else {
                     return a;
                 };
                 at = after;
@@ -140,7 +140,7 @@ pub fn typed_list(
             }
             Item::Name(place, start, end) => {
                 let a = declare_name(text, place, start, end, rows, max, n);
-                let Answer::Done(_, m) = a else {
+                let Reading::Done(_, m) = a else {
                     return a;
                 };
                 at = end;
@@ -159,7 +159,7 @@ pub fn names_to(
     tn: usize,
     rows: &mut [u8],
     count: usize,
-) -> Answer
+) -> Reading
     requires { ⌜ (from ≤ length (now text)) × Stands 17 (now types) tn × Stands 64 (now rows) count ⌝ }
     ensures { λ r. ⌜ ((ts t : Table) → Holds 17 (now (types .entry)) tn ts → Holds 64 (now (rows .entry)) count t → Outcome 64 r (now (rows .exit)) (namesTo (now (text .entry)) ts 64 t from)) × Ahead (length (now (text .entry))) from r ⌝ }
 {
@@ -174,7 +174,7 @@ pub fn variables_to(
     tn: usize,
     rows: &mut [u8],
     most: usize,
-) -> Answer
+) -> Reading
     requires { ⌜ (from ≤ length (now text)) × Stands 17 (now types) tn × (now rows ≡ rowsOf most []) × (most ≤ 255) ⌝ }
     ensures { λ r. ⌜ ((ts : Table) → Holds 17 (now (types .entry)) tn ts → Outcome most r (now (rows .exit)) (variablesTo (now (text .entry)) ts most from)) × Ahead (length (now (text .entry))) from r ⌝ }
 {
@@ -182,7 +182,7 @@ pub fn variables_to(
 }
 
 // The types of a domain, behind `object`.
-pub fn types_to(text: &[u8], from: usize, rows: &mut [u8]) -> Answer
+pub fn types_to(text: &[u8], from: usize, rows: &mut [u8]) -> Reading
     requires { ⌜ (from ≤ length (now text)) × (now rows ≡ rowsOf 17 []) ⌝ }
     ensures { λ r. ⌜ Outcome 17 r (now (rows .exit)) (typesTo (now (text .entry)) from) × Ahead (length (now (text .entry))) from r ⌝ }
 {

@@ -1,11 +1,11 @@
 // A type, where one is due: its number in a table of types.
-use domain_due::Answer;
+use domain_due::Reading;
 use text_tokens::tokens;
 use text_tokens::tokens::Spot;
 use text_tokens::tokens::Token;
 use text_tokens::tokens::Word;
 use text_words::names;
-use text_words::spelling::Found;
+use text_words::spelling::Place;
 ghost use mathlib.Core.Path.{_≡_};
 ghost use Prim.Native.Nat.{ℕ, _≤_};
 ghost use lib.ListN.{length};
@@ -18,7 +18,7 @@ ghost use Rattle.domain_rows.specs.Held.{Holds};
 ghost use Rattle.domain_typed_lists.specs.Outcome.{Below};
 
 // The token at `from`, which is no word, is refused: there is no number to answer.
-fn no_word(text: &[u8], from: usize) -> Answer
+fn no_word(text: &[u8], from: usize) -> Reading
     requires { ⌜ from ≤ length (now text) ⌝ }
     ensures { λ r. ⌜ ((at : ℕ) → r ≡ answerOf (onOpen (tokenAt (now (text .entry)) from) (typeOfOther (now (text .entry))) (wrong 13 (tokenAt (now (text .entry)) from)) at)) × Below 0 r ⌝ }
 {
@@ -28,13 +28,13 @@ fn no_word(text: &[u8], from: usize) -> Answer
     };
     let o = tokens::spot_at(text, p + 1, b"either");
     let Spot::At(q, _) = o else {
-        return Answer::Refused(3, p);
+        return Reading::Refused(3, p);
     };
-    Answer::Refused(11, q)
+    Reading::Refused(11, q)
 }
 
 // The number of the type that is named next, one of the first b of the n in the table.
-pub fn type_due(text: &[u8], from: usize, rows: &[u8], n: usize, b: usize) -> Answer
+pub fn type_due(text: &[u8], from: usize, rows: &[u8], n: usize, b: usize) -> Reading
     requires { ⌜ from ≤ length (now text) ⌝ }
     ensures { λ r. ⌜ ((m : ℕ) (t : Table) → Holds m (now (rows .entry)) n t → r ≡ answerOf (typeDue (now (text .entry)) t b from)) × Ahead (length (now (text .entry))) from r × Below b r ⌝ }
 {
@@ -43,14 +43,14 @@ pub fn type_due(text: &[u8], from: usize, rows: &[u8], n: usize, b: usize) -> An
         return no_word(text, from);
     };
     let Word::Name = k else {
-        return Answer::Refused(3, p);
+        return Reading::Refused(3, p);
     };
     let f = names::find(rows, n, tokens::word_of(text, t));
-    let Found::At(i) = f else {
-        return Answer::Refused(8, p);
+    let Place::At(i) = f else {
+        return Reading::Refused(8, p);
     };
     if b <= i {
-        return Answer::Refused(8, p);
+        return Reading::Refused(8, p);
     }
-    Answer::Done(e, i)
+    Reading::Done(e, i)
 }

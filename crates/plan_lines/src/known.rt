@@ -3,7 +3,7 @@ use domain_terms::scope;
 use domain_terms::scope::Counts;
 use text_tokens::runs;
 use text_words::names;
-use text_words::spelling::Found;
+use text_words::spelling::Place;
 ghost use mathlib.Core.Path.{_≡_};
 ghost use Prim.Native.Nat.{_+_, _*_, _≤_, _<_};
 ghost use lib.ListN.{length, getD};
@@ -14,7 +14,7 @@ ghost use Rattle.domain_stored_meaning.specs.Decode.{lastingAt};
 ghost use Rattle.plan_lines.specs.Knowing.{Tabled, Headed, typesIn, objectsIn, lastsOf};
 
 // The number of the object w.
-pub fn object_of<'a>(tables: &'a [u8], counts: Counts, w: &'a [u8]) -> Found
+pub fn object_of<'a>(tables: &'a [u8], counts: Counts, w: &'a [u8]) -> Place
     requires { ⌜ Tabled (now tables) counts ⌝ }
     ensures { λ r. ⌜ r ≡ lookup (objectsIn (now (tables .entry)) counts) (now (w .entry)) ⌝ }
 {
@@ -36,7 +36,7 @@ pub fn is_fit(tables: &[u8], counts: Counts, i: usize, want: usize) -> bool
 }
 
 // The number of the action w.
-pub fn action_of<'a>(heads: &'a [u8], acting: usize, w: &'a [u8]) -> Found
+pub fn action_of<'a>(heads: &'a [u8], acting: usize, w: &'a [u8]) -> Place
     requires { ⌜ Headed (now heads) acting ⌝ }
     ensures { λ r. ⌜ r ≡ lookup (signedIn (now (heads .entry)) acting) (now (w .entry)) ⌝ }
 {

@@ -10,8 +10,8 @@ use lib.IntN.{natAbs}
 use lib.ListN.{length, length-map}
 use borrow.Author.Tests.{ltb-false, ne-eqb, eqb-false}
 use Rattle.text_words.specs.Bytes.{isOneOf}
-use Rattle.text_words.specs.declared.spelling.Found.{Found}
-use Rattle.text_words.specs.declared.spelling.Found.the-variants as F
+use Rattle.text_words.specs.declared.spelling.Place.{Place}
+use Rattle.text_words.specs.declared.spelling.Place.the-variants as F
 use Rattle.text_tokens.specs.Tokens.{planTokenAt}
 use Rattle.text_tokens.specs.declared.tokens.Token.{Token}
 use Rattle.domain_rows.proofs.Rows.{length-padded}
@@ -102,7 +102,7 @@ module _ (s : List ℕ) (m : ℕ) (room : min (length s) 256 ≤ m) where
   unfolding declared
   declared-walk t p w at i h = go (lookup t w) refl
     where
-      go : (f : Found) → lookup t w ≡ f → Given (λ (i n : ℕ). (i < length t) × (n ≤ m)) (Placed m) (onFound f (λ i. give i) (refuse 8 p) at)
+      go : (f : Place) → lookup t w ≡ f → Given (λ (i n : ℕ). (i < length t) × (n ≤ m)) (Placed m) (onFound f (λ i. give i) (refuse 8 p) at)
       go (F.At j) e = reads (found-below t w j e, h)
       go F.Nothing e = row 8 i refl
 

@@ -8,7 +8,7 @@ use domain_load::Verdict;
 use program_records::input;
 use text_tokens::runs;
 use text_words::spelling;
-use text_words::spelling::Found;
+use text_words::spelling::Place;
 ghost use Prim.Native.Nat.{_≤_, _<_};
 ghost use lib.ListN.{length};
 
@@ -84,7 +84,7 @@ fn load<'a>(domain: &'a [u8], problem: &'a [u8], sizes: &'a [u8], kept: Check) -
 // The calls on the check: the check after the one that is meant.
 fn call(word: &[u8], given: &[u8], check: Check) -> Check {
     let f = spelling::word_in(b"feed bytes finish result facts numbers", word);
-    let Found::At(i) = f else {
+    let Place::At(i) = f else {
         io::write_all(1, b"\n");
         return check;
     };
@@ -138,7 +138,7 @@ fn step<'a>(domain: &'a [u8], problem: &'a [u8], line: &'a [u8], bench: Bench) -
     let kept = bench.kept;
     let answer = bench.answer;
     let f = spelling::word_in(b"load refused keep restore compare spoil", word);
-    let Found::At(i) = f else {
+    let Place::At(i) = f else {
         let check = call(word, given, check);
         return Bench {
             check,

@@ -10,7 +10,7 @@ use plan_meaning::Step;
 use plan_running::Past;
 use plan_waiting::Queue;
 use text_words::spelling;
-use text_words::spelling::Found;
+use text_words::spelling::Place;
 
 // What came of the plan so far: its time, or a failure in a line or in two.
 fn spoil_past(before: Past, i: usize, v: usize) -> Past {
@@ -141,7 +141,7 @@ pub fn spoil(before: Check, word: &[u8], v: usize) -> Check {
         b"number used start actions types objects facts numbers waiting action begin duration line width refusal at column time condition undefined first second",
         word,
     );
-    let Found::At(i) = f else {
+    let Place::At(i) = f else {
         return before;
     };
     let mut check = before;

@@ -14,8 +14,8 @@ use borrow.Author.Tests.{eq-eqb, ne-eqb, lt-ltb, le-ltb, le-leb, lt-leb}
 use Rattle.text_words.specs.Bytes.{lowerOf, kindOf, isLetter}
 use Rattle.text_words.specs.Spelling.{sameWord, nameByte, nameBytes, isName, placeFrom, unspaced, spaceFrom, onto, wordsOf, wordIn, picked}
 use Rattle.text_words.specs.Names.{nameOf, namesOf}
-use Rattle.text_words.specs.declared.spelling.Found.{Found}
-use Rattle.text_words.specs.declared.spelling.Found.the-variants.{At, Nothing}
+use Rattle.text_words.specs.declared.spelling.Place.{Place}
+use Rattle.text_words.specs.declared.spelling.Place.the-variants.{At, Nothing}
 
 -- the bytes from p on: one byte, and those from p + 1 on
 pub at-cons : (s : List ℕ) (p : ℕ) → p < length s → drop p s ≡ getD s p 0 ∷ drop (p + 1) s
@@ -230,5 +230,5 @@ module _ (rows w : List ℕ) (n i at : ℕ) where
 pub not-yet : (k i : ℕ) → k ≤ i → (i ≡ k → ⊥) → k + 1 ≤ i
 not-yet k i h n = omega arith
 
-pub picked-past : {A : Type 0} (xs : List A) (x : A) (f : Found) (i : ℕ) → f ≡ At i → length xs ≤ i → x ≡ picked f xs x
+pub picked-past : {A : Type 0} (xs : List A) (x : A) (f : Place) (i : ℕ) → f ≡ At i → length xs ≤ i → x ≡ picked f xs x
 picked-past xs x f i e h = rw e (sym (List·getD-eq-default xs x h))

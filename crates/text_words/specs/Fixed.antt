@@ -4,14 +4,14 @@ use mathlib.Core.List.{List, [], _∷_}
 use mathlib.Core.Bool.{Bool}
 use Rattle.text_words.specs.Bytes.{bytes}
 use Rattle.text_words.specs.Spelling.{wordIn, isAt, picked}
-use Rattle.text_words.specs.declared.fixed.Head.{Head}
-use Rattle.text_words.specs.declared.fixed.Head.the-variants as H
+use Rattle.text_words.specs.declared.fixed.HeadWord.{HeadWord}
+use Rattle.text_words.specs.declared.fixed.HeadWord.the-variants as H
 
 -- "`and`, `not` around one atom or comparison, .. comparisons `= < <= > >=`, `+` of two, `-` of one or two expressions, effects `assign`, `increase`, `decrease`"
-abbrev pub heads : List Head
+abbrev pub heads : List HeadWord
 heads = H.And ∷ H.Not ∷ H.Equal ∷ H.Less ∷ H.AtMost ∷ H.More ∷ H.AtLeast ∷ H.Plus ∷ H.Minus ∷ H.Assign ∷ H.Increase ∷ H.Decrease ∷ []
 
-unfoldable pub headOf : List ℕ → Head
+unfoldable pub headOf : List ℕ → HeadWord
 headOf w =
     picked (wordIn (bytes "and not = < <= > >= + - assign increase decrease") w)
     heads H.Other

@@ -8,8 +8,8 @@ use lib.Dec.{eqb}
 use Rattle.text_words.specs.Bytes.{kindOf, lowerOf, isLetter}
 use Rattle.text_words.specs.declared.bytes.Kind.{Kind}
 use Rattle.text_words.specs.declared.bytes.Kind.the-variants as K
-use Rattle.text_words.specs.declared.spelling.Found.{Found}
-use Rattle.text_words.specs.declared.spelling.Found.the-variants.{At, Nothing}
+use Rattle.text_words.specs.declared.spelling.Place.{Place}
+use Rattle.text_words.specs.declared.spelling.Place.the-variants.{At, Nothing}
 
 -- "Letters compare without case"
 unfoldable pub sameWord : List ℕ → List ℕ → Bool
@@ -42,11 +42,11 @@ isName (b ∷ bs) = isLetter (kindOf b) && nameBytes bs
 -- ---- a word in a list of words
 
 -- where the word w first stands among some words, counted from i
-unfoldable pub placeFrom : ℕ → List (List ℕ) → List ℕ → Found
+unfoldable pub placeFrom : ℕ → List (List ℕ) → List ℕ → Place
 placeFrom i [] w = Nothing
 placeFrom i (v ∷ vs) w = cond (sameWord v w) (At i) (placeFrom (i + 1) vs w)
 
-abbrev pub isAt : Found → Bool
+abbrev pub isAt : Place → Bool
 isAt (At i) = true
 isAt Nothing = false
 
@@ -68,10 +68,10 @@ unfoldable pub wordsOf : List ℕ → List (List ℕ)
 wordsOf [] = [] ∷ []
 wordsOf (b ∷ bs) = cond (eqb b (code " ")) ([] ∷ wordsOf bs) (onto b (wordsOf bs))
 
-unfoldable pub wordIn : List ℕ → List ℕ → Found
+unfoldable pub wordIn : List ℕ → List ℕ → Place
 wordIn list w = placeFrom 0 (wordsOf list) w
 
 -- what stands in xs at the place that was found, or else x
-abbrev pub picked : {A : Type 0} → Found → List A → A → A
+abbrev pub picked : {A : Type 0} → Place → List A → A → A
 picked (At i) xs x = getD xs i x
 picked Nothing xs x = x

@@ -1,11 +1,11 @@
 // The words that document 01 fixes: heads, flags, the words of refusal 11, and those that can't be declared.
 use crate::spelling;
-use crate::spelling::Found;
+use crate::spelling::Place;
 ghost use mathlib.Core.Path.{_≡_};
 ghost use Rattle.text_words.specs.Fixed.{headOf, isFlag, isListed, isReserved, isOperator};
 
 // What may open a condition, an expression or an effect, beside a declared name.
-pub enum Head {
+pub enum HeadWord {
     And,
     Not,
     Equal,
@@ -21,27 +21,27 @@ pub enum Head {
     Other,
 }
 
-pub fn head_of(w: &[u8]) -> Head
+pub fn head_of(w: &[u8]) -> HeadWord
     ensures { λ r. ⌜ r ≡ headOf (now (w .entry)) ⌝ }
 {
     let f = spelling::word_in(b"and not = < <= > >= + - assign increase decrease", w);
-    let Found::At(i) = f else {
-        return Head::Other;
+    let Place::At(i) = f else {
+        return HeadWord::Other;
     };
     match i {
-        0 => Head::And,
-        1 => Head::Not,
-        2 => Head::Equal,
-        3 => Head::Less,
-        4 => Head::AtMost,
-        5 => Head::More,
-        6 => Head::AtLeast,
-        7 => Head::Plus,
-        8 => Head::Minus,
-        9 => Head::Assign,
-        10 => Head::Increase,
-        11 => Head::Decrease,
-        _ => Head::Other,
+        0 => HeadWord::And,
+        1 => HeadWord::Not,
+        2 => HeadWord::Equal,
+        3 => HeadWord::Less,
+        4 => HeadWord::AtMost,
+        5 => HeadWord::More,
+        6 => HeadWord::AtLeast,
+        7 => HeadWord::Plus,
+        8 => HeadWord::Minus,
+        9 => HeadWord::Assign,
+        10 => HeadWord::Increase,
+        11 => HeadWord::Decrease,
+        _ => HeadWord::Other,
     }
 }
 

@@ -1,6 +1,6 @@
 // Declared names, as rows of a lent table: one byte for the name's length, five numbers kept with it, the name in 32 bytes.
 use crate::spelling;
-use crate::spelling::Found;
+use crate::spelling::Place;
 ghost use mathlib.Core.Path.{_≡_};
 ghost use Prim.Native.Nat.{min};
 ghost use Rattle.text_words.specs.Names.{namesOf};
@@ -15,25 +15,25 @@ fn length_in(b: u8) -> usize
 
 // The number of the first of the table's first n names that is w. Lengths first: most names of a table have another length,
 // and no byte of theirs is read.
-pub fn find(rows: &[u8], n: usize, w: &[u8]) -> Found
+pub fn find(rows: &[u8], n: usize, w: &[u8]) -> Place
     ensures { λ r. ⌜ r ≡ placeFrom 0 (namesOf n (now (rows .entry))) (now (w .entry)) ⌝ }
 {
     let mut i = 0;
     let mut at = 0;
     while i < n {
         if rows.len() - at < 38 {
-            return Found::Nothing;
+            return Place::Nothing;
         }
         let size = length_in(rows[at]);
         if size == w.len() {
             let start = at + 6;
             let end = start + size;
             if spelling::same_word(&rows[start..end], w) {
-                return Found::At(i);
+                return Place::At(i);
             }
         }
         at += 38;
         i += 1;
     }
-    Found::Nothing
+    Place::Nothing
 }

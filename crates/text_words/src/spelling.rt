@@ -7,17 +7,17 @@ ghost use lib.ListN.{length, drop};
 ghost use Rattle.text_words.specs.Spelling.{sameWord, nameByte, nameBytes, isName, spaceFrom, wordIn, isAt};
 
 // Where a word was found.
-pub enum Found {
+pub enum Place {
     At(usize),
     Nothing,
 }
 
-pub fn is_at(f: Found) -> bool
+pub fn is_at(f: Place) -> bool
     ensures { λ r. ⌜ r ≡ isAt f ⌝ }
 {
     match f {
-        Found::At(_) => true,
-        Found::Nothing => false,
+        Place::At(_) => true,
+        Place::Nothing => false,
     }
 }
 
@@ -95,7 +95,7 @@ fn space_from(list: &[u8], from: usize) -> usize
 }
 
 // Which word of a list it is. The list is written as document 01 writes it, with single spaces.
-pub fn word_in(list: &[u8], w: &[u8]) -> Found
+pub fn word_in(list: &[u8], w: &[u8]) -> Place
     ensures { λ r. ⌜ r ≡ wordIn (now (list .entry)) (now (w .entry)) ⌝ }
 {
     let mut i = 0;
@@ -103,10 +103,10 @@ pub fn word_in(list: &[u8], w: &[u8]) -> Found
     while at <= list.len() {
         let end = space_from(list, at);
         if same_word(&list[at..end], w) {
-            return Found::At(i);
+            return Place::At(i);
         }
         at = end + 1;
         i += 1;
     }
-    Found::Nothing
+    Place::Nothing
 }

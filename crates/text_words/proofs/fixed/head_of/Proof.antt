@@ -3,7 +3,7 @@ use mathlib.Core.Path.{sym, _∙_}
 use native.Mathlib.Omega.{arith}
 use Rattle.text_words.specs.Bytes.{bytes}
 use Rattle.text_words.specs.Fixed.{headOf, heads}
-use Rattle.text_words.specs.declared.fixed.Head.the-variants as H
+use Rattle.text_words.specs.declared.fixed.HeadWord.the-variants as H
 use Rattle.text_words.proofs.Steps.{not-yet, picked-past}
 use borrow.Author.Needs.{needs}
 use Rattle.text_words.proofs.fixed.head_of.Statement.{statement}
