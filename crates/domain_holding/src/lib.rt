@@ -29,7 +29,7 @@ pub fn nothing() -> Held
 fn is_name_byte(b: u8) -> bool
     ensures { λ r. ⌜ r ≡ nameByte b ⌝ }
 {
-    let word = [97, b];
+    let word = [b'a', b];
     spelling::is_name(&word, 0)
 }
 
@@ -48,7 +48,7 @@ fn take_byte(block: &mut [u8], held: Held, b: u8) -> Held
     ensures { λ r. ⌜ keptIn (now (block .exit)) r ≡ nextOf (length (now (block .entry))) (keptIn (now (block .entry)) held) b ⌝ }
 {
     let used = held.used;
-    let on = bytes::in_run(59, b);
+    let on = bytes::in_run(b';', b);
     if used < block.len() {
         block[used] = b;
         return Held {

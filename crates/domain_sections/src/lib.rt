@@ -110,7 +110,7 @@ fn is_colon(text: &[u8], p: usize) -> bool
     ensures { λ r. ⌜ r ≡ eqb (getD (now (text .entry)) p 0) 58 ⌝ }
 {
     if p < text.len() {
-        return text[p] == 58;
+        return text[p] == b':';
     }
     false
 }

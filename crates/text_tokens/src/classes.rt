@@ -23,7 +23,7 @@ fn begins_number(w: &[u8]) -> bool
     if bytes::is_digit(w[0]) {
         return true;
     }
-    if w[0] != 45 {
+    if w[0] != b'-' {
         return false;
     }
     if w.len() == 1 {
@@ -61,10 +61,10 @@ pub fn class_of(w: &[u8]) -> Class
     if spelling::is_name(w, 0) {
         return Class::Name;
     }
-    if is_marked(w, 63) {
+    if is_marked(w, b'?') {
         return Class::Variable;
     }
-    if is_marked(w, 58) {
+    if is_marked(w, b':') {
         return Class::Keyword;
     }
     if fixed::is_operator(w) {

@@ -35,7 +35,7 @@ fn digits_end(w: &[u8], from: usize) -> usize
 fn digit(b: u8) -> usize
     ensures { λ r. ⌜ (r ≡ b - 48) × (r < 208) ⌝ }
 {
-    if b < 48 { 0 } else { (b - 48) as usize }
+    if b < b'0' { 0 } else { (b - b'0') as usize }
 }
 
 // The value of at most nine digits.
@@ -100,7 +100,7 @@ fn number_from(w: &[u8], from: usize) -> Numeral
     if w.len() <= end {
         return Numeral::Thousandths(whole * 1000);
     }
-    if w[end] != 46 {
+    if w[end] != b'.' {
         return Numeral::Malformed;
     }
     fraction(w, whole, end)
@@ -124,7 +124,7 @@ fn signed_of(minus: bool, n: Numeral) -> Number
 pub fn number_of(w: &[u8]) -> Number
     ensures { λ r. ⌜ r ≡ numberOf (now (w .entry)) ⌝ }
 {
-    if classes::begins_with(w, 45) {
+    if classes::begins_with(w, b'-') {
         return signed_of(true, number_from(w, 1));
     }
     signed_of(false, number_from(w, 0))

@@ -14,7 +14,7 @@ fn gap_step(comment: bool, b: u8) -> Gap
     ensures { λ r. ⌜ r ≡ gapStep comment b ⌝ }
 {
     if comment {
-        if b == 10 {
+        if b == b'\n' {
             return Gap::Plain;
         }
         if bytes::is_refused(b) {
@@ -22,7 +22,7 @@ fn gap_step(comment: bool, b: u8) -> Gap
         }
         return Gap::Comment;
     }
-    if b == 59 {
+    if b == b';' {
         return Gap::Comment;
     }
     if bytes::is_white(b) {

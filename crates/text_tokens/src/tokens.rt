@@ -92,10 +92,10 @@ fn bracket(b: u8, p: usize) -> Token
     requires { ⌜ p < 18446744073709551615 ⌝ }
     ensures { λ r. ⌜ r ≡ bracketOf b p ⌝ }
 {
-    if b == 40 {
+    if b == b'(' {
         return Token::Open(p, p + 1);
     }
-    if b == 41 {
+    if b == b')' {
         return Token::Close(p, p + 1);
     }
     Token::Refusal(3, p)
@@ -117,7 +117,7 @@ pub fn token_at(text: &[u8], from: usize) -> Token
         Kind::Refused => Token::Refusal(2, p),
         Kind::Bracket => bracket(b, p),
         Kind::Digit | Kind::Letter | Kind::White | Kind::Mark => {
-            let e = runs::run_end(text, 59, p + 1);
+            let e = runs::run_end(text, b';', p + 1);
             domain_word(runs::part_of(text, p, e), p, e)
         }
     }
@@ -140,7 +140,7 @@ pub fn spot_at(text: &[u8], from: usize, w: &[u8]) -> Spot
     if text.len() <= p {
         return Spot::Other;
     }
-    let e = runs::run_end(text, 59, p + 1);
+    let e = runs::run_end(text, b';', p + 1);
     if spelling::same_word(runs::part_of(text, p, e), w) {
         return Spot::At(p, e);
     }
@@ -169,7 +169,7 @@ fn strange(long: usize, p: usize) -> Token
 fn plan_number(w: &[u8], p: usize, e: usize) -> Token
     ensures { λ r. ⌜ r ≡ planNumber (now (w .entry)) p e ⌝ }
 {
-    if classes::begins_with(w, 45) {
+    if classes::begins_with(w, b'-') {
         return Token::Refusal(6, p);
     }
     number_token(w, p, e)
@@ -192,10 +192,10 @@ fn plan_bracket(b: u8, p: usize) -> Token
     requires { ⌜ p < 18446744073709551615 ⌝ }
     ensures { λ r. ⌜ r ≡ squareOf b p ⌝ }
 {
-    if b == 40 {
+    if b == b'(' {
         return Token::Open(p, p + 1);
     }
-    if b == 41 {
+    if b == b')' {
         return Token::Close(p, p + 1);
     }
     Token::Mark(b, p, p + 1)
@@ -210,14 +210,14 @@ pub fn plan_token_at(line: &[u8], from: usize) -> Token
         return judged(line.len(), Token::End(p));
     }
     let b = line[p];
-    if b == 58 {
-        return judged(p + 1, Token::Mark(58, p, p + 1));
+    if b == b':' {
+        return judged(p + 1, Token::Mark(b':', p, p + 1));
     }
     match bytes::kind_of(b) {
         Kind::Refused => judged(p + 1, Token::Refusal(2, p)),
         Kind::Bracket => judged(p + 1, plan_bracket(b, p)),
         Kind::Digit | Kind::Letter | Kind::White | Kind::Mark => {
-            let e = runs::run_end(line, 58, p + 1);
+            let e = runs::run_end(line, b':', p + 1);
             judged(e, plan_word(runs::part_of(line, p, e), p, e))
         }
     }

@@ -15,11 +15,11 @@ pub fn kind_of(b: u8) -> Kind
     ensures { λ r. ⌜ r ≡ kindOf b ⌝ }
 {
     match b {
-        48..=57 => Kind::Digit,
-        65..=90 | 97..=122 => Kind::Letter,
-        40 | 41 | 91 | 93 => Kind::Bracket,
-        9 | 10 | 13 | 32 => Kind::White,
-        33..=126 => Kind::Mark,
+        b'0'..=b'9' => Kind::Digit,
+        b'A'..=b'Z' | b'a'..=b'z' => Kind::Letter,
+        b'(' | b')' | b'[' | b']' => Kind::Bracket,
+        b'\t' | b'\n' | b'\r' | b' ' => Kind::White,
+        b'!'..=b'~' => Kind::Mark,
         _ => Kind::Refused,
     }
 }
@@ -58,7 +58,7 @@ pub fn is_refused(b: u8) -> bool
 pub fn in_run(stop: u8, b: u8) -> bool
     ensures { λ r. ⌜ r ≡ inRun stop b ⌝ }
 {
-    if b == 59 {
+    if b == b';' {
         return false;
     }
     if b == stop {
@@ -78,10 +78,10 @@ pub fn in_run(stop: u8, b: u8) -> bool
 pub fn lower(b: u8) -> u8
     ensures { λ r. ⌜ r ≡ lowerOf b ⌝ }
 {
-    if b < 65 {
+    if b < b'A' {
         return b;
     }
-    if 90 < b {
+    if b'Z' < b {
         return b;
     }
     b + 32

@@ -48,7 +48,7 @@ fn is_name_byte(b: u8) -> bool
         Kind::Letter => true,
         Kind::Bracket => false,
         Kind::White => false,
-        Kind::Mark => b == 45 || b == 95,
+        Kind::Mark => b == b'-' || b == b'_',
         Kind::Refused => false,
     }
 }
@@ -86,7 +86,7 @@ fn space_from(list: &[u8], from: usize) -> usize
 {
     let mut at = from;
     while at < list.len() {
-        if list[at] == 32 {
+        if list[at] == b' ' {
             return at;
         }
         at += 1;
