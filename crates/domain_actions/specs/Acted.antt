@@ -37,7 +37,8 @@ restOf false s c e = simpleBody s c e
 -- an action with the name and parameters of e was read: its cells were stored from `used` on, and where they begin as number n
 unfoldable pub Bodied : Entry → List ℕ → ℕ → List ℕ → ℕ → Reading → List ℕ → List ℕ → Read Action → Type 0
 Bodied e code used starts n r code′ starts′ (got a m) =
-    (r ≡ Done m (used + length (actionCells a))) × (code′ ≡ sets code used (actionCells a)) × (starts′ ≡ sets starts (3 * n) (startOf used a)) × (a .declared ≡ e)
+    (r ≡ Done m (used + length (actionCells a))) × (code′ ≡ sets code used (actionCells a))
+    × (starts′ ≡ sets starts (3 * n) (startOf used a)) × (a .declared ≡ e)
 Bodied e code used starts n r code′ starts′ (refused k p) = r ≡ Refused k p
 
 -- the place after is within the text's n bytes and not before `at`; at most `more` cells more were written than bytes were read
@@ -50,7 +51,8 @@ abbrev pub declarations : List Action → List Entry
 declarations as′ = map (λ a. a .declared) as′
 
 -- an action more, behind as′
-pub record Added (as′ : List Action) (code : List ℕ) (used : ℕ) (starts : List ℕ) (r : Reading) (rows′ code′ starts′ : List ℕ) (bs : List Action) (m : ℕ) : Type 0 where
+pub record Added (as′ : List Action) (code : List ℕ) (used : ℕ) (starts : List ℕ)
+    (r : Reading) (rows′ code′ starts′ : List ℕ) (bs : List Action) (m : ℕ) : Type 0 where
   pub action : Action
   pub is : bs ≡ as′ ++ action ∷ []
   pub answer : r ≡ Done m (used + length (actionCells action))

@@ -28,8 +28,11 @@ fn action_at(
     used: usize,
     starts: &mut [usize],
 ) -> Reading
-    requires { ⌜ (from ≤ length (now text)) × Scopes (now tables) counts × (length (now tables) ≡ 5054) × Stands 32 (now rows) n × (used + (length (now text) - from) + 2 ≤ 18446744073709551615) ⌝ }
-    ensures { λ r. ⌜ ((c : Scope) (as′ : List Action) → Scoped (now (tables .entry)) counts c → Holds 32 (now (rows .entry)) n (declarations as′) → Adds as′ (now (code .entry)) used (now (starts .entry)) r (now (rows .exit)) (now (code .exit)) (now (starts .exit)) (action (now (text .entry)) c durative as′ from)) × Ended 0 (length (now (text .entry))) used from r ⌝ }
+    requires { ⌜ (from ≤ length (now text)) × Scopes (now tables) counts × (length (now tables) ≡ 5054)
+        × Stands 32 (now rows) n × (used + (length (now text) - from) + 2 ≤ 18446744073709551615) ⌝ }
+    ensures { λ r. ⌜ ((c : Scope) (as′ : List Action) → Scoped (now (tables .entry)) counts c → Holds 32 (now (rows .entry)) n (declarations as′)
+        → Adds as′ (now (code .entry)) used (now (starts .entry)) r (now (rows .exit)) (now (code .exit)) (now (starts .exit))
+        (action (now (text .entry)) c durative as′ from)) × Ended 0 (length (now (text .entry))) used from r ⌝ }
 {
     let mut own = [0u8; 5054];
     let h = headers::header_at(text, from, tables, counts, rows, n, &mut own);
@@ -57,7 +60,8 @@ pub enum ActionHead {
 // Whether an action begins here, and of which kind.
 fn begun_at(text: &[u8], from: usize) -> ActionHead
     requires { ⌜ from ≤ length (now text) ⌝ }
-    ensures { λ r. ⌜ ((k : ℕ) (c : Scope) (as′ : List Action) → Begins (now (text .entry)) c as′ k r (actionsTo (suc k) (now (text .entry)) c as′ from) from) × Further (length (now (text .entry))) from r ⌝ }
+    ensures { λ r. ⌜ ((k : ℕ) (c : Scope) (as′ : List Action) → Begins (now (text .entry)) c as′ k r (actionsTo (suc k) (now (text .entry)) c as′ from) from)
+        × Further (length (now (text .entry))) from r ⌝ }
 {
     let simple = domain_sections::begins_at(text, from, b":action");
     if let Opened::At(_, e) = simple {
@@ -81,7 +85,9 @@ pub fn actions_to(
     starts: &mut [usize],
 ) -> Reading
     requires { ⌜ (from ≤ length (now text)) × (2 ≤ from) × Scopes (now tables) counts × (length (now tables) ≡ 5054) × (now rows ≡ rowsOf 32 []) ⌝ }
-    ensures { λ r. ⌜ ((c : Scope) (k : ℕ) → Scoped (now (tables .entry)) counts c → length (now (text .entry)) - from < k → Stores (length (now (text .entry))) (now (code .entry)) (now (starts .entry)) r (now (rows .exit)) (now (code .exit)) (now (starts .exit)) (actionsTo k (now (text .entry)) c [] from)) × Later (length (now (text .entry))) from r ⌝ }
+    ensures { λ r. ⌜ ((c : Scope) (k : ℕ) → Scoped (now (tables .entry)) counts c → length (now (text .entry)) - from < k
+        → Stores (length (now (text .entry))) (now (code .entry)) (now (starts .entry)) r (now (rows .exit)) (now (code .exit)) (now (starts .exit))
+        (actionsTo k (now (text .entry)) c [] from)) × Later (length (now (text .entry))) from r ⌝ }
 {
     let mut at = from;
     let mut n = 0;

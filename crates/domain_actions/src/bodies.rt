@@ -36,7 +36,9 @@ fn conditions_field(
     durative: bool,
 ) -> Reading
     requires { ⌜ (from ≤ length (now text)) × Scopes (now tables) counts × (used + (length (now text) - from) + 3 ≤ 18446744073709551615) ⌝ }
-    ensures { λ r. ⌜ ((c : Scope) → Scoped (now (tables .entry)) counts c → Wrote (partsCells condCells) (now (code .entry)) used r (now (code .exit)) (conditionsOf durative (now (text .entry)) c from)) × Onwards (length (now (text .entry))) used from r ⌝ }
+    ensures { λ r. ⌜ ((c : Scope) → Scoped (now (tables .entry)) counts c
+        → Wrote (partsCells condCells) (now (code .entry)) used r (now (code .exit)) (conditionsOf durative (now (text .entry)) c from))
+        × Onwards (length (now (text .entry))) used from r ⌝ }
 {
     if durative {
         return fields::field_parts(
@@ -77,7 +79,9 @@ fn effects_field(
     durative: bool,
 ) -> Reading
     requires { ⌜ (from ≤ length (now text)) × Scopes (now tables) counts × (used + (length (now text) - from) + 3 ≤ 18446744073709551615) ⌝ }
-    ensures { λ r. ⌜ ((c : Scope) → Scoped (now (tables .entry)) counts c → Wrote (partsCells listCells) (now (code .entry)) used r (now (code .exit)) (effectsOf durative (now (text .entry)) c from)) × Onwards (length (now (text .entry))) used from r ⌝ }
+    ensures { λ r. ⌜ ((c : Scope) → Scoped (now (tables .entry)) counts c
+        → Wrote (partsCells listCells) (now (code .entry)) used r (now (code .exit)) (effectsOf durative (now (text .entry)) c from))
+        × Onwards (length (now (text .entry))) used from r ⌝ }
 {
     fields::field_parts(
         text,
@@ -106,7 +110,9 @@ pub fn body_at(
     n: usize,
 ) -> Reading
     requires { ⌜ (from ≤ length (now text)) × Scopes (now tables) counts × (used + (length (now text) - from) + 6 ≤ 18446744073709551615) × (n < 32) ⌝ }
-    ensures { λ r. ⌜ ((c : Scope) (e : Entry) → Scoped (now (tables .entry)) counts c → Bodied e (now (code .entry)) used (now (starts .entry)) n r (now (code .exit)) (now (starts .exit)) (restOf durative (now (text .entry)) c e from)) × Ended 4 (length (now (text .entry))) used from r ⌝ }
+    ensures { λ r. ⌜ ((c : Scope) (e : Entry) → Scoped (now (tables .entry)) counts c
+        → Bodied e (now (code .entry)) used (now (starts .entry)) n r (now (code .exit)) (now (starts .exit)) (restOf durative (now (text .entry)) c e from))
+        × Ended 4 (length (now (text .entry))) used from r ⌝ }
 {
     let rule = domain_durations::lasting_at(text, from, tables, counts, code, used, durative);
     let Reading::Done(behind, v) = rule else {

@@ -24,8 +24,11 @@ fn parameters_to(
     own: &mut [u8],
     info: &mut [u8],
 ) -> Reading
-    requires { ⌜ (from ≤ length (now text)) × Scopes (now tables) counts × (length (now tables) ≡ 5054) × (length (now own) ≡ 5054) × (length (now info) ≡ 5) ⌝ }
-    ensures { λ r. ⌜ ((c : Scope) → Scoped (now (tables .entry)) counts c → Signed 4 r (now (info .entry)) (now (info .exit)) (variablesTo (now (text .entry)) (c .types) 4 from) × Owned c counts (now (own .exit)) (variablesTo (now (text .entry)) (c .types) 4 from)) × Ahead (length (now (text .entry))) from r ⌝ }
+    requires { ⌜ (from ≤ length (now text)) × Scopes (now tables) counts × (length (now tables) ≡ 5054)
+        × (length (now own) ≡ 5054) × (length (now info) ≡ 5) ⌝ }
+    ensures { λ r. ⌜ ((c : Scope) → Scoped (now (tables .entry)) counts c
+        → Signed 4 r (now (info .entry)) (now (info .exit)) (variablesTo (now (text .entry)) (c .types) 4 from) × Owned c counts (now (own .exit))
+        (variablesTo (now (text .entry)) (c .types) 4 from)) × Ahead (length (now (text .entry))) from r ⌝ }
 {
     let mut table = [0u8; 152];
     let types = runs::part_of(tables, 0, 646);
@@ -50,7 +53,9 @@ pub fn header_at(
     own: &mut [u8],
 ) -> Reading
     requires { ⌜ (from ≤ length (now text)) × Scopes (now tables) counts × (length (now tables) ≡ 5054) × (length (now own) ≡ 5054) × Stands 32 (now rows) n ⌝ }
-    ensures { λ r. ⌜ ((c : Scope) (t : Table) → Scoped (now (tables .entry)) counts c → Holds 32 (now (rows .entry)) n t → Titled c counts n t r (now (rows .exit)) (now (own .exit)) (titleOf (now (text .entry)) c t from)) × Beyond (length (now (text .entry))) from r ⌝ }
+    ensures { λ r. ⌜ ((c : Scope) (t : Table) → Scoped (now (tables .entry)) counts c → Holds 32 (now (rows .entry)) n t
+        → Titled c counts n t r (now (rows .exit)) (now (own .exit)) (titleOf (now (text .entry)) c t from))
+        × Beyond (length (now (text .entry))) from r ⌝ }
 {
     let h = domain_due::new_name(text, from, 14);
     let Reading::Done(end, start) = h else {

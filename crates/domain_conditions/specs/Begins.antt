@@ -62,7 +62,8 @@ Refuses (Done a v) x = ⊥
 Refuses (Refused k p) x = x ≡ refused k p
 
 -- what is read, by the head
-unfoldable pub Begins : List ℕ → ℕ → Scope → Bool → ℕ → (ℕ → ℕ → Reader (Counted Cond)) → (ℕ → ℕ → Reader (Counted Cond)) → ConditionHead → Read (Counted Cond) → Type 0
+unfoldable pub Begins : List ℕ → ℕ → Scope → Bool → ℕ → (ℕ → ℕ → Reader (Counted Cond)) → (ℕ → ℕ → Reader (Counted Cond))
+    → ConditionHead → Read (Counted Cond) → Type 0
 Begins s d c yes′ n f g (H.And p e) x = x ≡ f p e e
 Begins s d c yes′ n f g (H.Not p e) x = x ≡ g p e e
 Begins s d c yes′ n f g (H.Atom p e) x = x ≡ atomAt s d c yes′ n p e e

@@ -28,7 +28,9 @@ pub enum ConditionHead {
 // Comparison k, whose word stands from p to e.
 fn comparison_of(k: usize, p: usize, e: usize, left: usize) -> ConditionHead
     requires { ⌜ (p < e) × (k ≤ 4) ⌝ }
-    ensures { λ r. ⌜ ((s : List ℕ) (d : ℕ) (c : Scope) (yes : Bool) (f g : ℕ → ℕ → Reader (Counted Cond)) → Begins s d c yes left f g r (andThen (counted p left e) (compared s d c yes (comparisonOf k)))) × Inside p e r ⌝ }
+    ensures { λ r. ⌜ ((s : List ℕ) (d : ℕ) (c : Scope) (yes : Bool) (f g : ℕ → ℕ → Reader (Counted Cond))
+        → Begins s d c yes left f g r (andThen (counted p left e) (compared s d c yes (comparisonOf k))))
+        × Inside p e r ⌝ }
 {
     if left == 0 {
         return ConditionHead::Other(Reading::Refused(12, p));
@@ -39,7 +41,8 @@ fn comparison_of(k: usize, p: usize, e: usize, left: usize) -> ConditionHead
 // What an operator begins, which stands from p to e.
 fn operated_of(h: HeadWord, p: usize, e: usize, left: usize) -> ConditionHead
     requires { ⌜ p < e ⌝ }
-    ensures { λ r. ⌜ ((s : List ℕ) (d : ℕ) (c : Scope) (yes : Bool) (f g : ℕ → ℕ → Reader (Counted Cond)) → Begins s d c yes left f g r (operated s d c yes left h p e)) × Inside p e r ⌝ }
+    ensures { λ r. ⌜ ((s : List ℕ) (d : ℕ) (c : Scope) (yes : Bool) (f g : ℕ → ℕ → Reader (Counted Cond))
+        → Begins s d c yes left f g r (operated s d c yes left h p e)) × Inside p e r ⌝ }
 {
     match h {
         HeadWord::Equal => comparison_of(0, p, e, left),
@@ -54,7 +57,8 @@ fn operated_of(h: HeadWord, p: usize, e: usize, left: usize) -> ConditionHead
 // What a name begins, which stands from p to e.
 fn named_of(h: HeadWord, p: usize, e: usize) -> ConditionHead
     requires { ⌜ p < e ⌝ }
-    ensures { λ r. ⌜ ((s : List ℕ) (d : ℕ) (c : Scope) (yes : Bool) (n : ℕ) (f g : ℕ → ℕ → Reader (Counted Cond)) → Begins s d c yes n f g r (onName h (f p e) (g p e) (atomAt s d c yes n p e) e)) × Inside p e r ⌝ }
+    ensures { λ r. ⌜ ((s : List ℕ) (d : ℕ) (c : Scope) (yes : Bool) (n : ℕ) (f g : ℕ → ℕ → Reader (Counted Cond))
+        → Begins s d c yes n f g r (onName h (f p e) (g p e) (atomAt s d c yes n p e) e)) × Inside p e r ⌝ }
 {
     match h {
         HeadWord::And => ConditionHead::And(p, e),
@@ -66,7 +70,9 @@ fn named_of(h: HeadWord, p: usize, e: usize) -> ConditionHead
 // What stands behind a bracket.
 fn head_at(text: &[u8], from: usize, d: usize, left: usize) -> ConditionHead
     requires { ⌜ from ≤ length (now text) ⌝ }
-    ensures { λ r. ⌜ ((c : Scope) (yes : Bool) (f g : ℕ → ℕ → Reader (Counted Cond)) → Begins (now (text .entry)) d c yes left f g r (inHead (now (text .entry)) d c yes left f g from)) × Inside from (length (now (text .entry))) r ⌝ }
+    ensures { λ r. ⌜ ((c : Scope) (yes : Bool) (f g : ℕ → ℕ → Reader (Counted Cond))
+        → Begins (now (text .entry)) d c yes left f g r (inHead (now (text .entry)) d c yes left f g from))
+        × Inside from (length (now (text .entry))) r ⌝ }
 {
     let t = tokens::token_at(text, from);
     let Token::Word(k, p, e) = t else {
@@ -83,7 +89,9 @@ fn head_at(text: &[u8], from: usize, d: usize, left: usize) -> ConditionHead
 // How a condition begins, where d levels of brackets are left.
 pub fn begun_at(text: &[u8], from: usize, d: usize, left: usize) -> ConditionHead
     requires { ⌜ from ≤ length (now text) ⌝ }
-    ensures { λ r. ⌜ ((c : Scope) (yes : Bool) (f g : ℕ → ℕ → Reader (Counted Cond)) → Begins (now (text .entry)) (d - 1) c yes left f g r (inBracket (now (text .entry)) d c yes left f g from)) × Placed from (length (now (text .entry))) d r ⌝ }
+    ensures { λ r. ⌜ ((c : Scope) (yes : Bool) (f g : ℕ → ℕ → Reader (Counted Cond))
+        → Begins (now (text .entry)) (d - 1) c yes left f g r (inBracket (now (text .entry)) d c yes left f g from))
+        × Placed from (length (now (text .entry))) d r ⌝ }
 {
     let t = tokens::token_at(text, from);
     let Token::Open(_, next) = t else {

@@ -61,7 +61,9 @@ pub fn atom_at(
     left: usize,
 ) -> Progress
     requires { ⌜ (e ≤ length (now text)) × Scopes (now tables) counts × (used + 2 + (length (now text) - e) ≤ 18446744073709551615) ⌝ }
-    ensures { λ r. ⌜ ((c : Scope) → Scoped (now (tables .entry)) counts c → Written condCells (now (code .entry)) used r (now (code .exit)) (atomAt (now (text .entry)) d c yes left p e e)) × Spent 0 (length (now (text .entry))) (used + 2) e r ⌝ }
+    ensures { λ r. ⌜ ((c : Scope) → Scoped (now (tables .entry)) counts c
+        → Written condCells (now (code .entry)) used r (now (code .exit)) (atomAt (now (text .entry)) d c yes left p e e))
+        × Spent 0 (length (now (text .entry))) (used + 2) e r ⌝ }
 {
     let n = counts.predicates;
     let f = scope::find_in(tables, 3078, 4294, n, runs::part_of(text, p, e));
@@ -92,7 +94,9 @@ fn comparison_at(
     left: usize,
 ) -> Progress
     requires { ⌜ (from ≤ length (now text)) × Scopes (now tables) counts × (used + 3 + (length (now text) - from) ≤ 18446744073709551615) × (k ≤ 4) ⌝ }
-    ensures { λ r. ⌜ ((c : Scope) → Scoped (now (tables .entry)) counts c → Written condCells (now (code .entry)) used r (now (code .exit)) (comparison (now (text .entry)) d c yes (comparisonOf k) left from)) × Spent 2 (length (now (text .entry))) used from r ⌝ }
+    ensures { λ r. ⌜ ((c : Scope) → Scoped (now (tables .entry)) counts c
+        → Written condCells (now (code .entry)) used r (now (code .exit)) (comparison (now (text .entry)) d c yes (comparisonOf k) left from))
+        × Spent 2 (length (now (text .entry))) used from r ⌝ }
 {
     domain_literals::put(code, used, chosen(yes, 12, 17) + k);
     let a = trees::expression_at(text, from, d, tables, counts, code, used + 1);
@@ -119,7 +123,9 @@ fn same_at(
     left: usize,
 ) -> Progress
     requires { ⌜ (from ≤ length (now text)) × Scopes (now tables) counts × (used + 3 ≤ 18446744073709551615) ⌝ }
-    ensures { λ r. ⌜ ((c : Scope) → Scoped (now (tables .entry)) counts c → Written condCells (now (code .entry)) used r (now (code .exit)) (sameObjects (now (text .entry)) d c yes left from)) × Spent 2 (length (now (text .entry))) used from r ⌝ }
+    ensures { λ r. ⌜ ((c : Scope) → Scoped (now (tables .entry)) counts c
+        → Written condCells (now (code .entry)) used r (now (code .exit)) (sameObjects (now (text .entry)) d c yes left from))
+        × Spent 2 (length (now (text .entry))) used from r ⌝ }
 {
     let a = arguments::argument_at(text, from, d, tables, counts);
     let Reading::Done(mid, x) = a else {
@@ -163,7 +169,9 @@ pub fn compared_at(
     left: usize,
 ) -> Progress
     requires { ⌜ (from ≤ length (now text)) × Scopes (now tables) counts × (used + 3 + (length (now text) - from) ≤ 18446744073709551615) × (k ≤ 4) ⌝ }
-    ensures { λ r. ⌜ ((c : Scope) → Scoped (now (tables .entry)) counts c → Written condCells (now (code .entry)) used r (now (code .exit)) (compared (now (text .entry)) d c yes (comparisonOf k) left from)) × Spent 2 (length (now (text .entry))) used from r ⌝ }
+    ensures { λ r. ⌜ ((c : Scope) → Scoped (now (tables .entry)) counts c
+        → Written condCells (now (code .entry)) used r (now (code .exit)) (compared (now (text .entry)) d c yes (comparisonOf k) left from))
+        × Spent 2 (length (now (text .entry))) used from r ⌝ }
 {
     if objects_due(text, from, k) {
         return same_at(text, from, d, tables, counts, yes, code, used, left);

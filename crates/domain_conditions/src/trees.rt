@@ -30,7 +30,10 @@ fn negated_at(
     left: usize,
 ) -> Progress
     requires { ⌜ (from ≤ length (now text)) × Scopes (now tables) counts × (used + (length (now text) - from) + 2 ≤ 18446744073709551615) ⌝ }
-    ensures { λ r. ⌜ ((c : Scope) → Scoped (now (tables .entry)) counts c → Written condCells (now (code .entry)) used r (now (code .exit)) (inBracket (now (text .entry)) d c false left (λ p e. refuse 11 p) (λ p e. atomAt (now (text .entry)) (d - 1) c false left p e) from)) × Spent 0 (length (now (text .entry))) used from r ⌝ }
+    ensures { λ r. ⌜ ((c : Scope) → Scoped (now (tables .entry)) counts c
+        → Written condCells (now (code .entry)) used r (now (code .exit))
+        (inBracket (now (text .entry)) d c false left (λ p e. refuse 11 p) (λ p e. atomAt (now (text .entry)) (d - 1) c false left p e) from))
+        × Spent 0 (length (now (text .entry))) used from r ⌝ }
 {
     let h = heads::begun_at(text, from, d, left);
     match h {
@@ -60,7 +63,9 @@ fn negation_at(
     left: usize,
 ) -> Progress
     requires { ⌜ (from ≤ length (now text)) × Scopes (now tables) counts × (used + (length (now text) - from) + 2 ≤ 18446744073709551615) ⌝ }
-    ensures { λ r. ⌜ ((c : Scope) → Scoped (now (tables .entry)) counts c → Written condCells (now (code .entry)) used r (now (code .exit)) (negation (now (text .entry)) d c left from)) × Spent 0 (length (now (text .entry))) used from r ⌝ }
+    ensures { λ r. ⌜ ((c : Scope) → Scoped (now (tables .entry)) counts c
+        → Written condCells (now (code .entry)) used r (now (code .exit)) (negation (now (text .entry)) d c left from))
+        × Spent 0 (length (now (text .entry))) used from r ⌝ }
 {
     let x = negated_at(text, from, d, tables, counts, code, used, left);
     let Progress::Done(after, v, m) = x else {
@@ -81,7 +86,9 @@ pub fn condition_at(
     left: usize,
 ) -> Progress
     requires { ⌜ (from ≤ length (now text)) × Scopes (now tables) counts × (used + (length (now text) - from) + 2 ≤ 18446744073709551615) ⌝ }
-    ensures { λ r. ⌜ ((c : Scope) → Scoped (now (tables .entry)) counts c → Written condCells (now (code .entry)) used r (now (code .exit)) (condition d (now (text .entry)) c left from)) × Spent 0 (length (now (text .entry))) used from r ⌝ }
+    ensures { λ r. ⌜ ((c : Scope) → Scoped (now (tables .entry)) counts c
+        → Written condCells (now (code .entry)) used r (now (code .exit)) (condition d (now (text .entry)) c left from))
+        × Spent 0 (length (now (text .entry))) used from r ⌝ }
 {
     let h = heads::begun_at(text, from, d, left);
     match h {
@@ -112,7 +119,9 @@ fn conditions_to(
     left: usize,
 ) -> Progress
     requires { ⌜ (from ≤ length (now text)) × Scopes (now tables) counts × (used + (length (now text) - from) + 2 ≤ 18446744073709551615) ⌝ }
-    ensures { λ r. ⌜ ((c : Scope) (k : ℕ) → Scoped (now (tables .entry)) counts c → length (now (text .entry)) - from < k → Written condsCells (now (code .entry)) used r (now (code .exit)) (listTo k (now (text .entry)) d (condition d (now (text .entry)) c) left from)) × Spent 0 (length (now (text .entry))) used from r ⌝ }
+    ensures { λ r. ⌜ ((c : Scope) (k : ℕ) → Scoped (now (tables .entry)) counts c → length (now (text .entry)) - from < k
+        → Written condsCells (now (code .entry)) used r (now (code .exit)) (listTo k (now (text .entry)) d (condition d (now (text .entry)) c) left from))
+        × Spent 0 (length (now (text .entry))) used from r ⌝ }
 {
     let mut at = from;
     let mut u = used;

@@ -20,7 +20,15 @@ use Rattle.domain_domain_text.specs.declared.Known.the-variants.{Done, R
 
 -- how many names each table of a domain has
 abbrev pub countsIn : Domain → Counts
-countsIn d = record { types = length (d .types); objects = length (d .constants); predicates = length (d .predicates); functions = length (d .functions); variables = 0; in_action = false }
+countsIn d =
+    record {
+      types = length (d .types);
+      objects = length (d .constants);
+      predicates = length (d .predicates);
+      functions = length (d .functions);
+      variables = 0;
+      in_action = false;
+    }
 
 -- what is declared before the actions was read up to `at`
 pub record Preceded (s : List ℕ) (at p e : ℕ) (counts : Counts) (tables : List ℕ) (v : Vocabulary) : Type 0 where

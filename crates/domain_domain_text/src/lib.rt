@@ -32,7 +32,9 @@ fn acting_at(
     starts: &mut [usize],
 ) -> Known
     requires { ⌜ (at ≤ length (now text)) × (2 ≤ at) × Scopes (now tables) counts × (length (now tables) ≡ 5054) × (now rows ≡ rowsOf 32 []) ⌝ }
-    ensures { λ r. ⌜ ((v : Vocabulary) → Preceded (now (text .entry)) at p e counts (now (tables .entry)) v → Knows (now (text .entry)) (now (code .entry)) (now (starts .entry)) r (now (tables .entry)) (now (rows .exit)) (now (code .exit)) (now (starts .exit)) (readDomain (now (text .entry)))) ⌝ }
+    ensures { λ r. ⌜ ((v : Vocabulary) → Preceded (now (text .entry)) at p e counts (now (tables .entry)) v
+        → Knows (now (text .entry)) (now (code .entry)) (now (starts .entry)) r (now (tables .entry)) (now (rows .exit)) (now (code .exit))
+        (now (starts .exit)) (readDomain (now (text .entry)))) ⌝ }
 {
     let a = acts::actions_to(text, at, tables, counts, rows, code, starts);
     match a {
@@ -56,7 +58,8 @@ pub fn domain_at(
     starts: &mut [usize],
 ) -> Known
     requires { ⌜ (now tables ≡ rowsOf 133 []) × (now rows ≡ rowsOf 32 []) ⌝ }
-    ensures { λ r. ⌜ Knows (now (text .entry)) (now (code .entry)) (now (starts .entry)) r (now (tables .exit)) (now (rows .exit)) (now (code .exit)) (now (starts .exit)) (readDomain (now (text .entry))) ⌝ }
+    ensures { λ r. ⌜ Knows (now (text .entry)) (now (code .entry)) (now (starts .entry)) r (now (tables .exit)) (now (rows .exit)) (now (code .exit))
+        (now (starts .exit)) (readDomain (now (text .entry))) ⌝ }
 {
     let b = domain_preamble::preamble_at(text, tables);
     match b {

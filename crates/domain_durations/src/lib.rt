@@ -68,7 +68,9 @@ fn duration_at(
     used: usize,
 ) -> Reading
     requires { ⌜ (from ≤ length (now text)) × Scopes (now tables) counts × (used + (length (now text) - from) + 1 ≤ 18446744073709551615) ⌝ }
-    ensures { λ r. ⌜ ((c : Scope) → Scoped (now (tables .entry)) counts c → Wrote cellsOf (now (code .entry)) used r (now (code .exit)) (durationRule (now (text .entry)) c from)) × Ahead (length (now (text .entry))) from r × Room used from r ⌝ }
+    ensures { λ r. ⌜ ((c : Scope) → Scoped (now (tables .entry)) counts c
+        → Wrote cellsOf (now (code .entry)) used r (now (code .exit)) (durationRule (now (text .entry)) c from))
+        × Ahead (length (now (text .entry))) from r × Room used from r ⌝ }
 {
     let begun = rule_begun(text, from);
     let Reading::Done(at, _) = begun else {
@@ -96,7 +98,9 @@ pub fn lasting_at(
     durative: bool,
 ) -> Reading
     requires { ⌜ (from ≤ length (now text)) × Scopes (now tables) counts × (used + (length (now text) - from) + 2 ≤ 18446744073709551615) ⌝ }
-    ensures { λ r. ⌜ ((c : Scope) → Scoped (now (tables .entry)) counts c → Wrote lastingCells (now (code .entry)) used r (now (code .exit)) (lastingOf durative (now (text .entry)) c from)) × Reached (length (now (text .entry))) used from r ⌝ }
+    ensures { λ r. ⌜ ((c : Scope) → Scoped (now (tables .entry)) counts c
+        → Wrote lastingCells (now (code .entry)) used r (now (code .exit)) (lastingOf durative (now (text .entry)) c from))
+        × Reached (length (now (text .entry))) used from r ⌝ }
 {
     if durative {
         let word = domain_due::word_due(text, from, 14, b":duration");

@@ -29,7 +29,8 @@ pub enum EffectHead {
 // What a name as head word from p to e says.
 fn led_by(h: HeadWord, p: usize, e: usize) -> EffectHead
     requires { ⌜ p < e ⌝ }
-    ensures { λ r. ⌜ ((s : List ℕ) (d : ℕ) (c : Scope) (f : ℕ → Reader (Counted (List Effect))) (n : ℕ) → Leads s d c f n r (effectHead s d c f n h p e e)) × Inside (p + 1) e 1 r ⌝ }
+    ensures { λ r. ⌜ ((s : List ℕ) (d : ℕ) (c : Scope) (f : ℕ → Reader (Counted (List Effect))) (n : ℕ) → Leads s d c f n r (effectHead s d c f n h p e e))
+        × Inside (p + 1) e 1 r ⌝ }
 {
     match h {
         HeadWord::And => EffectHead::All(e),
@@ -44,7 +45,9 @@ fn led_by(h: HeadWord, p: usize, e: usize) -> EffectHead
 // What stands behind a bracket.
 fn head_at(text: &[u8], from: usize, d: usize) -> EffectHead
     requires { ⌜ from ≤ length (now text) ⌝ }
-    ensures { λ r. ⌜ ((c : Scope) (f : ℕ → Reader (Counted (List Effect))) (n : ℕ) → Leads (now (text .entry)) d c f n r (inBracket (now (text .entry)) d c f n from)) × Inside (from + 1) (length (now (text .entry))) 1 r ⌝ }
+    ensures { λ r. ⌜ ((c : Scope) (f : ℕ → Reader (Counted (List Effect))) (n : ℕ)
+        → Leads (now (text .entry)) d c f n r (inBracket (now (text .entry)) d c f n from))
+        × Inside (from + 1) (length (now (text .entry))) 1 r ⌝ }
 {
     let t = tokens::token_at(text, from);
     let Token::Word(k, p, e) = t else {
@@ -59,7 +62,9 @@ fn head_at(text: &[u8], from: usize, d: usize) -> EffectHead
 // How an effect begins, where d levels of brackets are left.
 pub fn begun_at(text: &[u8], from: usize, d: usize) -> EffectHead
     requires { ⌜ from ≤ length (now text) ⌝ }
-    ensures { λ r. ⌜ ((c : Scope) (n : ℕ) → Leads (now (text .entry)) (d - 1) c (effect (d - 1) (now (text .entry)) c) n r (effect d (now (text .entry)) c n from)) × Inside (from + 2) (length (now (text .entry))) d r ⌝ }
+    ensures { λ r. ⌜ ((c : Scope) (n : ℕ)
+        → Leads (now (text .entry)) (d - 1) c (effect (d - 1) (now (text .entry)) c) n r (effect d (now (text .entry)) c n from))
+        × Inside (from + 2) (length (now (text .entry))) d r ⌝ }
 {
     let t = tokens::token_at(text, from);
     let Token::Open(_, next) = t else {

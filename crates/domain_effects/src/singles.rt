@@ -39,7 +39,9 @@ pub fn becomes_at(
     left: usize,
 ) -> Progress
     requires { ⌜ (e ≤ length (now text)) × Scopes (now tables) counts × (tag ≤ 251) × (used + 2 + (length (now text) - e) ≤ 18446744073709551615) ⌝ }
-    ensures { λ r. ⌜ ((c : Scope) (yes′ : Bool) → Scoped (now (tables .entry)) counts c → tag ≡ cond yes′ 4 8 → Written effectsCells (now (code .entry)) used r (now (code .exit)) (becomesAt (now (text .entry)) d c yes′ left p e e)) × Spent 0 (length (now (text .entry))) (used + 2) e r ⌝ }
+    ensures { λ r. ⌜ ((c : Scope) (yes′ : Bool) → Scoped (now (tables .entry)) counts c → tag ≡ cond yes′ 4 8
+        → Written effectsCells (now (code .entry)) used r (now (code .exit)) (becomesAt (now (text .entry)) d c yes′ left p e e))
+        × Spent 0 (length (now (text .entry))) (used + 2) e r ⌝ }
 {
     let n = counts.predicates;
     let f = scope::find_in(tables, 3078, 4294, n, runs::part_of(text, p, e));
@@ -67,7 +69,9 @@ fn target_at(
     used: usize,
 ) -> Reading
     requires { ⌜ (from ≤ length (now text)) × Scopes (now tables) counts × (tag ≤ 251) × (used + (length (now text) - from) ≤ 18446744073709551615) ⌝ }
-    ensures { λ r. ⌜ ((c : Scope) → Scoped (now (tables .entry)) counts c → Wrote (refCells tag) (now (code .entry)) used r (now (code .exit)) (target (now (text .entry)) d c from)) × Ahead (length (now (text .entry))) from r × Room used from r ⌝ }
+    ensures { λ r. ⌜ ((c : Scope) → Scoped (now (tables .entry)) counts c
+        → Wrote (refCells tag) (now (code .entry)) used r (now (code .exit)) (target (now (text .entry)) d c from))
+        × Ahead (length (now (text .entry))) from r × Room used from r ⌝ }
 {
     let a = domain_due::opening(text, from, d);
     let Reading::Done(next, _) = a else {
@@ -99,7 +103,9 @@ pub fn change_at(
     left: usize,
 ) -> Progress
     requires { ⌜ (e ≤ length (now text)) × Scopes (now tables) counts × (tag ≤ 251) × (used + (length (now text) - e) + 1 ≤ 18446744073709551615) ⌝ }
-    ensures { λ r. ⌜ ((c : Scope) (how : Change) → Scoped (now (tables .entry)) counts c → tag ≡ changeCell how → Written effectsCells (now (code .entry)) used r (now (code .exit)) (changeAt (now (text .entry)) d c how left p e)) × Spent 0 (length (now (text .entry))) used e r ⌝ }
+    ensures { λ r. ⌜ ((c : Scope) (how : Change) → Scoped (now (tables .entry)) counts c → tag ≡ changeCell how
+        → Written effectsCells (now (code .entry)) used r (now (code .exit)) (changeAt (now (text .entry)) d c how left p e))
+        × Spent 0 (length (now (text .entry))) used e r ⌝ }
 {
     if left == 0 {
         return Progress::Refused(12, p);
@@ -131,7 +137,9 @@ fn deleted_at(
     left: usize,
 ) -> Progress
     requires { ⌜ (from ≤ length (now text)) × Scopes (now tables) counts × (used + 1 + (length (now text) - from) ≤ 18446744073709551615) ⌝ }
-    ensures { λ r. ⌜ ((c : Scope) → Scoped (now (tables .entry)) counts c → Written effectsCells (now (code .entry)) used r (now (code .exit)) (inDeletion (now (text .entry)) d c left from)) × Spent 1 (length (now (text .entry))) used from r ⌝ }
+    ensures { λ r. ⌜ ((c : Scope) → Scoped (now (tables .entry)) counts c
+        → Written effectsCells (now (code .entry)) used r (now (code .exit)) (inDeletion (now (text .entry)) d c left from))
+        × Spent 1 (length (now (text .entry))) used from r ⌝ }
 {
     let t = tokens::token_at(text, from);
     let Token::Word(k, p, e) = t else {
@@ -158,7 +166,9 @@ pub fn deletion_at(
     left: usize,
 ) -> Progress
     requires { ⌜ (from ≤ length (now text)) × Scopes (now tables) counts × (used + (length (now text) - from) ≤ 18446744073709551615) ⌝ }
-    ensures { λ r. ⌜ ((c : Scope) → Scoped (now (tables .entry)) counts c → Written effectsCells (now (code .entry)) used r (now (code .exit)) (deletion (now (text .entry)) d c left from)) × Spent 0 (length (now (text .entry))) used from r ⌝ }
+    ensures { λ r. ⌜ ((c : Scope) → Scoped (now (tables .entry)) counts c
+        → Written effectsCells (now (code .entry)) used r (now (code .exit)) (deletion (now (text .entry)) d c left from))
+        × Spent 0 (length (now (text .entry))) used from r ⌝ }
 {
     let a = domain_due::opening(text, from, d);
     let Reading::Done(next, _) = a else {

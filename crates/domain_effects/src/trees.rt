@@ -27,7 +27,9 @@ pub fn effect_at(
     left: usize,
 ) -> Progress
     requires { ⌜ (from ≤ length (now text)) × Scopes (now tables) counts × (used + (length (now text) - from) + 2 ≤ 18446744073709551615) ⌝ }
-    ensures { λ r. ⌜ ((c : Scope) → Scoped (now (tables .entry)) counts c → Written effectsCells (now (code .entry)) used r (now (code .exit)) (effect d (now (text .entry)) c left from)) × Spent 0 (length (now (text .entry))) used from r ⌝ }
+    ensures { λ r. ⌜ ((c : Scope) → Scoped (now (tables .entry)) counts c
+        → Written effectsCells (now (code .entry)) used r (now (code .exit)) (effect d (now (text .entry)) c left from))
+        × Spent 0 (length (now (text .entry))) used from r ⌝ }
 {
     let b = heads::begun_at(text, from, d);
     match b {
@@ -64,7 +66,9 @@ fn effects_to(
     left: usize,
 ) -> Progress
     requires { ⌜ (from ≤ length (now text)) × Scopes (now tables) counts × (used + (length (now text) - from) + 2 ≤ 18446744073709551615) ⌝ }
-    ensures { λ r. ⌜ ((c : Scope) (k : ℕ) → Scoped (now (tables .entry)) counts c → length (now (text .entry)) - from < k → Written effectsCells (now (code .entry)) used r (now (code .exit)) (effectsTo k (now (text .entry)) d (effect d (now (text .entry)) c) left from)) × Spent 0 (length (now (text .entry))) used from r ⌝ }
+    ensures { λ r. ⌜ ((c : Scope) (k : ℕ) → Scoped (now (tables .entry)) counts c → length (now (text .entry)) - from < k
+        → Written effectsCells (now (code .entry)) used r (now (code .exit)) (effectsTo k (now (text .entry)) d (effect d (now (text .entry)) c) left from))
+        × Spent 0 (length (now (text .entry))) used from r ⌝ }
 {
     let mut at = from;
     let mut u = used;

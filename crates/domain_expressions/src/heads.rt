@@ -26,7 +26,8 @@ pub enum ExpressionHead {
 // The operation of a head word from p to e.
 fn operation_of(h: HeadWord, p: usize, e: usize, left: usize) -> ExpressionHead
     requires { ⌜ p < e ⌝ }
-    ensures { λ r. ⌜ ((s : List ℕ) (d : ℕ) (c : Scope) (f : ℕ → Reader (Counted Expr)) → Bracketed s d c f left r (operation s d f left h p e)) × Inside p e r ⌝ }
+    ensures { λ r. ⌜ ((s : List ℕ) (d : ℕ) (c : Scope) (f : ℕ → Reader (Counted Expr)) → Bracketed s d c f left r (operation s d f left h p e))
+        × Inside p e r ⌝ }
 {
     match h {
         HeadWord::Plus => {
@@ -48,7 +49,8 @@ fn operation_of(h: HeadWord, p: usize, e: usize, left: usize) -> ExpressionHead
 // What stands behind a bracket.
 fn head_at(text: &[u8], from: usize, d: usize, left: usize) -> ExpressionHead
     requires { ⌜ from ≤ length (now text) ⌝ }
-    ensures { λ r. ⌜ ((c : Scope) (f : ℕ → Reader (Counted Expr)) → Bracketed (now (text .entry)) d c f left r (inBracket (now (text .entry)) d c f left from)) × Inside from (length (now (text .entry))) r ⌝ }
+    ensures { λ r. ⌜ ((c : Scope) (f : ℕ → Reader (Counted Expr)) → Bracketed (now (text .entry)) d c f left r (inBracket (now (text .entry)) d c f left from))
+        × Inside from (length (now (text .entry))) r ⌝ }
 {
     let t = tokens::token_at(text, from);
     let Token::Word(k, p, e) = t else {
@@ -65,7 +67,8 @@ fn head_at(text: &[u8], from: usize, d: usize, left: usize) -> ExpressionHead
 // How an expression begins, where d levels of brackets are left.
 pub fn begun_at(text: &[u8], from: usize, d: usize, left: usize) -> ExpressionHead
     requires { ⌜ from ≤ length (now text) ⌝ }
-    ensures { λ r. ⌜ ((c : Scope) → Begins (now (text .entry)) c d left r (expr d (now (text .entry)) c left from)) × Placed from (length (now (text .entry))) d r ⌝ }
+    ensures { λ r. ⌜ ((c : Scope) → Begins (now (text .entry)) c d left r (expr d (now (text .entry)) c left from))
+        × Placed from (length (now (text .entry))) d r ⌝ }
 {
     let t = tokens::token_at(text, from);
     if let Token::Number(z, p, e) = t {

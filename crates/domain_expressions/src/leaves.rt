@@ -47,7 +47,9 @@ pub fn function_at(
     left: usize,
 ) -> Progress
     requires { ⌜ (e ≤ length (now text)) × Scopes (now tables) counts × (used + 2 + (length (now text) - e) ≤ 18446744073709551615) ⌝ }
-    ensures { λ r. ⌜ ((c : Scope) → Scoped (now (tables .entry)) counts c → Written cellsOf (now (code .entry)) used r (now (code .exit)) (functionAt (now (text .entry)) d c left p e e)) × Spent 0 (length (now (text .entry))) (used + 2) e r ⌝ }
+    ensures { λ r. ⌜ ((c : Scope) → Scoped (now (tables .entry)) counts c
+        → Written cellsOf (now (code .entry)) used r (now (code .exit)) (functionAt (now (text .entry)) d c left p e e))
+        × Spent 0 (length (now (text .entry))) (used + 2) e r ⌝ }
 {
     let n = counts.functions;
     let f = scope::find_in(tables, 4294, 4902, n, runs::part_of(text, p, e));
@@ -107,7 +109,8 @@ pub fn joined_at(
     left: usize,
 ) -> Progress
     requires { ⌜ from ≤ length (now text) ⌝ }
-    ensures { λ r. ⌜ Joined (now (code .entry)) used free left minus r (now (code .exit)) (operandsEnd (now (text .entry)) d left from) × Spent 0 (length (now (text .entry))) free from r ⌝ }
+    ensures { λ r. ⌜ Joined (now (code .entry)) used free left minus r (now (code .exit)) (operandsEnd (now (text .entry)) d left from)
+        × Spent 0 (length (now (text .entry))) free from r ⌝ }
 {
     let a = operands_end(text, from, d, left);
     let Reading::Done(n, _) = a else {

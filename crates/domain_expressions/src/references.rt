@@ -29,8 +29,11 @@ pub fn reference_at(
     code: &mut [u8],
     used: usize,
 ) -> Reading
-    requires { ⌜ (from ≤ length (now text)) × Scopes (now tables) counts × Signatures (now tables) off n × (i < n) × (tag ≤ 251) × (used + 2 + (length (now text) - from) ≤ 18446744073709551615) ⌝ }
-    ensures { λ r. ⌜ ((c : Scope) (m to : ℕ) (t : Table) → Scoped (now (tables .entry)) counts c → Holds m (part (now (tables .entry)) off to) n t → AllSigned t → Wrote (refCells tag) (now (code .entry)) used r (now (code .exit)) (reference (now (text .entry)) d c t i from)) × Ahead (length (now (text .entry))) from r × Room (used + 2) from r ⌝ }
+    requires { ⌜ (from ≤ length (now text)) × Scopes (now tables) counts × Signatures (now tables) off n
+        × (i < n) × (tag ≤ 251) × (used + 2 + (length (now text) - from) ≤ 18446744073709551615) ⌝ }
+    ensures { λ r. ⌜ ((c : Scope) (m to : ℕ) (t : Table) → Scoped (now (tables .entry)) counts c → Holds m (part (now (tables .entry)) off to) n t → AllSigned t
+        → Wrote (refCells tag) (now (code .entry)) used r (now (code .exit)) (reference (now (text .entry)) d c t i from))
+        × Ahead (length (now (text .entry))) from r × Room (used + 2) from r ⌝ }
 {
     let arity = scope::kept_in(tables, off, n, i, 0);
     domain_literals::put(code, used, tag + arity);

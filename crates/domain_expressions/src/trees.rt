@@ -27,7 +27,9 @@ pub fn expr_at(
     left: usize,
 ) -> Progress
     requires { ⌜ (from ≤ length (now text)) × Scopes (now tables) counts × (used + (length (now text) - from) + 1 ≤ 18446744073709551615) ⌝ }
-    ensures { λ r. ⌜ ((c : Scope) → Scoped (now (tables .entry)) counts c → Written cellsOf (now (code .entry)) used r (now (code .exit)) (expr d (now (text .entry)) c left from)) × Spent 1 (length (now (text .entry))) used from r ⌝ }
+    ensures { λ r. ⌜ ((c : Scope) → Scoped (now (tables .entry)) counts c
+        → Written cellsOf (now (code .entry)) used r (now (code .exit)) (expr d (now (text .entry)) c left from))
+        × Spent 1 (length (now (text .entry))) used from r ⌝ }
 {
     let b = heads::begun_at(text, from, d, left);
     match b {
@@ -69,7 +71,9 @@ pub fn expression_at(
     used: usize,
 ) -> Reading
     requires { ⌜ (from ≤ length (now text)) × Scopes (now tables) counts × (used + (length (now text) - from) + 1 ≤ 18446744073709551615) ⌝ }
-    ensures { λ r. ⌜ ((c : Scope) → Scoped (now (tables .entry)) counts c → Wrote cellsOf (now (code .entry)) used r (now (code .exit)) (expression (now (text .entry)) d c from)) × Ahead (length (now (text .entry))) from r × Over used from r ⌝ }
+    ensures { λ r. ⌜ ((c : Scope) → Scoped (now (tables .entry)) counts c
+        → Wrote cellsOf (now (code .entry)) used r (now (code .exit)) (expression (now (text .entry)) d c from))
+        × Ahead (length (now (text .entry))) from r × Over used from r ⌝ }
 {
     let x = expr_at(text, from, d, tables, counts, code, used, 16);
     match x {

@@ -31,7 +31,9 @@ fn fact_at(
     facts: &mut [u8],
 ) -> Reading
     requires { ⌜ (e ≤ length (now text)) × Scopes (now tables) counts ⌝ }
-    ensures { λ r. ⌜ ((c : Scope) (x : Init) (numbers : List ℤ) → Scoped (now (tables .entry)) counts c → c .inAction ≡ false → Stands (now (facts .entry)) numbers x → Took r (now (facts .exit)) numbers (factOf (now (text .entry)) c x p e e)) × Ahead (length (now (text .entry))) e r ⌝ }
+    ensures { λ r. ⌜ ((c : Scope) (x : Init) (numbers : List ℤ) → Scoped (now (tables .entry)) counts c → c .inAction ≡ false
+        → Stands (now (facts .entry)) numbers x → Took r (now (facts .exit)) numbers (factOf (now (text .entry)) c x p e e))
+        × Ahead (length (now (text .entry))) e r ⌝ }
 {
     let n = counts.predicates;
     let a = grounds::ground_at(text, p, e, 13, tables, counts, 3078, 4294, n);
@@ -45,7 +47,9 @@ fn fact_at(
 // Behind `=`: the index of the number that is given, if it is not given yet.
 fn target_at(text: &[u8], from: usize, tables: &[u8], counts: Counts, numbers: &[i64]) -> Reading
     requires { ⌜ (from ≤ length (now text)) × Scopes (now tables) counts ⌝ }
-    ensures { λ r. ⌜ ((c : Scope) (x : Init) (facts : List ℕ) → Scoped (now (tables .entry)) counts c → c .inAction ≡ false → sumsFit c ≡ true → Stands facts (now (numbers .entry)) x → r ≡ answerOf (targetOf (now (text .entry)) c x from)) × Ahead (length (now (text .entry))) from r ⌝ }
+    ensures { λ r. ⌜ ((c : Scope) (x : Init) (facts : List ℕ) → Scoped (now (tables .entry)) counts c → c .inAction ≡ false → sumsFit c ≡ true
+        → Stands facts (now (numbers .entry)) x → r ≡ answerOf (targetOf (now (text .entry)) c x from))
+        × Ahead (length (now (text .entry))) from r ⌝ }
 {
     let o = domain_due::opening(text, from, 13);
     let Reading::Done(inside, _) = o else {
@@ -69,7 +73,9 @@ fn target_at(text: &[u8], from: usize, tables: &[u8], counts: Counts, numbers: &
 // The value of number i, and the closing bracket.
 fn value_at(text: &[u8], from: usize, i: usize, numbers: &mut [i64]) -> Reading
     requires { ⌜ from ≤ length (now text) ⌝ }
-    ensures { λ r. ⌜ ((x : Init) (facts : List ℕ) → Stands facts (now (numbers .entry)) x → Took r facts (now (numbers .exit)) (valueFor (now (text .entry)) x i from)) × Ahead (length (now (text .entry))) from r ⌝ }
+    ensures { λ r. ⌜ ((x : Init) (facts : List ℕ) → Stands facts (now (numbers .entry)) x
+        → Took r facts (now (numbers .exit)) (valueFor (now (text .entry)) x i from))
+        × Ahead (length (now (text .entry))) from r ⌝ }
 {
     let t = tokens::token_at(text, from);
     let Token::Number(z, _, e) = t else {
@@ -92,7 +98,9 @@ fn number_at(
     numbers: &mut [i64],
 ) -> Reading
     requires { ⌜ (from ≤ length (now text)) × Scopes (now tables) counts ⌝ }
-    ensures { λ r. ⌜ ((c : Scope) (x : Init) (facts : List ℕ) → Scoped (now (tables .entry)) counts c → c .inAction ≡ false → sumsFit c ≡ true → Stands facts (now (numbers .entry)) x → Took r facts (now (numbers .exit)) (valueOf (now (text .entry)) c x from)) × Ahead (length (now (text .entry))) from r ⌝ }
+    ensures { λ r. ⌜ ((c : Scope) (x : Init) (facts : List ℕ) → Scoped (now (tables .entry)) counts c → c .inAction ≡ false → sumsFit c ≡ true
+        → Stands facts (now (numbers .entry)) x → Took r facts (now (numbers .exit)) (valueOf (now (text .entry)) c x from))
+        × Ahead (length (now (text .entry))) from r ⌝ }
 {
     let a = target_at(text, from, tables, counts, numbers);
     let Reading::Done(after, i) = a else {
@@ -111,7 +119,9 @@ fn entry_at(
     numbers: &mut [i64],
 ) -> Reading
     requires { ⌜ (from ≤ length (now text)) × Scopes (now tables) counts ⌝ }
-    ensures { λ r. ⌜ ((c : Scope) (x : Init) → Scoped (now (tables .entry)) counts c → c .inAction ≡ false → sumsFit c ≡ true → Stands (now (facts .entry)) (now (numbers .entry)) x → Took r (now (facts .exit)) (now (numbers .exit)) (entryOf (now (text .entry)) c x from)) × Ahead (length (now (text .entry))) from r ⌝ }
+    ensures { λ r. ⌜ ((c : Scope) (x : Init) → Scoped (now (tables .entry)) counts c → c .inAction ≡ false → sumsFit c ≡ true
+        → Stands (now (facts .entry)) (now (numbers .entry)) x → Took r (now (facts .exit)) (now (numbers .exit)) (entryOf (now (text .entry)) c x from))
+        × Ahead (length (now (text .entry))) from r ⌝ }
 {
     let o = domain_due::opening(text, from, 14);
     let Reading::Done(inside, _) = o else {
@@ -144,7 +154,9 @@ pub fn init_to(
     numbers: &mut [i64],
 ) -> Reading
     requires { ⌜ (from ≤ length (now text)) × Scopes (now tables) counts × (now facts ≡ noFacts) × (now numbers ≡ noNumbers) ⌝ }
-    ensures { λ r. ⌜ ((c : Scope) (k : ℕ) → Scoped (now (tables .entry)) counts c → c .inAction ≡ false → sumsFit c ≡ true → length (now (text .entry)) - from < k → Begins r (now (facts .exit)) (now (numbers .exit)) (initTo k (now (text .entry)) c nothing from)) × Ahead (length (now (text .entry))) from r ⌝ }
+    ensures { λ r. ⌜ ((c : Scope) (k : ℕ) → Scoped (now (tables .entry)) counts c → c .inAction ≡ false → sumsFit c ≡ true
+        → length (now (text .entry)) - from < k → Begins r (now (facts .exit)) (now (numbers .exit)) (initTo k (now (text .entry)) c nothing from))
+        × Ahead (length (now (text .entry))) from r ⌝ }
 {
     let mut at = from;
     loop {

@@ -44,7 +44,9 @@ fn index_at(
     i: usize,
 ) -> Reading
     requires { ⌜ (from ≤ length (now text)) × Scopes (now tables) counts × Signatures (now tables) off n × (i < n) ⌝ }
-    ensures { λ r. ⌜ ((c : Scope) (m to : ℕ) (t : Table) → Scoped (now (tables .entry)) counts c → c .inAction ≡ false → Holds m (part (now (tables .entry)) off to) n t → AllSigned t → r ≡ answerOf (groundBehind (now (text .entry)) d c t i from)) × Ahead (length (now (text .entry))) from r ⌝ }
+    ensures { λ r. ⌜ ((c : Scope) (m to : ℕ) (t : Table) → Scoped (now (tables .entry)) counts c → c .inAction ≡ false
+        → Holds m (part (now (tables .entry)) off to) n t → AllSigned t → r ≡ answerOf (groundBehind (now (text .entry)) d c t i from))
+        × Ahead (length (now (text .entry))) from r ⌝ }
 {
     let objects = counts.objects;
     let mut cells = [0u8; 4];
@@ -72,7 +74,9 @@ pub fn ground_at(
     n: usize,
 ) -> Reading
     requires { ⌜ (e ≤ length (now text)) × Scopes (now tables) counts × Listed (now tables) off to n ⌝ }
-    ensures { λ r. ⌜ ((c : Scope) (m : ℕ) (t : Table) → Scoped (now (tables .entry)) counts c → c .inAction ≡ false → Holds m (part (now (tables .entry)) off to) n t → AllSigned t → r ≡ answerOf (groundOf (now (text .entry)) d c t p e e)) × Ahead (length (now (text .entry))) e r ⌝ }
+    ensures { λ r. ⌜ ((c : Scope) (m : ℕ) (t : Table) → Scoped (now (tables .entry)) counts c → c .inAction ≡ false
+        → Holds m (part (now (tables .entry)) off to) n t → AllSigned t → r ≡ answerOf (groundOf (now (text .entry)) d c t p e e))
+        × Ahead (length (now (text .entry))) e r ⌝ }
 {
     let f = scope::find_in(tables, off, to, n, runs::part_of(text, p, e));
     let Place::At(i) = f else {

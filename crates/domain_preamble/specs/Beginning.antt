@@ -23,7 +23,15 @@ begunOf (A.Refused k p) = Refused k p
 
 -- how many names each table has
 abbrev pub countsOf : Vocabulary → Counts
-countsOf v = record { types = length (v .types); objects = length (v .constants); predicates = length (v .predicates); functions = length (v .functions); variables = 0; in_action = false }
+countsOf v =
+    record {
+      types = length (v .types);
+      objects = length (v .constants);
+      predicates = length (v .predicates);
+      functions = length (v .functions);
+      variables = 0;
+      in_action = false;
+    }
 
 -- four tables of their own hold what is declared from `from` on, in a domain of the name h, which stands from p to e
 pub record Lists (len : ℕ) (h : Name) (from p e : ℕ) (r : Preamble) (ts os ps fs : List ℕ) (v : Vocabulary) (n : ℕ) : Type 0 where

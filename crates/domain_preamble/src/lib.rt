@@ -43,8 +43,11 @@ fn tables_at(
     predicates: &mut [u8],
     functions: &mut [u8],
 ) -> Preamble
-    requires { ⌜ (from ≤ length (now text)) × (now types ≡ rowsOf 17 []) × (now objects ≡ rowsOf 64 []) × (now predicates ≡ rowsOf 32 []) × (now functions ≡ rowsOf 16 []) ⌝ }
-    ensures { λ r. ⌜ ((n : Name) (a v : ℕ) → headingOf (now (text .entry)) (bytes "domain") 0 ≡ got n a → flagsSection (now (text .entry)) a ≡ got v from → Listed (length (now (text .entry))) n from p e r (now (types .exit)) (now (objects .exit)) (now (predicates .exit)) (now (functions .exit)) (vocabulary (now (text .entry)) 0)) ⌝ }
+    requires { ⌜ (from ≤ length (now text)) × (now types ≡ rowsOf 17 []) × (now objects ≡ rowsOf 64 [])
+        × (now predicates ≡ rowsOf 32 []) × (now functions ≡ rowsOf 16 []) ⌝ }
+    ensures { λ r. ⌜ ((n : Name) (a v : ℕ) → headingOf (now (text .entry)) (bytes "domain") 0 ≡ got n a → flagsSection (now (text .entry)) a ≡ got v from
+        → Listed (length (now (text .entry))) n from p e r (now (types .exit)) (now (objects .exit)) (now (predicates .exit)) (now (functions .exit))
+        (vocabulary (now (text .entry)) 0)) ⌝ }
 {
     let first = vocabulary::types_section(text, from, types);
     let Reading::Done(a, tn) = first else {
@@ -75,8 +78,11 @@ fn tables_at(
 
 // Each table in its place among the tables of a scope.
 fn store(tables: &mut [u8], types: &[u8], objects: &[u8], predicates: &[u8], functions: &[u8])
-    requires { ⌜ (length (now tables) ≡ 5054) × (length (now types) ≡ 646) × (length (now objects) ≡ 2432) × (length (now predicates) ≡ 1216) × (length (now functions) ≡ 608) ⌝ }
-    ensures { λ _. ⌜ now (tables .exit) ≡ sets (sets (sets (sets (now (tables .entry)) 0 (now (types .entry))) 646 (now (objects .entry))) 3078 (now (predicates .entry))) 4294 (now (functions .entry)) ⌝ }
+    requires { ⌜ (length (now tables) ≡ 5054) × (length (now types) ≡ 646) × (length (now objects) ≡ 2432)
+        × (length (now predicates) ≡ 1216) × (length (now functions) ≡ 608) ⌝ }
+    ensures { λ _. ⌜ now (tables .exit) ≡ sets
+        (sets (sets (sets (now (tables .entry)) 0 (now (types .entry))) 646 (now (objects .entry))) 3078 (now (predicates .entry))) 4294
+        (now (functions .entry)) ⌝ }
 {
     domain_rows::copy(tables, 0, types);
     domain_rows::copy(tables, 646, objects);

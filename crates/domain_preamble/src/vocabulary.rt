@@ -48,7 +48,8 @@ pub fn constants_section(
     rows: &mut [u8],
 ) -> Reading
     requires { ⌜ (from ≤ length (now text)) × Stands 17 (now types) tn × (now rows ≡ rowsOf 64 []) ⌝ }
-    ensures { λ r. ⌜ ((ts : Table) → Holds 17 (now (types .entry)) tn ts → Outcome 64 r (now (rows .exit)) (constantsSection (now (text .entry)) ts from)) × Onwards (length (now (text .entry))) from r ⌝ }
+    ensures { λ r. ⌜ ((ts : Table) → Holds 17 (now (types .entry)) tn ts → Outcome 64 r (now (rows .exit)) (constantsSection (now (text .entry)) ts from))
+        × Onwards (length (now (text .entry))) from r ⌝ }
 {
     let o = domain_sections::begins_at(text, from, b":constants");
     let Opened::At(_, inside) = o else {
@@ -69,7 +70,9 @@ pub fn declared_section(
     most: usize,
 ) -> Reading
     requires { ⌜ (from ≤ length (now text)) × Stands 17 (now types) tn × (now rows ≡ rowsOf max []) × (most ≤ 3) ⌝ }
-    ensures { λ r. ⌜ ((ts : Table) → Holds 17 (now (types .entry)) tn ts → Outcome max r (now (rows .exit)) (declaredSection (now (text .entry)) (now (w .entry)) ts max most from)) × Onwards (length (now (text .entry))) from r ⌝ }
+    ensures { λ r. ⌜ ((ts : Table) → Holds 17 (now (types .entry)) tn ts
+        → Outcome max r (now (rows .exit)) (declaredSection (now (text .entry)) (now (w .entry)) ts max most from))
+        × Onwards (length (now (text .entry))) from r ⌝ }
 {
     let o = domain_sections::begins_at(text, from, w);
     let Opened::At(_, inside) = o else {

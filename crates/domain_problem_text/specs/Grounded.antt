@@ -14,7 +14,15 @@ use Rattle.domain_terms.specs.declared.scope.Counts.{Counts}
 
 -- the counts with n objects
 abbrev pub withObjects : Counts → ℕ → Counts
-withObjects c n = record { types = c .types; objects = n; predicates = c .predicates; functions = c .functions; variables = c .variables; in_action = c .in_action }
+withObjects c n =
+    record {
+      types = c .types;
+      objects = n;
+      predicates = c .predicates;
+      functions = c .functions;
+      variables = c .variables;
+      in_action = c .in_action;
+    }
 
 -- the objects were read: the answer has their number, and the tables hold them beside what the domain declares
 unfoldable pub Grounded : Counts → Reading → List ℕ → Domain → Read Table → Type 0

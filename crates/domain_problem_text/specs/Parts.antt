@@ -50,7 +50,8 @@ Reached n r goal goal′ (refused k p) = r ≡ Refused k p
 
 -- the goal was read, and where the sums were not judged before, they fit
 unfoldable pub Aimed : ℕ → Scope → Bool → Reading → List ℕ → List ℕ → Read Cond → Type 0
-Aimed n c judged r goal goal′ (got g a) = (r ≡ Done a 0) × (goal′ ≡ sets goal 0 (condCells g)) × (length (condCells g) ≤ n) × (judged ≡ false → sumsFit c ≡ true)
+Aimed n c judged r goal goal′ (got g a) =
+    (r ≡ Done a 0) × (goal′ ≡ sets goal 0 (condCells g)) × (length (condCells g) ≤ n) × (judged ≡ false → sumsFit c ≡ true)
 Aimed n c judged r goal goal′ (refused k p) = r ≡ Refused k p
 
 -- init, goal and the end of the text

@@ -18,7 +18,8 @@ use Rattle.domain_problem_text.specs.Grounded.{withObjects}
 use Rattle.domain_meaning.specs.First.{firstFacts, firstNumbers}
 
 -- the problem p was read, to the place n
-pub record Poses (s : List ℕ) (d : Domain) (counts : Counts) (r : Reading) (tables′ : List ℕ) (facts′ : List ℕ) (numbers′ : List ℤ) (was goal′ : List ℕ) (p : Problem) (n : ℕ) : Type 0 where
+pub record Poses (s : List ℕ) (d : Domain) (counts : Counts) (r : Reading) (tables′ : List ℕ) (facts′ : List ℕ)
+    (numbers′ : List ℤ) (was goal′ : List ℕ) (p : Problem) (n : ℕ) : Type 0 where
   pub answer : r ≡ Done n (length (p .objects))
   pub scope : Scoped tables′ (withObjects counts (length (p .objects))) (scopeOf d (p .objects))
   pub long : length tables′ ≡ 5054

@@ -30,7 +30,9 @@ fn init_at(
     numbers: &mut [i64],
 ) -> Reading
     requires { ⌜ (from ≤ length (now text)) × Scopes (now tables) counts × (now facts ≡ noFacts) × (now numbers ≡ noNumbers) ⌝ }
-    ensures { λ r. ⌜ ((c : Scope) → Scoped (now (tables .entry)) counts c → c .inAction ≡ false → Started c r (now (facts .exit)) (now (numbers .exit)) (startAt (now (text .entry)) c from)) × Onwards (length (now (text .entry))) from r ⌝ }
+    ensures { λ r. ⌜ ((c : Scope) → Scoped (now (tables .entry)) counts c → c .inAction ≡ false
+        → Started c r (now (facts .exit)) (now (numbers .exit)) (startAt (now (text .entry)) c from))
+        × Onwards (length (now (text .entry))) from r ⌝ }
 {
     let o = domain_sections::begins_at(text, from, b":init");
     let Opened::At(p, inside) = o else {
@@ -50,7 +52,8 @@ fn init_at(
 // The goal's condition, to the section's closing bracket: at most 64 single ones.
 fn goal_to(text: &[u8], from: usize, tables: &[u8], counts: Counts, goal: &mut [u8]) -> Reading
     requires { ⌜ (1 < from) × (from ≤ length (now text)) × Scopes (now tables) counts ⌝ }
-    ensures { λ r. ⌜ ((c : Scope) → Scoped (now (tables .entry)) counts c → Reached (length (now (text .entry))) r (now (goal .entry)) (now (goal .exit)) (goalTo (now (text .entry)) c from)) ⌝ }
+    ensures { λ r. ⌜ ((c : Scope) → Scoped (now (tables .entry)) counts c
+        → Reached (length (now (text .entry))) r (now (goal .entry)) (now (goal .exit)) (goalTo (now (text .entry)) c from)) ⌝ }
 {
     let g = trees::condition_at(text, from, 14, tables, counts, goal, 0, 64);
     match g {
@@ -75,7 +78,8 @@ fn goal_at(
     goal: &mut [u8],
 ) -> Reading
     requires { ⌜ (0 < from) × (from ≤ length (now text)) × Scopes (now tables) counts ⌝ }
-    ensures { λ r. ⌜ ((c : Scope) → Scoped (now (tables .entry)) counts c → Aimed (length (now (text .entry))) c judged r (now (goal .entry)) (now (goal .exit)) (goalFrom (now (text .entry)) c judged from)) ⌝ }
+    ensures { λ r. ⌜ ((c : Scope) → Scoped (now (tables .entry)) counts c
+        → Aimed (length (now (text .entry))) c judged r (now (goal .entry)) (now (goal .exit)) (goalFrom (now (text .entry)) c judged from)) ⌝ }
 {
     let s = premises::section_due(text, from, b":goal");
     let Reading::Done(inside, p) = s else {
@@ -102,7 +106,9 @@ fn rest_at(
     goal: &mut [u8],
 ) -> Reading
     requires { ⌜ (0 < from) × (from ≤ length (now text)) × Scopes (now tables) counts × (now facts ≡ noFacts) × (now numbers ≡ noNumbers) ⌝ }
-    ensures { λ r. ⌜ ((c : Scope) → Scoped (now (tables .entry)) counts c → c .inAction ≡ false → Settled (now (text .entry)) c r (now (facts .exit)) (now (numbers .exit)) (now (goal .entry)) (now (goal .exit)) (restOf (now (text .entry)) c from)) ⌝ }
+    ensures { λ r. ⌜ ((c : Scope) → Scoped (now (tables .entry)) counts c → c .inAction ≡ false
+        → Settled (now (text .entry)) c r (now (facts .exit)) (now (numbers .exit)) (now (goal .entry)) (now (goal .exit))
+        (restOf (now (text .entry)) c from)) ⌝ }
 {
     let i = init_at(text, from, tables, counts, facts, numbers);
     let Reading::Done(a, given) = i else {
@@ -129,8 +135,11 @@ pub fn problem_at(
     numbers: &mut [i64],
     goal: &mut [u8],
 ) -> Reading
-    requires { ⌜ Scopes (now tables) counts × (length (now tables) ≡ 5054) × (now facts ≡ noFacts) × (now numbers ≡ noNumbers) × (counts .variables ≡ 0) × (counts .in_action ≡ false) ⌝ }
-    ensures { λ r. ⌜ ((d : Domain) → Scoped (now (tables .entry)) counts (scopeOf d (d .constants)) → now (name .entry) ≡ d .name → Posed (now (text .entry)) d counts r (now (tables .exit)) (now (facts .exit)) (now (numbers .exit)) (now (goal .entry)) (now (goal .exit)) (readProblem (now (text .entry)) d)) ⌝ }
+    requires { ⌜ Scopes (now tables) counts × (length (now tables) ≡ 5054) × (now facts ≡ noFacts)
+        × (now numbers ≡ noNumbers) × (counts .variables ≡ 0) × (counts .in_action ≡ false) ⌝ }
+    ensures { λ r. ⌜ ((d : Domain) → Scoped (now (tables .entry)) counts (scopeOf d (d .constants)) → now (name .entry) ≡ d .name
+        → Posed (now (text .entry)) d counts r (now (tables .exit)) (now (facts .exit)) (now (numbers .exit)) (now (goal .entry)) (now (goal .exit))
+        (readProblem (now (text .entry)) d)) ⌝ }
 {
     let p = premises::premises_at(text, tables, counts, name);
     let Reading::Done(from, objects) = p else {

@@ -55,7 +55,8 @@ pub fn section_due(text: &[u8], from: usize, w: &[u8]) -> Reading
 // `(:domain NAME)`, NAME being that of the domain.
 pub fn of_domain(text: &[u8], from: usize, name: &[u8]) -> Reading
     requires { ⌜ from ≤ length (now text) ⌝ }
-    ensures { λ r. ⌜ ((d : Domain) → now (name .entry) ≡ d .name → r ≡ answerOf (ofDomain (now (text .entry)) d from)) × Ahead (length (now (text .entry))) from r ⌝ }
+    ensures { λ r. ⌜ ((d : Domain) → now (name .entry) ≡ d .name → r ≡ answerOf (ofDomain (now (text .entry)) d from))
+        × Ahead (length (now (text .entry))) from r ⌝ }
 {
     let s = section_due(text, from, b":domain");
     let Reading::Done(inside, _) = s else {
@@ -74,7 +75,10 @@ pub fn of_domain(text: &[u8], from: usize, name: &[u8]) -> Reading
 // The objects, behind the domain's constants in the rows of `tables`: the place after them, and how many there are.
 fn objects_section(text: &[u8], from: usize, tables: &mut [u8], counts: Counts) -> Reading
     requires { ⌜ (from ≤ length (now text)) × Scopes (now tables) counts × (length (now tables) ≡ 5054) ⌝ }
-    ensures { λ r. ⌜ ((d : Domain) → Scoped (now (tables .entry)) counts (scopeOf d (d .constants)) → Grounded counts r (now (tables .exit)) d (section (now (text .entry)) ":objects" (d .constants) (namesTo (now (text .entry)) (d .types) 64 (d .constants)) from)) × Onwards (length (now (text .entry))) from r ⌝ }
+    ensures { λ r. ⌜ ((d : Domain) → Scoped (now (tables .entry)) counts (scopeOf d (d .constants))
+        → Grounded counts r (now (tables .exit)) d
+        (section (now (text .entry)) ":objects" (d .constants) (namesTo (now (text .entry)) (d .types) 64 (d .constants)) from))
+        × Onwards (length (now (text .entry))) from r ⌝ }
 {
     let o = domain_sections::begins_at(text, from, b":objects");
     let Opened::At(_, inside) = o else {
@@ -97,7 +101,9 @@ fn objects_section(text: &[u8], from: usize, tables: &mut [u8], counts: Counts) 
 // What a problem has before init: the place after it, and how many objects there are. They replace the objects' rows of `tables`.
 pub fn premises_at(text: &[u8], tables: &mut [u8], counts: Counts, name: &[u8]) -> Reading
     requires { ⌜ Scopes (now tables) counts × (length (now tables) ≡ 5054) ⌝ }
-    ensures { λ r. ⌜ ((d : Domain) → Scoped (now (tables .entry)) counts (scopeOf d (d .constants)) → now (name .entry) ≡ d .name → Grounded counts r (now (tables .exit)) d (premises (now (text .entry)) d 0)) × Onwards (length (now (text .entry))) 6 r ⌝ }
+    ensures { λ r. ⌜ ((d : Domain) → Scoped (now (tables .entry)) counts (scopeOf d (d .constants)) → now (name .entry) ≡ d .name
+        → Grounded counts r (now (tables .exit)) d (premises (now (text .entry)) d 0))
+        × Onwards (length (now (text .entry))) 6 r ⌝ }
 {
     let h = domain_sections::heading_at(text, 0, b"problem");
     match h {

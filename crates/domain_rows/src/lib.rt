@@ -29,7 +29,8 @@ pub fn copy(rows: &mut [u8], at: usize, w: &[u8])
 // A name more, with its numbers.
 pub fn enter<'a>(rows: &mut [u8], max: usize, n: usize, w: &'a [u8], info: &'a [u8])
     requires { ⌜ Stands max (now rows) n × (n < max) × (length (now w) ≤ 32) × (length (now info) ≤ 5) ⌝ }
-    ensures { λ _. ⌜ ((t : Table) → Holds max (now (rows .entry)) n t → Holds max (now (rows .exit)) (n + 1) (t ++ entry (now (w .entry)) (now (info .entry)) ∷ [])) ⌝ }
+    ensures { λ _. ⌜ ((t : Table) → Holds max (now (rows .entry)) n t
+        → Holds max (now (rows .exit)) (n + 1) (t ++ entry (now (w .entry)) (now (info .entry)) ∷ [])) ⌝ }
 {
     let at = 38 * n;
     rows[at] = w.len() as u8;

@@ -142,7 +142,8 @@ fn flag_of(text: &[u8], t: Token) -> Reading
 // The requirement flags, to their closing bracket.
 pub fn flags_to(text: &[u8], from: usize) -> Reading
     requires { ⌜ from ≤ length (now text) ⌝ }
-    ensures { λ r. ⌜ ((k : ℕ) → length (now (text .entry)) - from < k → r ≡ answerOf (flagsTo k (now (text .entry)) from)) × Ahead (length (now (text .entry))) from r ⌝ }
+    ensures { λ r. ⌜ ((k : ℕ) → length (now (text .entry)) - from < k → r ≡ answerOf (flagsTo k (now (text .entry)) from))
+        × Ahead (length (now (text .entry))) from r ⌝ }
 {
     let mut at = from;
     loop {

@@ -23,7 +23,8 @@ ghost use Rattle.domain_terms.specs.Cells.{cellAnswer, typeOfCell, argCe
 // An object's name w, which stands from p to e: its cell.
 fn object_at(w: &[u8], p: usize, e: usize, tables: &[u8], counts: Counts) -> Reading
     requires { ⌜ Scopes (now tables) counts ⌝ }
-    ensures { λ r. ⌜ ((s : List ℕ) (c : Scope) → now (w .entry) ≡ part s p e → Scoped (now (tables .entry)) counts c → r ≡ cellAnswer (givenBy s c W.Name p e e)) × Cellular r ⌝ }
+    ensures { λ r. ⌜ ((s : List ℕ) (c : Scope) → now (w .entry) ≡ part s p e → Scoped (now (tables .entry)) counts c
+        → r ≡ cellAnswer (givenBy s c W.Name p e e)) × Cellular r ⌝ }
 {
     let n = counts.objects;
     let f = scope::find_in(tables, 646, 3078, n, w);
@@ -53,7 +54,8 @@ fn variable_at(text: &[u8], p: usize, e: usize, tables: &[u8], counts: Counts) -
 // An argument: its cell.
 pub fn argument_at(text: &[u8], from: usize, d: usize, tables: &[u8], counts: Counts) -> Reading
     requires { ⌜ (from ≤ length (now text)) × Scopes (now tables) counts ⌝ }
-    ensures { λ r. ⌜ ((c : Scope) → Scoped (now (tables .entry)) counts c → r ≡ cellAnswer (argument (now (text .entry)) d c from)) × Cellular r × Ahead (length (now (text .entry))) from r ⌝ }
+    ensures { λ r. ⌜ ((c : Scope) → Scoped (now (tables .entry)) counts c → r ≡ cellAnswer (argument (now (text .entry)) d c from))
+        × Cellular r × Ahead (length (now (text .entry))) from r ⌝ }
 {
     let t = tokens::token_at(text, from);
     let Token::Word(k, p, e) = t else {
@@ -102,8 +104,11 @@ pub fn arguments_at(
     code: &mut [u8],
     used: usize,
 ) -> Reading
-    requires { ⌜ (from ≤ length (now text)) × Scopes (now tables) counts × Signatures (now tables) off n × (i < n) × (used + (length (now text) - from) ≤ 18446744073709551615) ⌝ }
-    ensures { λ r. ⌜ ((c : Scope) (m to : ℕ) (t : Table) → Scoped (now (tables .entry)) counts c → Holds m (part (now (tables .entry)) off to) n t → AllSigned t → Wrote argCells (now (code .entry)) used r (now (code .exit)) (arguments (now (text .entry)) d c (wantedOf (entryAt t i)) from)) × Ahead (length (now (text .entry))) from r × Room used from r ⌝ }
+    requires { ⌜ (from ≤ length (now text)) × Scopes (now tables) counts × Signatures (now tables) off n
+        × (i < n) × (used + (length (now text) - from) ≤ 18446744073709551615) ⌝ }
+    ensures { λ r. ⌜ ((c : Scope) (m to : ℕ) (t : Table) → Scoped (now (tables .entry)) counts c → Holds m (part (now (tables .entry)) off to) n t → AllSigned t
+        → Wrote argCells (now (code .entry)) used r (now (code .exit)) (arguments (now (text .entry)) d c (wantedOf (entryAt t i)) from))
+        × Ahead (length (now (text .entry))) from r × Room used from r ⌝ }
 {
     let arity = scope::kept_in(tables, off, n, i, 0);
     let mut j = 0;

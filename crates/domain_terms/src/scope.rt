@@ -31,7 +31,8 @@ pub fn find_in(tables: &[u8], from: usize, to: usize, n: usize, w: &[u8]) -> Pla
 // Number j of those kept with name i, in the table from `from` on, which has n names.
 pub fn kept_in(tables: &[u8], from: usize, n: usize, i: usize, j: usize) -> usize
     requires { ⌜ (n ≤ 64) × (from ≤ 5054) × (j < 5) ⌝ }
-    ensures { λ r. ⌜ ((m to : ℕ) (t : Table) → Holds m (part (now (tables .entry)) from to) n t → r ≡ getD (infoOf (entryAt t i)) j 0) × (r < 256) × (r ≡ keptIn (now (tables .entry)) from n i j) ⌝ }
+    ensures { λ r. ⌜ ((m to : ℕ) (t : Table) → Holds m (part (now (tables .entry)) from to) n t → r ≡ getD (infoOf (entryAt t i)) j 0)
+        × (r < 256) × (r ≡ keptIn (now (tables .entry)) from n i j) ⌝ }
 {
     if n <= i {
         return 0;
@@ -42,7 +43,8 @@ pub fn kept_in(tables: &[u8], from: usize, n: usize, i: usize, j: usize) -> usiz
 // Whether a type is another, or below it.
 pub fn is_below(tables: &[u8], n: usize, a: usize, b: usize) -> bool
     requires { ⌜ n ≤ 17 ⌝ }
-    ensures { λ r. ⌜ ((m to : ℕ) (ts : Table) → Holds m (part (now (tables .entry)) 0 to) n ts → r ≡ isBelow (length ts) ts a b) × (r ≡ belowIn n (now (tables .entry)) n a b) ⌝ }
+    ensures { λ r. ⌜ ((m to : ℕ) (ts : Table) → Holds m (part (now (tables .entry)) 0 to) n ts → r ≡ isBelow (length ts) ts a b)
+        × (r ≡ belowIn n (now (tables .entry)) n a b) ⌝ }
 {
     let mut left = n;
     let mut x = a;

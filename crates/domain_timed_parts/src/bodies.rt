@@ -23,7 +23,9 @@ pub fn body_at(
     over: bool,
 ) -> Progress
     requires { ⌜ (from ≤ length (now text)) × Scopes (now tables) counts × (used + (length (now text) - from) + 2 ≤ 18446744073709551615) ⌝ }
-    ensures { λ r. ⌜ ((c : Scope) → Scoped (now (tables .entry)) counts c → Written asIs (now (code .entry)) used r (now (code .exit)) (bodyOf over (now (text .entry)) c d left from)) × Spent 1 (length (now (text .entry))) used from r ⌝ }
+    ensures { λ r. ⌜ ((c : Scope) → Scoped (now (tables .entry)) counts c
+        → Written asIs (now (code .entry)) used r (now (code .exit)) (bodyOf over (now (text .entry)) c d left from))
+        × Spent 1 (length (now (text .entry))) used from r ⌝ }
 {
     if over {
         return condition_at(text, from, d, tables, counts, code, used, left);

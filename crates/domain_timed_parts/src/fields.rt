@@ -47,7 +47,9 @@ fn held_at(
     over: bool,
 ) -> Progress
     requires { ⌜ (from ≤ length (now text)) × Scopes (now tables) counts × (used + (length (now text) - from) + 3 ≤ 18446744073709551615) ⌝ }
-    ensures { λ r. ⌜ ((c : Scope) → Scoped (now (tables .entry)) counts c → Written timedCells (now (code .entry)) used r (now (code .exit)) (partsOf durative over (now (text .entry)) c left from)) × Spent 2 (length (now (text .entry))) used from r ⌝ }
+    ensures { λ r. ⌜ ((c : Scope) → Scoped (now (tables .entry)) counts c
+        → Written timedCells (now (code .entry)) used r (now (code .exit)) (partsOf durative over (now (text .entry)) c left from))
+        × Spent 2 (length (now (text .entry))) used from r ⌝ }
 {
     if durative {
         return timed::parts_at(text, from, 14, tables, counts, code, used, left, over);
@@ -70,7 +72,9 @@ pub fn field_parts(
     over: bool,
 ) -> Reading
     requires { ⌜ (from ≤ length (now text)) × Scopes (now tables) counts × (used + (length (now text) - from) + 3 ≤ 18446744073709551615) ⌝ }
-    ensures { λ r. ⌜ ((c : Scope) → Scoped (now (tables .entry)) counts c → Wrote endedCells (now (code .entry)) used r (now (code .exit)) (fieldParts durative over (now (text .entry)) c (now (w .entry)) left from)) × Onwards (length (now (text .entry))) used from r ⌝ }
+    ensures { λ r. ⌜ ((c : Scope) → Scoped (now (tables .entry)) counts c
+        → Wrote endedCells (now (code .entry)) used r (now (code .exit)) (fieldParts durative over (now (text .entry)) c (now (w .entry)) left from))
+        × Onwards (length (now (text .entry))) used from r ⌝ }
 {
     let f = field_at(text, from, w);
     let Place::At(inside) = f else {

@@ -30,7 +30,10 @@ fn part_behind(
     over: bool,
 ) -> Progress
     requires { ⌜ (e ≤ length (now text)) × Scopes (now tables) counts × (used + (length (now text) - e) + 3 ≤ 18446744073709551615) ⌝ }
-    ensures { λ r. ⌜ ((c : Scope) → Scoped (now (tables .entry)) counts c → Written timedCells (now (code .entry)) used r (now (code .exit)) (partBehind (now (text .entry)) over (bodyOf over (now (text .entry)) c) d left p e e)) × Spent 0 (length (now (text .entry))) used e r ⌝ }
+    ensures { λ r. ⌜ ((c : Scope) → Scoped (now (tables .entry)) counts c
+        → Written timedCells (now (code .entry)) used r (now (code .exit))
+        (partBehind (now (text .entry)) over (bodyOf over (now (text .entry)) c) d left p e e))
+        × Spent 0 (length (now (text .entry))) used e r ⌝ }
 {
     let w = times::time_of(text, p, e, d, over);
     let Reading::Done(at, when) = w else {
@@ -61,7 +64,9 @@ fn part_at(
     over: bool,
 ) -> Progress
     requires { ⌜ (from ≤ length (now text)) × Scopes (now tables) counts × (used + (length (now text) - from) + 3 ≤ 18446744073709551615) ⌝ }
-    ensures { λ r. ⌜ ((c : Scope) → Scoped (now (tables .entry)) counts c → Written timedCells (now (code .entry)) used r (now (code .exit)) (partAt (now (text .entry)) over (bodyOf over (now (text .entry)) c) d left from)) × Spent 0 (length (now (text .entry))) used from r ⌝ }
+    ensures { λ r. ⌜ ((c : Scope) → Scoped (now (tables .entry)) counts c
+        → Written timedCells (now (code .entry)) used r (now (code .exit)) (partAt (now (text .entry)) over (bodyOf over (now (text .entry)) c) d left from))
+        × Spent 0 (length (now (text .entry))) used from r ⌝ }
 {
     let o = domain_due::opening(text, from, d);
     let Reading::Done(inside, _) = o else {
@@ -87,7 +92,9 @@ fn parts_to(
     over: bool,
 ) -> Progress
     requires { ⌜ (from ≤ length (now text)) × Scopes (now tables) counts × (used + (length (now text) - from) + 3 ≤ 18446744073709551615) ⌝ }
-    ensures { λ r. ⌜ ((c : Scope) (k : ℕ) → Scoped (now (tables .entry)) counts c → length (now (text .entry)) - from < k → Written timedCells (now (code .entry)) used r (now (code .exit)) (partsTo (now (text .entry)) over (bodyOf over (now (text .entry)) c) k d left from)) × Spent 0 (length (now (text .entry))) used from r ⌝ }
+    ensures { λ r. ⌜ ((c : Scope) (k : ℕ) → Scoped (now (tables .entry)) counts c → length (now (text .entry)) - from < k
+        → Written timedCells (now (code .entry)) used r (now (code .exit)) (partsTo (now (text .entry)) over (bodyOf over (now (text .entry)) c) k d left from))
+        × Spent 0 (length (now (text .entry))) used from r ⌝ }
 {
     let mut at = from;
     let mut free = used;
@@ -120,7 +127,9 @@ pub fn parts_at(
     over: bool,
 ) -> Progress
     requires { ⌜ (from ≤ length (now text)) × Scopes (now tables) counts × (used + (length (now text) - from) + 3 ≤ 18446744073709551615) ⌝ }
-    ensures { λ r. ⌜ ((c : Scope) → Scoped (now (tables .entry)) counts c → Written timedCells (now (code .entry)) used r (now (code .exit)) (parts (now (text .entry)) over (bodyOf over (now (text .entry)) c) d left from)) × Spent 0 (length (now (text .entry))) used from r ⌝ }
+    ensures { λ r. ⌜ ((c : Scope) → Scoped (now (tables .entry)) counts c
+        → Written timedCells (now (code .entry)) used r (now (code .exit)) (parts (now (text .entry)) over (bodyOf over (now (text .entry)) c) d left from))
+        × Spent 0 (length (now (text .entry))) used from r ⌝ }
 {
     let o = domain_due::opening(text, from, d);
     let Reading::Done(inside, _) = o else {

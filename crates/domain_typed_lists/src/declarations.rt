@@ -25,7 +25,9 @@ fn signature_to(
     info: &mut [u8],
 ) -> Reading
     requires { ⌜ (from ≤ length (now text)) × Stands 17 (now types) tn × (now rows ≡ rowsOf most []) × (most < length (now info)) × (most ≤ 255) ⌝ }
-    ensures { λ r. ⌜ ((ts : Table) → Holds 17 (now (types .entry)) tn ts → Signed most r (now (info .entry)) (now (info .exit)) (variablesTo (now (text .entry)) ts most from)) × Ahead (length (now (text .entry))) from r ⌝ }
+    ensures { λ r. ⌜ ((ts : Table) → Holds 17 (now (types .entry)) tn ts
+        → Signed most r (now (info .entry)) (now (info .exit)) (variablesTo (now (text .entry)) ts most from))
+        × Ahead (length (now (text .entry))) from r ⌝ }
 {
     let a = typed::variables_to(text, from, types, tn, rows, most);
     let Reading::Done(after, n) = a else {
@@ -47,7 +49,9 @@ fn declaration_at(
     n: usize,
 ) -> Reading
     requires { ⌜ (from ≤ length (now text)) × Stands 17 (now types) tn × Stands max (now rows) n × (most ≤ 3) ⌝ }
-    ensures { λ r. ⌜ ((ts t : Table) → Holds 17 (now (types .entry)) tn ts → Holds max (now (rows .entry)) n t → Outcome max r (now (rows .exit)) (declaration (now (text .entry)) ts max most t from)) × Ahead (length (now (text .entry))) from r ⌝ }
+    ensures { λ r. ⌜ ((ts t : Table) → Holds 17 (now (types .entry)) tn ts → Holds max (now (rows .entry)) n t
+        → Outcome max r (now (rows .exit)) (declaration (now (text .entry)) ts max most t from))
+        × Ahead (length (now (text .entry))) from r ⌝ }
 {
     let h = domain_due::new_name(text, from, 13);
     let Reading::Done(end, start) = h else {
@@ -81,7 +85,9 @@ pub fn declarations_at(
     count: usize,
 ) -> Reading
     requires { ⌜ (from ≤ length (now text)) × Stands 17 (now types) tn × Stands max (now rows) count × (most ≤ 3) ⌝ }
-    ensures { λ r. ⌜ ((ts t : Table) (k : ℕ) → Holds 17 (now (types .entry)) tn ts → Holds max (now (rows .entry)) count t → length (now (text .entry)) - from < k → Outcome max r (now (rows .exit)) (declarations k (now (text .entry)) ts max most t from)) × Ahead (length (now (text .entry))) from r ⌝ }
+    ensures { λ r. ⌜ ((ts t : Table) (k : ℕ) → Holds 17 (now (types .entry)) tn ts → Holds max (now (rows .entry)) count t
+        → length (now (text .entry)) - from < k → Outcome max r (now (rows .exit)) (declarations k (now (text .entry)) ts max most t from))
+        × Ahead (length (now (text .entry))) from r ⌝ }
 {
     let mut at = from;
     let mut n = count;

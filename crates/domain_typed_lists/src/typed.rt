@@ -29,7 +29,8 @@ pub fn fresh_at(
     max: usize,
     n: usize,
 ) -> Reading
-    ensures { λ r. ⌜ ((m : ℕ) (t : Table) → Holds m (now (rows .entry)) n t → r ≡ answerOf (fresh max t place (part (now (text .entry)) start end) end)) × Room max n r ⌝ }
+    ensures { λ r. ⌜ ((m : ℕ) (t : Table) → Holds m (now (rows .entry)) n t → r ≡ answerOf (fresh max t place (part (now (text .entry)) start end) end))
+        × Room max n r ⌝ }
 {
     let f = names::find(rows, n, runs::part_of(text, start, end));
     let Place::Nothing = f else {
@@ -52,7 +53,8 @@ fn declare_name(
     n: usize,
 ) -> Reading
     requires { ⌜ (length (part (now text) start end) ≤ 32) × Stands max (now rows) n ⌝ }
-    ensures { λ r. ⌜ ((t : Table) → Holds max (now (rows .entry)) n t → Outcome max r (now (rows .exit)) (declare max t place (part (now (text .entry)) start end) end)) ⌝ }
+    ensures { λ r. ⌜ ((t : Table) → Holds max (now (rows .entry)) n t
+        → Outcome max r (now (rows .exit)) (declare max t place (part (now (text .entry)) start end) end)) ⌝ }
 {
     let f = fresh_at(text, place, start, end, rows, max, n);
     let Reading::Done(after, _) = f else {
@@ -75,7 +77,9 @@ fn type_of_group(
     n: usize,
 ) -> Reading
     requires { ⌜ (from ≤ length (now text)) × (tn ≤ 255) × (g ≤ 255) ⌝ }
-    ensures { λ r. ⌜ ((m : ℕ) (ts t : Table) → Holds 17 (now (types .entry)) tn ts → Holds m (now (rows .entry)) n t → r ≡ answerOf (typeDue (now (text .entry)) (cond own t ts) (cond own g (length ts)) from)) × Ahead (length (now (text .entry))) from r × Below 256 r ⌝ }
+    ensures { λ r. ⌜ ((m : ℕ) (ts t : Table) → Holds 17 (now (types .entry)) tn ts → Holds m (now (rows .entry)) n t
+        → r ≡ answerOf (typeDue (now (text .entry)) (cond own t ts) (cond own g (length ts)) from))
+        × Ahead (length (now (text .entry))) from r × Below 256 r ⌝ }
 {
     if own {
         return types::type_due(text, from, rows, n, g);
@@ -97,7 +101,9 @@ fn group_at(
     n: usize,
 ) -> Reading
     requires { ⌜ (from ≤ length (now text)) × Stands 17 (now types) tn × Stands max (now rows) n × (n ≤ 255) ⌝ }
-    ensures { λ r. ⌜ ((ts t : Table) → Holds 17 (now (types .entry)) tn ts → Holds max (now (rows .entry)) n t → Outcome max r (now (rows .exit)) (andThen (waiting t g p from) (λ _. group (now (text .entry)) own ts t g))) × Ahead (length (now (text .entry))) from r ⌝ }
+    ensures { λ r. ⌜ ((ts t : Table) → Holds 17 (now (types .entry)) tn ts → Holds max (now (rows .entry)) n t
+        → Outcome max r (now (rows .exit)) (andThen (waiting t g p from) (λ _. group (now (text .entry)) own ts t g)))
+        × Ahead (length (now (text .entry))) from r ⌝ }
 {
     if n <= g {
         return Reading::Refused(3, p);
@@ -123,7 +129,9 @@ pub fn typed_list(
     mut n: usize,
 ) -> Reading
     requires { ⌜ (at ≤ length (now text)) × Stands 17 (now types) tn × Stands max (now rows) n × (max ≤ 255) ⌝ }
-    ensures { λ r. ⌜ ((ts t : Table) (k : ℕ) → Holds 17 (now (types .entry)) tn ts → Holds max (now (rows .entry)) n t → length (now (text .entry)) - at < k → Outcome max r (now (rows .exit)) (typed k (now (text .entry)) var own ts max t n at)) × Ahead (length (now (text .entry))) at r ⌝ }
+    ensures { λ r. ⌜ ((ts t : Table) (k : ℕ) → Holds 17 (now (types .entry)) tn ts → Holds max (now (rows .entry)) n t → length (now (text .entry)) - at < k
+        → Outcome max r (now (rows .exit)) (typed k (now (text .entry)) var own ts max t n at))
+        × Ahead (length (now (text .entry))) at r ⌝ }
 {
     let mut g = n;
     loop {
@@ -161,7 +169,9 @@ pub fn names_to(
     count: usize,
 ) -> Reading
     requires { ⌜ (from ≤ length (now text)) × Stands 17 (now types) tn × Stands 64 (now rows) count ⌝ }
-    ensures { λ r. ⌜ ((ts t : Table) → Holds 17 (now (types .entry)) tn ts → Holds 64 (now (rows .entry)) count t → Outcome 64 r (now (rows .exit)) (namesTo (now (text .entry)) ts 64 t from)) × Ahead (length (now (text .entry))) from r ⌝ }
+    ensures { λ r. ⌜ ((ts t : Table) → Holds 17 (now (types .entry)) tn ts → Holds 64 (now (rows .entry)) count t
+        → Outcome 64 r (now (rows .exit)) (namesTo (now (text .entry)) ts 64 t from))
+        × Ahead (length (now (text .entry))) from r ⌝ }
 {
     typed_list(text, from, false, false, types, tn, rows, 64, count)
 }
@@ -176,7 +186,8 @@ pub fn variables_to(
     most: usize,
 ) -> Reading
     requires { ⌜ (from ≤ length (now text)) × Stands 17 (now types) tn × (now rows ≡ rowsOf most []) × (most ≤ 255) ⌝ }
-    ensures { λ r. ⌜ ((ts : Table) → Holds 17 (now (types .entry)) tn ts → Outcome most r (now (rows .exit)) (variablesTo (now (text .entry)) ts most from)) × Ahead (length (now (text .entry))) from r ⌝ }
+    ensures { λ r. ⌜ ((ts : Table) → Holds 17 (now (types .entry)) tn ts → Outcome most r (now (rows .exit)) (variablesTo (now (text .entry)) ts most from))
+        × Ahead (length (now (text .entry))) from r ⌝ }
 {
     typed_list(text, from, true, false, types, tn, rows, most, 0)
 }

@@ -20,7 +20,9 @@ ghost use Rattle.domain_typed_lists.specs.Outcome.{Below};
 // The token at `from`, which is no word, is refused: there is no number to answer.
 fn no_word(text: &[u8], from: usize) -> Reading
     requires { ⌜ from ≤ length (now text) ⌝ }
-    ensures { λ r. ⌜ ((at : ℕ) → r ≡ answerOf (onOpen (tokenAt (now (text .entry)) from) (typeOfOther (now (text .entry))) (wrong 13 (tokenAt (now (text .entry)) from)) at)) × Below 0 r ⌝ }
+    ensures { λ r. ⌜ ((at : ℕ)
+        → r ≡ answerOf (onOpen (tokenAt (now (text .entry)) from) (typeOfOther (now (text .entry))) (wrong 13 (tokenAt (now (text .entry)) from)) at))
+        × Below 0 r ⌝ }
 {
     let t = tokens::token_at(text, from);
     let Token::Open(p, _) = t else {
@@ -36,7 +38,8 @@ fn no_word(text: &[u8], from: usize) -> Reading
 // The number of the type that is named next, one of the first b of the n in the table.
 pub fn type_due(text: &[u8], from: usize, rows: &[u8], n: usize, b: usize) -> Reading
     requires { ⌜ from ≤ length (now text) ⌝ }
-    ensures { λ r. ⌜ ((m : ℕ) (t : Table) → Holds m (now (rows .entry)) n t → r ≡ answerOf (typeDue (now (text .entry)) t b from)) × Ahead (length (now (text .entry))) from r × Below b r ⌝ }
+    ensures { λ r. ⌜ ((m : ℕ) (t : Table) → Holds m (now (rows .entry)) n t → r ≡ answerOf (typeDue (now (text .entry)) t b from))
+        × Ahead (length (now (text .entry))) from r × Below b r ⌝ }
 {
     let t = tokens::token_at(text, from);
     let Token::Word(k, p, e) = t else {

@@ -11,7 +11,8 @@ use text_words::spelling;
 ghost use mathlib.Core.Path.{_≡_};
 ghost use lib.ListN.{length};
 ghost use Prim.Native.Nat.{_<_};
-ghost use Rattle.text_tokens.specs.Tokens.{sizedOf, numberToken, isPast, bracketOf, domainWord, wordOf, tokenAt, spotAt, judgedOf, strangeOf, planNumber, planWord, squareOf, planTokenAt};
+ghost use Rattle.text_tokens.specs.Tokens.{sizedOf, numberToken, isPast, bracketOf, domainWord, wordOf, tokenAt, spotAt};
+ghost use Rattle.text_tokens.specs.Tokens.{judgedOf, strangeOf, planNumber, planWord, squareOf, planTokenAt};
 
 pub enum Word {
     Name,

@@ -7,7 +7,8 @@ use Rattle.text_words.specs.Spelling.{wordIn, isAt, picked}
 use Rattle.text_words.specs.declared.fixed.HeadWord.{HeadWord}
 use Rattle.text_words.specs.declared.fixed.HeadWord.the-variants as H
 
--- "`and`, `not` around one atom or comparison, .. comparisons `= < <= > >=`, `+` of two, `-` of one or two expressions, effects `assign`, `increase`, `decrease`"
+-- "`and`, `not` around one atom or comparison, .. comparisons `= < <= > >=`, `+` of two, `-` of one or two expressions,
+-- effects `assign`, `increase`, `decrease`"
 abbrev pub heads : List HeadWord
 heads = H.And ∷ H.Not ∷ H.Equal ∷ H.Less ∷ H.AtMost ∷ H.More ∷ H.AtLeast ∷ H.Plus ∷ H.Minus ∷ H.Assign ∷ H.Increase ∷ H.Decrease ∷ []
 
