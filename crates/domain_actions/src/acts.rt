@@ -2,6 +2,7 @@
 use crate::bodies;
 use crate::headers;
 use domain_due::Reading;
+use domain_rows::layout;
 use domain_sections::Opened;
 use domain_terms::scope::Counts;
 ghost use mathlib.Core.Path.{_≡_};
@@ -34,7 +35,7 @@ fn action_at(
         → Adds as′ (now (code .entry)) used (now (starts .entry)) r (now (rows .exit)) (now (code .exit)) (now (starts .exit))
         (action (now (text .entry)) c durative as′ from)) × Ended 0 (length (now (text .entry))) used from r ⌝ }
 {
-    let mut own = [0u8; 5054];
+    let mut own = [0u8; layout::TABLES_LENGTH];
     let h = headers::header_at(text, from, tables, counts, rows, n, &mut own);
     let Reading::Done(after, v) = h else {
         return h;

@@ -1,5 +1,6 @@
 // An action's name and its parameters, read into the table of actions and into a scope of the action's own.
 use domain_due::Reading;
+use domain_rows::layout;
 use domain_terms::scope::Counts;
 use domain_typed_lists::typed;
 use text_tokens::runs;
@@ -30,15 +31,15 @@ fn parameters_to(
         → Signed 4 r (now (info .entry)) (now (info .exit)) (variablesTo (now (text .entry)) (c .types) 4 from) × Owned c counts (now (own .exit))
         (variablesTo (now (text .entry)) (c .types) 4 from)) × Ahead (length (now (text .entry))) from r ⌝ }
 {
-    let mut table = [0u8; 152];
-    let types = runs::part_of(tables, 0, 646);
+    let mut table = [0u8; layout::VARIABLES_LENGTH];
+    let types = runs::part_of(tables, 0, layout::TYPES_LENGTH);
     let a = typed::variables_to(text, from, types, counts.types, &mut table, 4);
     let Reading::Done(after, n) = a else {
         return a;
     };
     domain_rows::signature(&table, 4, n, info);
     domain_rows::copy(own, 0, tables);
-    domain_rows::copy(own, 4902, &table);
+    domain_rows::copy(own, layout::VARIABLES_AT, &table);
     Reading::Done(after, n)
 }
 

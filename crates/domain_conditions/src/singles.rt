@@ -4,6 +4,7 @@ use domain_expressions::leaves;
 use domain_expressions::leaves::Progress;
 use domain_expressions::references;
 use domain_expressions::trees;
+use domain_rows::layout;
 use domain_terms::arguments;
 use domain_terms::scope;
 use domain_terms::scope::Counts;
@@ -66,7 +67,13 @@ pub fn atom_at(
         × Spent 0 (length (now (text .entry))) (used + 2) e r ⌝ }
 {
     let n = counts.predicates;
-    let f = scope::find_in(tables, 3078, 4294, n, runs::part_of(text, p, e));
+    let f = scope::find_in(
+        tables,
+        layout::PREDICATES_AT,
+        layout::FUNCTIONS_AT,
+        n,
+        runs::part_of(text, p, e),
+    );
     let Place::At(i) = f else {
         return Progress::Refused(8, p);
     };
@@ -75,7 +82,19 @@ pub fn atom_at(
     }
     let tag = chosen(yes, 4, 8);
     leaves::progress_of(
-        references::reference_at(text, e, d, tables, counts, 3078, n, i, tag, code, used),
+        references::reference_at(
+            text,
+            e,
+            d,
+            tables,
+            counts,
+            layout::PREDICATES_AT,
+            n,
+            i,
+            tag,
+            code,
+            used,
+        ),
         left - 1,
     )
 }

@@ -4,6 +4,7 @@ use domain_expressions::leaves;
 use domain_expressions::leaves::Progress;
 use domain_expressions::references;
 use domain_expressions::trees;
+use domain_rows::layout;
 use domain_terms::scope;
 use domain_terms::scope::Counts;
 use text_tokens::runs;
@@ -44,7 +45,13 @@ pub fn becomes_at(
         × Spent 0 (length (now (text .entry))) (used + 2) e r ⌝ }
 {
     let n = counts.predicates;
-    let f = scope::find_in(tables, 3078, 4294, n, runs::part_of(text, p, e));
+    let f = scope::find_in(
+        tables,
+        layout::PREDICATES_AT,
+        layout::FUNCTIONS_AT,
+        n,
+        runs::part_of(text, p, e),
+    );
     let Place::At(i) = f else {
         return Progress::Refused(8, p);
     };
@@ -52,7 +59,19 @@ pub fn becomes_at(
         return Progress::Refused(12, p);
     }
     leaves::progress_of(
-        references::reference_at(text, e, d, tables, counts, 3078, n, i, tag, code, used),
+        references::reference_at(
+            text,
+            e,
+            d,
+            tables,
+            counts,
+            layout::PREDICATES_AT,
+            n,
+            i,
+            tag,
+            code,
+            used,
+        ),
         left - 1,
     )
 }
@@ -82,11 +101,29 @@ fn target_at(
         return b;
     };
     let n = counts.functions;
-    let f = scope::find_in(tables, 4294, 4902, n, runs::part_of(text, p, e));
+    let f = scope::find_in(
+        tables,
+        layout::FUNCTIONS_AT,
+        layout::VARIABLES_AT,
+        n,
+        runs::part_of(text, p, e),
+    );
     let Place::At(i) = f else {
         return Reading::Refused(8, p);
     };
-    references::reference_at(text, e, d - 1, tables, counts, 4294, n, i, tag, code, used)
+    references::reference_at(
+        text,
+        e,
+        d - 1,
+        tables,
+        counts,
+        layout::FUNCTIONS_AT,
+        n,
+        i,
+        tag,
+        code,
+        used,
+    )
 }
 
 // A change of a number, whose word stands from p to e: the tag says which.

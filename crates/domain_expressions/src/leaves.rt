@@ -1,6 +1,7 @@
 // What an expression is made of besides expressions: functions, and the ends of operands.
 use crate::references;
 use domain_due::Reading;
+use domain_rows::layout;
 use domain_terms::scope;
 use domain_terms::scope::Counts;
 use text_tokens::runs;
@@ -52,7 +53,13 @@ pub fn function_at(
         × Spent 0 (length (now (text .entry))) (used + 2) e r ⌝ }
 {
     let n = counts.functions;
-    let f = scope::find_in(tables, 4294, 4902, n, runs::part_of(text, p, e));
+    let f = scope::find_in(
+        tables,
+        layout::FUNCTIONS_AT,
+        layout::VARIABLES_AT,
+        n,
+        runs::part_of(text, p, e),
+    );
     let Place::At(i) = f else {
         return Progress::Refused(8, p);
     };
@@ -60,7 +67,19 @@ pub fn function_at(
         return Progress::Refused(12, p);
     }
     progress_of(
-        references::reference_at(text, e, d, tables, counts, 4294, n, i, 5, code, used),
+        references::reference_at(
+            text,
+            e,
+            d,
+            tables,
+            counts,
+            layout::FUNCTIONS_AT,
+            n,
+            i,
+            5,
+            code,
+            used,
+        ),
         left - 1,
     )
 }

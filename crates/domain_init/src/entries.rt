@@ -2,6 +2,7 @@
 use crate::grounds;
 use crate::values;
 use domain_due::Reading;
+use domain_rows::layout;
 use domain_terms::scope::Counts;
 use text_tokens::tokens;
 use text_tokens::tokens::Token;
@@ -36,7 +37,17 @@ fn fact_at(
         × Ahead (length (now (text .entry))) e r ⌝ }
 {
     let n = counts.predicates;
-    let a = grounds::ground_at(text, p, e, 13, tables, counts, 3078, 4294, n);
+    let a = grounds::ground_at(
+        text,
+        p,
+        e,
+        13,
+        tables,
+        counts,
+        layout::PREDICATES_AT,
+        layout::FUNCTIONS_AT,
+        n,
+    );
     let Reading::Done(after, i) = a else {
         return a;
     };
@@ -60,7 +71,17 @@ fn target_at(text: &[u8], from: usize, tables: &[u8], counts: Counts, numbers: &
         return w;
     };
     let n = counts.functions;
-    let a = grounds::ground_at(text, p, e, 12, tables, counts, 4294, 4902, n);
+    let a = grounds::ground_at(
+        text,
+        p,
+        e,
+        12,
+        tables,
+        counts,
+        layout::FUNCTIONS_AT,
+        layout::VARIABLES_AT,
+        n,
+    );
     let Reading::Done(_, i) = a else {
         return a;
     };

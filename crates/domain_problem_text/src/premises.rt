@@ -1,5 +1,9 @@
 // What a problem has before init: its heading, its domain's name, its objects; and the sums that are judged at `:init` or `:goal`.
 use domain_due::Reading;
+use domain_indexes::sum_of;
+use domain_rows::layout;
+use domain_rows::layout::FUNCTIONS_AT;
+use domain_rows::layout::PREDICATES_AT;
 use domain_sections::Opened;
 use domain_sections::Titled;
 use domain_terms::scope::Counts;
@@ -18,15 +22,21 @@ ghost use Rattle.domain_preamble.specs.Onwards.{Onwards};
 ghost use Rattle.domain_terms.specs.Scoped.{Scoped, Scopes};
 ghost use Rattle.domain_problem_text.specs.Grounded.{Grounded};
 
+// The most ground facts.
+pub const MOST_FACTS: usize = 16384;
+
+// The most ground numbers.
+pub const MOST_NUMBERS: usize = 1024;
+
 // Whether both sums fit.
 pub fn sums_fit(tables: &[u8], counts: Counts) -> bool
     requires { ⌜ Scopes (now tables) counts ⌝ }
     ensures { λ r. ⌜ ((c : Scope) → Scoped (now (tables .entry)) counts c → r ≡ sumsFit c) ⌝ }
 {
-    if 16384 < domain_indexes::sum_of(tables, 3078, counts.predicates, counts.objects) {
+    if MOST_FACTS < sum_of(tables, PREDICATES_AT, counts.predicates, counts.objects) {
         return false;
     }
-    domain_indexes::sum_of(tables, 4294, counts.functions, counts.objects) <= 1024
+    sum_of(tables, FUNCTIONS_AT, counts.functions, counts.objects) <= MOST_NUMBERS
 }
 
 // The sums are judged at p: where they fit, reading goes on at `from`.
@@ -84,10 +94,14 @@ fn objects_section(text: &[u8], from: usize, tables: &mut [u8], counts: Counts) 
     let Opened::At(_, inside) = o else {
         return Reading::Done(from, counts.objects);
     };
-    let mut types = [0u8; 646];
-    domain_rows::copy(&mut types, 0, runs::part_of(tables, 0, 646));
-    let first = 646;
-    let end = 3078;
+    let mut types = [0u8; layout::TYPES_LENGTH];
+    domain_rows::copy(
+        &mut types,
+        0,
+        runs::part_of(tables, 0, layout::TYPES_LENGTH),
+    );
+    let first = layout::OBJECTS_AT;
+    let end = PREDICATES_AT;
     typed::names_to(
         text,
         inside,

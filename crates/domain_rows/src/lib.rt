@@ -1,4 +1,8 @@
 // A table of declared names in a lent slice: rows of 38 bytes, a name's length, five numbers kept with it, its bytes and zeros.
+pub mod layout;
+
+use text_words::names::NAME_AT;
+use text_words::names::ROW;
 ghost use mathlib.Core.Path.{_≡_};
 ghost use mathlib.Core.List.{List, [], _∷_, _++_, map};
 ghost use Prim.Native.Nat.{ℕ, _+_, _*_, _≤_, _<_};
@@ -32,10 +36,10 @@ pub fn enter<'a>(rows: &mut [u8], max: usize, n: usize, w: &'a [u8], info: &'a [
     ensures { λ _. ⌜ ((t : Table) → Holds max (now (rows .entry)) n t
         → Holds max (now (rows .exit)) (n + 1) (t ++ entry (now (w .entry)) (now (info .entry)) ∷ [])) ⌝ }
 {
-    let at = 38 * n;
+    let at = ROW * n;
     rows[at] = w.len() as u8;
     copy(rows, at + 1, info);
-    copy(rows, at + 6, w);
+    copy(rows, at + NAME_AT, w);
 }
 
 // The type k for the names from number g on.
@@ -45,7 +49,7 @@ pub fn fill(rows: &mut [u8], max: usize, g: usize, n: usize, k: u8)
 {
     let mut i = g;
     while i < n {
-        rows[38 * i + 1] = k;
+        rows[ROW * i + 1] = k;
         i += 1;
     }
 }
@@ -58,7 +62,7 @@ pub fn signature(rows: &[u8], max: usize, n: usize, out: &mut [u8])
     out[0] = n as u8;
     let mut i = 0;
     while i < n {
-        out[i + 1] = rows[38 * i + 1];
+        out[i + 1] = rows[ROW * i + 1];
         i += 1;
     }
 }

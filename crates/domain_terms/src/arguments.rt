@@ -2,6 +2,7 @@
 use crate::scope;
 use crate::scope::Counts;
 use domain_due::Reading;
+use domain_rows::layout;
 use text_tokens::runs;
 use text_tokens::tokens;
 use text_tokens::tokens::Token;
@@ -27,7 +28,7 @@ fn object_at(w: &[u8], p: usize, e: usize, tables: &[u8], counts: Counts) -> Rea
         → r ≡ cellAnswer (givenBy s c W.Name p e e)) × Cellular r ⌝ }
 {
     let n = counts.objects;
-    let f = scope::find_in(tables, 646, 3078, n, w);
+    let f = scope::find_in(tables, layout::OBJECTS_AT, layout::PREDICATES_AT, n, w);
     let Place::At(i) = f else {
         return Reading::Refused(8, p);
     };
@@ -44,7 +45,13 @@ fn variable_at(text: &[u8], p: usize, e: usize, tables: &[u8], counts: Counts) -
     if !known {
         return Reading::Refused(3, p);
     }
-    let f = scope::find_in(tables, 4902, 5054, n, runs::part_of(text, p + 1, e));
+    let f = scope::find_in(
+        tables,
+        layout::VARIABLES_AT,
+        layout::TABLES_LENGTH,
+        n,
+        runs::part_of(text, p + 1, e),
+    );
     let Place::At(i) = f else {
         return Reading::Refused(8, p);
     };
@@ -77,9 +84,9 @@ pub fn type_of_cell(tables: &[u8], counts: Counts, x: usize) -> usize
     let objects = counts.objects;
     let variables = counts.variables;
     if x < 64 {
-        return scope::kept_in(tables, 646, objects, x, 0);
+        return scope::kept_in(tables, layout::OBJECTS_AT, objects, x, 0);
     }
-    scope::kept_in(tables, 4902, variables, x - 64, 0)
+    scope::kept_in(tables, layout::VARIABLES_AT, variables, x - 64, 0)
 }
 
 // Whether the argument in a cell is of the wanted type, or below it.

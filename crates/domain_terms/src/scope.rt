@@ -1,6 +1,7 @@
 // What has been declared where a condition or an effect stands: five tables of rows in one lent slice, and their counts.
 use text_tokens::runs;
 use text_words::names;
+use text_words::names::ROW;
 use text_words::spelling::Place;
 ghost use mathlib.Core.Path.{_≡_};
 ghost use Prim.Native.Nat.{ℕ, _+_, _*_, _≤_, _<_};
@@ -10,8 +11,7 @@ ghost use Rattle.domain_meaning.specs.Tables.{Table, lookup, infoOf, entryAt, t
 ghost use Rattle.domain_rows.specs.Held.{Holds};
 ghost use Rattle.domain_terms.specs.Raw.{keptIn, belowIn};
 
-// How many names each table has. The rows begin at 0 (types, 17 rows), 646 (objects, 64), 3078 (predicates, 32),
-// 4294 (functions, 16) and 4902 (variables, 4).
+// How many names each table has. Where the tables lie says domain_rows::layout.
 pub struct Counts {
     pub types: usize,
     pub objects: usize,
@@ -37,7 +37,7 @@ pub fn kept_in(tables: &[u8], from: usize, n: usize, i: usize, j: usize) -> usiz
     if n <= i {
         return 0;
     }
-    domain_rows::byte(tables, from + 38 * i + 1 + j) as usize
+    domain_rows::byte(tables, from + ROW * i + 1 + j) as usize
 }
 
 // Whether a type is another, or below it.

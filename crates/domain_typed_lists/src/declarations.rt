@@ -4,6 +4,7 @@ use domain_due::Reading;
 use text_tokens::runs;
 use text_tokens::tokens;
 use text_tokens::tokens::Token;
+use text_words::names::ROW;
 ghost use mathlib.Core.Path.{_≡_};
 ghost use mathlib.Core.List.{List, []};
 ghost use Prim.Native.Nat.{ℕ, _-_, _≤_, _<_};
@@ -61,8 +62,8 @@ fn declaration_at(
     let Reading::Done(_, _) = f else {
         return f;
     };
-    let mut table = [0u8; 114];
-    let width = 38 * most;
+    let mut table = [0u8; 3 * ROW];
+    let width = ROW * most;
     let mut info = [0u8; 4];
     let a = signature_to(text, end, types, tn, &mut table[..width], most, &mut info);
     let Reading::Done(after, vn) = a else {

@@ -3,6 +3,7 @@ use crate::items;
 use crate::items::Item;
 use crate::types;
 use domain_due::Reading;
+use domain_rows::layout;
 use text_tokens::runs;
 use text_words::names;
 use text_words::spelling::Place;
@@ -199,6 +200,6 @@ pub fn types_to(text: &[u8], from: usize, rows: &mut [u8]) -> Reading
 {
     let root = [0u8; 1];
     domain_rows::enter(rows, 17, 0, b"object", &root);
-    let none = [0u8; 646];
+    let none = [0u8; layout::TYPES_LENGTH];
     typed_list(text, from, false, true, &none, 0, rows, 17, 1)
 }

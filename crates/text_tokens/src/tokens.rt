@@ -79,14 +79,17 @@ fn domain_word(w: &[u8], p: usize, e: usize) -> Token
     }
 }
 
+// The most bytes of a domain or problem.
+pub const LONGEST: usize = 32768;
+
 // Whether a place is past the most bytes of a text that is too long.
 fn is_past(long: usize, p: usize) -> bool
     ensures { λ r. ⌜ r ≡ isPast long p ⌝ }
 {
-    if long <= 32768 {
+    if long <= LONGEST {
         return false;
     }
-    32768 <= p
+    LONGEST <= p
 }
 
 fn bracket(b: u8, p: usize) -> Token
@@ -108,7 +111,7 @@ pub fn token_at(text: &[u8], from: usize) -> Token
 {
     let p = runs::gap_end(text, from);
     if is_past(text.len(), p) {
-        return Token::Refusal(1, 32768);
+        return Token::Refusal(1, LONGEST);
     }
     if text.len() <= p {
         return Token::End(p);

@@ -6,6 +6,12 @@ ghost use Prim.Native.Nat.{min};
 ghost use Rattle.text_words.specs.Names.{namesOf};
 ghost use Rattle.text_words.specs.Spelling.{placeFrom};
 
+// How long a row is.
+pub const ROW: usize = 38;
+
+// Where the name begins in it.
+pub const NAME_AT: usize = 6;
+
 // A name's length, as its row gives it: at most the 32 bytes that there are.
 fn length_in(b: u8) -> usize
     ensures { λ r. ⌜ r ≡ min b 32 ⌝ }
@@ -21,18 +27,18 @@ pub fn find(rows: &[u8], n: usize, w: &[u8]) -> Place
     let mut i = 0;
     let mut at = 0;
     while i < n {
-        if rows.len() - at < 38 {
+        if rows.len() - at < ROW {
             return Place::Nothing;
         }
         let size = length_in(rows[at]);
         if size == w.len() {
-            let start = at + 6;
+            let start = at + NAME_AT;
             let end = start + size;
             if spelling::same_word(&rows[start..end], w) {
                 return Place::At(i);
             }
         }
-        at += 38;
+        at += ROW;
         i += 1;
     }
     Place::Nothing
