@@ -24,8 +24,7 @@ use Rattle.domain_typed_lists.specs.Outcome.{Outcome}
 use Rattle.domain_typed_lists.proofs.Outcomes.{As, outcome-refused}
 use Rattle.domain_terms.specs.Scoped.{AllSigned}
 use Rattle.domain_terms.proofs.Signing.{declarations-signed}
-use Rattle.domain_preamble.specs.Beginning.{begunOf, Listed, Declares}
-use Rattle.domain_preamble.specs.declared.Preamble.{Preamble}
+use Rattle.domain_preamble.specs.Beginning.{Listed, Declares}
 use Rattle.domain_preamble.specs.declared.Preamble.the-variants.{Done, Refused}
 use Rattle.domain_preamble.proofs.Headed.{then-got}
 
@@ -59,12 +58,12 @@ pub untitled : (s tables : List ℕ) (t : Titled) (k i : ℕ) → t ≡ titledOf
 unfolding vocabulary Declares
 untitled s tables t k i g q = rw (untitled-by (headingOf s (bytes "domain") 0) k i (sym g ∙ q))
 
-pub flags-refused : (s tables : List ℕ) (t : Titled) (a p e : ℕ) (r : Reading) (u : Preamble) (k i : ℕ) → t ≡ titledOf (headingOf s (bytes "domain") 0) → t ≡ T.At a p e
-    → r ≡ answerOf (flagsSection s a) → r ≡ A.Refused k i → u ≡ begunOf r → Declares s u tables (vocabulary s 0)
+pub flags-refused : (s tables : List ℕ) (t : Titled) (a p e : ℕ) (r : Reading) (k i : ℕ) → t ≡ titledOf (headingOf s (bytes "domain") 0) → t ≡ T.At a p e
+    → r ≡ answerOf (flagsSection s a) → r ≡ A.Refused k i → Declares s (Refused k i) tables (vocabulary s 0)
 unfolding vocabulary Declares
-flags-refused s tables t a p e r u k i g h f q b =
+flags-refused s tables t a p e r k i g h f q =
     let x = titled (headingOf s (bytes "domain") 0) a p e (sym g ∙ h) in
-    rw (x .is, answer-refused (flagsSection s a) k i (sym f ∙ q)) (b ∙ ap begunOf q)
+    rw (x .is, answer-refused (flagsSection s a) k i (sym f ∙ q)) refl
 
 -- ---- where a section that may be missing ends
 
@@ -90,27 +89,27 @@ held : (m : ℕ) (rows : List ℕ) (a n : ℕ) (x : Read Table) (t : As m rows a
 held m rows a n x t = rw (t .holds .count) at (t .holds)
 
 module _ (s : List ℕ) (h : Name) (a v from : ℕ) (g : headingOf s (bytes "domain") 0 ≡ got h a) (x1 : flagsSection s a ≡ got v from) (p e : ℕ) (ts os ps fs : List ℕ) where
-  module _ (r : Reading) (u : Preamble) (k i : ℕ) (q : r ≡ A.Refused k i) (b : u ≡ begunOf r) where
-    stops : (x : Read Vocabulary) → x ≡ refused k i → Listed (length s) h from p e u ts os ps fs x
+  module _ (r : Reading) (k i : ℕ) (q : r ≡ A.Refused k i) where
+    stops : (x : Read Vocabulary) → x ≡ refused k i → Listed (length s) h from p e (Refused k i) ts os ps fs x
     unfolding Listed
-    stops x z = rw z (b ∙ ap begunOf q)
+    stops x z = rw z refl
 
-    pub types-refused : Outcome 17 r ts (typesSection s from) → Listed (length s) h from p e u ts os ps fs (vocabulary s 0)
+    pub types-refused : Outcome 17 r ts (typesSection s from) → Listed (length s) h from p e (Refused k i) ts os ps fs (vocabulary s 0)
     unfolding vocabulary
     types-refused z = stops (vocabulary s 0) (rw (g, x1, outcome-refused (typesSection s from) 17 r ts k i z q))
 
     module _ (t : Table) (a2 : ℕ) (x2 : typesSection s from ≡ got t a2) where
-      pub constants-refused : Outcome 64 r os (constantsSection s t a2) → Listed (length s) h from p e u ts os ps fs (vocabulary s 0)
+      pub constants-refused : Outcome 64 r os (constantsSection s t a2) → Listed (length s) h from p e (Refused k i) ts os ps fs (vocabulary s 0)
       unfolding vocabulary
       constants-refused z = stops (vocabulary s 0) (rw (g, x1, x2, outcome-refused (constantsSection s t a2) 64 r os k i z q))
 
       module _ (o : Table) (a3 : ℕ) (x3 : constantsSection s t a2 ≡ got o a3) where
-        pub predicates-refused : Outcome 32 r ps (declaredSection s (bytes ":predicates") t 32 3 a3) → Listed (length s) h from p e u ts os ps fs (vocabulary s 0)
+        pub predicates-refused : Outcome 32 r ps (declaredSection s (bytes ":predicates") t 32 3 a3) → Listed (length s) h from p e (Refused k i) ts os ps fs (vocabulary s 0)
         unfolding vocabulary
         predicates-refused z = stops (vocabulary s 0) (rw (g, x1, x2, x3, outcome-refused (declaredSection s (bytes ":predicates") t 32 3 a3) 32 r ps k i z q))
 
         pub functions-refused : (f : Table) (a4 : ℕ) → declaredSection s (bytes ":predicates") t 32 3 a3 ≡ got f a4
-            → Outcome 16 r fs (declaredSection s (bytes ":functions") t 16 2 a4) → Listed (length s) h from p e u ts os ps fs (vocabulary s 0)
+            → Outcome 16 r fs (declaredSection s (bytes ":functions") t 16 2 a4) → Listed (length s) h from p e (Refused k i) ts os ps fs (vocabulary s 0)
         unfolding vocabulary
         functions-refused f a4 x4 z = stops (vocabulary s 0) (rw (g, x1, x2, x3, x4, outcome-refused (declaredSection s (bytes ":functions") t 16 2 a4) 16 r fs k i z q))
 

@@ -8,18 +8,11 @@ use Rattle.text_tokens.specs.Runs.{part}
 use Rattle.domain_meaning.specs.Read.{Read, got, refused}
 use Rattle.domain_meaning.specs.Due.{Name}
 use Rattle.domain_meaning.specs.Domain.{Vocabulary, scopeIn}
-use Rattle.domain_due.specs.declared.Reading.{Reading}
-use Rattle.domain_due.specs.declared.Reading.the-variants as A
 use Rattle.domain_rows.specs.Held.{Holds}
 use Rattle.domain_terms.specs.Scoped.{AllSigned, Scoped}
 use Rattle.domain_terms.specs.declared.scope.Counts.{Counts}
 use Rattle.domain_preamble.specs.declared.Preamble.{Preamble}
 use Rattle.domain_preamble.specs.declared.Preamble.the-variants.{Done, Refused}
-
--- a refusal, and 0 where there is none
-abbrev pub begunOf : Reading → Preamble
-begunOf (A.Done a v) = Refused 0 0
-begunOf (A.Refused k p) = Refused k p
 
 -- how many names each table has
 abbrev pub countsOf : Vocabulary → Counts

@@ -2,8 +2,10 @@
 pub mod vocabulary;
 
 use domain_due::Reading;
+use domain_rows::layout;
 use domain_sections::Titled;
 use domain_terms::scope::Counts;
+use vocabulary::declared_section;
 ghost use mathlib.Core.Path.{_≡_};
 ghost use mathlib.Core.List.{[]};
 ghost use Prim.Native.Nat.{ℕ, _≤_};
@@ -14,7 +16,7 @@ ghost use Rattle.domain_meaning.specs.Read.{got};
 ghost use Rattle.domain_meaning.specs.Due.{Name};
 ghost use Rattle.domain_meaning.specs.Domain.{headingOf, flagsSection, vocabulary};
 ghost use Rattle.domain_rows.specs.Held.{rowsOf};
-ghost use Rattle.domain_preamble.specs.Beginning.{begunOf, Listed, Declares};
+ghost use Rattle.domain_preamble.specs.Beginning.{Listed, Declares};
 
 // What was begun: the place after it, the name from, to, and how many names each table has.
 pub enum Preamble {
@@ -22,14 +24,10 @@ pub enum Preamble {
     Refused(u8, usize),
 }
 
-// What was refused in a section.
-fn not_begun(a: Reading) -> Preamble
-    ensures { λ r. ⌜ r ≡ begunOf a ⌝ }
-{
-    match a {
-        Reading::Done(_, _) => Preamble::Refused(0, 0),
-        Reading::Refused(k, p) => Preamble::Refused(k, p),
-    }
+// A section that was read: the place after it, and how many names it declares.
+pub struct Section {
+    pub end: usize,
+    pub n: usize,
 }
 
 // The declarations behind the flags of a domain whose name is from p to e, each kind in a table of its own.
@@ -49,31 +47,34 @@ fn tables_at(
         → Listed (length (now (text .entry))) n from p e r (now (types .exit)) (now (objects .exit)) (now (predicates .exit)) (now (functions .exit))
         (vocabulary (now (text .entry)) 0)) ⌝ }
 {
-    let first = vocabulary::types_section(text, from, types);
-    let Reading::Done(a, tn) = first else {
-        return not_begun(first);
+    let ts = match vocabulary::types_section(text, from, types) {
+        Reading::Done(end, n) => Section { end, n },
+        Reading::Refused(k, q) => return Preamble::Refused(k, q),
     };
-    let second = vocabulary::constants_section(text, a, types, tn, objects);
-    let Reading::Done(b, on) = second else {
-        return not_begun(second);
+    let os = match vocabulary::constants_section(text, ts.end, types, ts.n, objects) {
+        Reading::Done(end, n) => Section { end, n },
+        Reading::Refused(k, q) => return Preamble::Refused(k, q),
     };
-    let third = vocabulary::declared_section(text, b, b":predicates", types, tn, predicates, 32, 3);
-    let Reading::Done(c, pn) = third else {
-        return not_begun(third);
+    let more = declared_section(text, os.end, b":predicates", types, ts.n, predicates, 32, 3);
+    let ps = match more {
+        Reading::Done(end, n) => Section { end, n },
+        Reading::Refused(k, q) => return Preamble::Refused(k, q),
     };
-    let last = vocabulary::declared_section(text, c, b":functions", types, tn, functions, 16, 2);
-    let Reading::Done(end, count) = last else {
-        return not_begun(last);
-    };
-    let counts = Counts {
-        types: tn,
-        objects: on,
-        predicates: pn,
-        functions: count,
-        variables: 0,
-        in_action: false,
-    };
-    Preamble::Done(end, p, e, counts)
+    let last = declared_section(text, ps.end, b":functions", types, ts.n, functions, 16, 2);
+    match last {
+        Reading::Refused(k, q) => Preamble::Refused(k, q),
+        Reading::Done(end, count) => {
+            let counts = Counts {
+                types: ts.n,
+                objects: os.n,
+                predicates: ps.n,
+                functions: count,
+                variables: 0,
+                in_action: false,
+            };
+            Preamble::Done(end, p, e, counts)
+        }
+    }
 }
 
 // Each table in its place among the tables of a scope.
@@ -85,9 +86,9 @@ fn store(tables: &mut [u8], types: &[u8], objects: &[u8], predicates: &[u8], fun
         (now (functions .entry)) ⌝ }
 {
     domain_rows::copy(tables, 0, types);
-    domain_rows::copy(tables, 646, objects);
-    domain_rows::copy(tables, 3078, predicates);
-    domain_rows::copy(tables, 4294, functions);
+    domain_rows::copy(tables, layout::OBJECTS_AT, objects);
+    domain_rows::copy(tables, layout::PREDICATES_AT, predicates);
+    domain_rows::copy(tables, layout::FUNCTIONS_AT, functions);
 }
 
 // The text of a domain up to its actions. Of a text that is refused the tables tell nothing.
@@ -98,14 +99,14 @@ pub fn preamble_at(text: &[u8], tables: &mut [u8]) -> Preamble
     match domain_sections::heading_at(text, 0, b"domain") {
         Titled::Refused(k, p) => Preamble::Refused(k, p),
         Titled::At(behind, p, e) => {
-            let flags = vocabulary::flags_section(text, behind);
-            let Reading::Done(from, _) = flags else {
-                return not_begun(flags);
+            let from = match vocabulary::flags_section(text, behind) {
+                Reading::Done(from, _) => from,
+                Reading::Refused(k, q) => return Preamble::Refused(k, q),
             };
-            let mut types = [0u8; 646];
-            let mut objects = [0u8; 2432];
-            let mut predicates = [0u8; 1216];
-            let mut functions = [0u8; 608];
+            let mut types = [0u8; layout::TYPES_LENGTH];
+            let mut objects = [0u8; layout::OBJECTS_LENGTH];
+            let mut predicates = [0u8; layout::PREDICATES_LENGTH];
+            let mut functions = [0u8; layout::FUNCTIONS_LENGTH];
             let r = tables_at(
                 text,
                 from,

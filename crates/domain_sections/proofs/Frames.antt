@@ -27,9 +27,8 @@ use Rattle.domain_due.specs.Answers.{answerOf}
 use Rattle.domain_due.specs.declared.Reading.{Reading}
 use Rattle.domain_due.specs.declared.Reading.the-variants.{Done, Refused}
 use Rattle.domain_due.proofs.Dues.{not-refusal, not-word, not-open, not-close, not-end, open-in, word-in, answer-done, answer-refused, never-done}
-use Rattle.domain_sections.specs.Openings.{openedOf, Further, untitledOf, titledOf, TitledIn}
+use Rattle.domain_sections.specs.Openings.{openedOf, Further, titledOf, TitledIn}
 use Rattle.domain_sections.specs.declared.Opened.the-variants.{At, Other}
-use Rattle.domain_sections.specs.declared.Titled.{Titled}
 use Rattle.domain_sections.specs.declared.Titled.the-variants as H
 
 -- the place behind a bracket
@@ -121,9 +120,9 @@ module _ (s w : List ℕ) (at : ℕ) where
             heading-7 v6 a6 f = rw (q, q2, q3, q4, q5, f)
 
 -- a refusal on the way
-pub heading-stops : (s : List ℕ) (x : Read Name) (r : Reading) (u : Titled) (k p : ℕ) → x ≡ refused k p → r ≡ Refused k p → u ≡ untitledOf r → (u ≡ titledOf x) × TitledIn (length s) u
+pub heading-stops : (s : List ℕ) (x : Read Name) (k p : ℕ) → x ≡ refused k p → (H.Refused k p ≡ titledOf x) × TitledIn (length s) (H.Refused k p)
 unfolding TitledIn
-heading-stops s x r u k p e q h = let f : u ≡ H.Refused k p = h ∙ ap untitledOf q in (f ∙ sym (ap titledOf e), rw f tt)
+heading-stops s x k p e = (sym (ap titledOf e), tt)
 
 -- the whole heading, with its name from p to e
 pub heading-read : (s : List ℕ) (x : Read Name) (p e a : ℕ) → x ≡ got (record { place = p; word = part s p e }) a → p ≤ e → e ≤ length s → a ≤ length s

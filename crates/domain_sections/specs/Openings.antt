@@ -5,8 +5,6 @@ use Rattle.domain_meaning.specs.Read.{Read, got, refused}
 use Rattle.domain_meaning.specs.Domain.{opened, other}
 use Rattle.domain_meaning.specs.Domain as Domain
 use Rattle.domain_meaning.specs.Due.{Name}
-use Rattle.domain_due.specs.declared.Reading.{Reading}
-use Rattle.domain_due.specs.declared.Reading.the-variants.{Done, Refused}
 use Rattle.domain_sections.specs.declared.Titled.{Titled}
 use Rattle.domain_sections.specs.declared.Titled.the-variants as T
 use Rattle.domain_sections.specs.declared.Opened.{Opened}
@@ -26,11 +24,6 @@ Further n from Other = Unit {0}
 abbrev pub titledOf : Read Name → Titled
 titledOf (got n a) = T.At a (n .place) (n .place + length (n .word))
 titledOf (refused k p) = T.Refused k p
-
--- a refusal, and 0 where there is none
-abbrev pub untitledOf : Reading → Titled
-untitledOf (Done a v) = T.Refused 0 0
-untitledOf (Refused k p) = T.Refused k p
 
 -- the place after is within the text's n bytes
 unfoldable pub TitledIn : ℕ → Titled → Type 0

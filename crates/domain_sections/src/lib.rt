@@ -12,7 +12,7 @@ ghost use lib.ListN.{length, getD};
 ghost use Rattle.domain_due.specs.Answers.{answerOf, Ahead};
 ghost use Rattle.domain_meaning.specs.Due.{afterOf};
 ghost use Rattle.domain_meaning.specs.Domain.{beginsWith, ending, headingOf, flagOf, flagsTo};
-ghost use Rattle.domain_sections.specs.Openings.{openedOf, Further, untitledOf, titledOf, TitledIn};
+ghost use Rattle.domain_sections.specs.Openings.{openedOf, Further, titledOf, TitledIn};
 
 // A section that was asked for: its word from, to; or that another thing stands there.
 pub enum Opened {
@@ -63,46 +63,34 @@ pub enum Titled {
     Refused(u8, usize),
 }
 
-// What was refused in a heading.
-fn untitled(a: Reading) -> Titled
-    ensures { λ r. ⌜ r ≡ untitledOf a ⌝ }
-{
-    match a {
-        Reading::Done(_, _) => Titled::Refused(0, 0),
-        Reading::Refused(k, p) => Titled::Refused(k, p),
-    }
-}
-
 // `(define (domain NAME)` or `(define (problem NAME)`, the word being w.
 pub fn heading_at(text: &[u8], from: usize, w: &[u8]) -> Titled
     requires { ⌜ from ≤ length (now text) ⌝ }
     ensures { λ r. ⌜ (r ≡ titledOf (headingOf (now (text .entry)) (now (w .entry)) from)) × TitledIn (length (now (text .entry))) r ⌝ }
 {
-    let first = domain_due::opening(text, from, 16);
-    let Reading::Done(a, _) = first else {
-        return untitled(first);
+    let a = match domain_due::opening(text, from, 16) {
+        Reading::Done(a, _) => a,
+        Reading::Refused(k, p) => return Titled::Refused(k, p),
     };
-    let define = domain_due::word_due(text, a, 15, b"define");
-    let Reading::Done(b, _) = define else {
-        return untitled(define);
+    let b = match domain_due::word_due(text, a, 15, b"define") {
+        Reading::Done(b, _) => b,
+        Reading::Refused(k, p) => return Titled::Refused(k, p),
     };
-    let second = domain_due::opening(text, b, 15);
-    let Reading::Done(c, _) = second else {
-        return untitled(second);
+    let c = match domain_due::opening(text, b, 15) {
+        Reading::Done(c, _) => c,
+        Reading::Refused(k, p) => return Titled::Refused(k, p),
     };
-    let word = domain_due::word_due(text, c, 14, w);
-    let Reading::Done(d, _) = word else {
-        return untitled(word);
+    let d = match domain_due::word_due(text, c, 14, w) {
+        Reading::Done(d, _) => d,
+        Reading::Refused(k, p) => return Titled::Refused(k, p),
     };
-    let name = domain_due::any_name(text, d, 14);
-    let Reading::Done(e, place) = name else {
-        return untitled(name);
-    };
-    let last = domain_due::closing(text, e, 14);
-    let Reading::Done(next, _) = last else {
-        return untitled(last);
-    };
-    Titled::At(next, place, e)
+    match domain_due::any_name(text, d, 14) {
+        Reading::Refused(k, p) => Titled::Refused(k, p),
+        Reading::Done(e, place) => match domain_due::closing(text, e, 14) {
+            Reading::Refused(k, p) => Titled::Refused(k, p),
+            Reading::Done(next, _) => Titled::At(next, place, e),
+        },
+    }
 }
 
 // Whether a colon stands at a place.

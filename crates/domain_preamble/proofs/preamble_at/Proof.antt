@@ -1,4 +1,4 @@
--- `preamble::preamble_at` meets its contract. Assumes nothing.
+-- `domain_preamble::preamble_at` meets its contract. Assumes nothing.
 use mathlib.Core.Path.{refl, sym, ap, _∙_}
 use mathlib.Core.List.{[]}
 use denote.Ref.{now}
@@ -29,18 +29,15 @@ enum-known-behind c = search needs
 flags-section-requires : tie.Need-flags-section-requires
 flags-section-requires c κs = titled-in _ _ _ _ _ (c .before .behind .given .1) (c .before .before .before .heading-at .ensures .1)
 
-enum-known-flags : tie.Need-enum-known-flags
-enum-known-flags c = search needs
+enum-known-from : tie.Need-enum-known-from
+enum-known-from c = search needs
 
-enum-told : tie.Need-enum-told
-enum-told c = search needs
-
-not-begun-requires : tie.Need-not-begun-requires
-not-begun-requires c κs = search needs
+enum-known-k-2 : tie.Need-enum-known-k-2
+enum-known-k-2 c = search needs
 
 returns : tie.Need-returns
 unfolding bytes
-returns c = flags-refused (now (c .before .before .before .before .before .before .before .before .before .before .before .args .text)) _ (c .before .before .before .before .before .before .before .heading-at .result) _ _ _ _ _ _ _ (c .before .before .before .before .before .before .before .heading-at .ensures .0) (c .before .before .before .before .before .behind .given .1) (c .before .before .before .flags-section .ensures .0) (c .before .enum-told .given .1) (c .not-begun .ensures)
+returns c = flags-refused (now (c .before .before .before .before .before .before .before .before .before .before .before .args .text)) _ (c .before .before .before .before .before .before .before .heading-at .result) _ _ _ _ _ _ (c .before .before .before .before .before .before .before .heading-at .ensures .0) (c .before .before .before .before .before .behind .given .1) (c .before .before .before .flags-section .ensures .0) (c .before .k2 .given .1)
 
 slice-aggregate-tables-at : tie.Need-slice-aggregate-tables-at
 slice-aggregate-tables-at c = search needs
@@ -56,7 +53,7 @@ slice-aggregate-tables-at-4 c = search needs
 
 tables-at-requires : tie.Need-tables-at-requires
 unfolding rowsOf padded
-tables-at-requires c κs = let b = onwards-done _ _ _ _ _ (c .before .before .before .before .before .flags .given .1) (c .before .before .before .before .before .before .before .flags-section .ensures .1) in (b .1, refl, refl, refl, refl)
+tables-at-requires c κs = let b = onwards-done _ _ _ _ _ (c .before .before .before .before .before .from .given .1) (c .before .before .before .before .before .before .before .flags-section .ensures .1) in (b .1, refl, refl, refl, refl)
 
 slice-aggregate-store : tie.Need-slice-aggregate-store
 slice-aggregate-store c = search needs
@@ -82,7 +79,7 @@ same-length c = search needs
 
 returns-3 : tie.Need-returns-3
 unfolding bytes
-returns-3 c = let b = onwards-done _ _ _ _ _ (c .before .before .before .before .before .before .before .before .before .before .before .before .before .before .before .before .before .before .flags .given .1) (c .before .before .before .before .before .before .before .before .before .before .before .before .before .before .before .before .before .before .before .before .flags-section .ensures .1) in declares (now (c .before .before .before .before .before .before .before .before .before .before .before .before .before .before .before .before .before .before .before .before .before .before .before .before .before .before .before .before .args .text)) _ _ _ _ _ _ _ _ _ _ (now (c .before .before .before .before .before .before .before .before .before .before .before .before .before .before .before .before .before .before .before .before .before .before .before .before .before .before .before .before .args .tables)) _ (c .before .before .before .before .before .before .before .before .before .before .before .before .before .before .before .before .before .before .before .before .before .before .before .before .before .before .before .before .pre) (c .before .before .store .ensures) (c .before .before .before .before .before .before .before .before .before .before .before .before .before .before .before .before .before .before .before .before .before .before .before .before .heading-at .result) (c .before .before .before .before .before .before .before .before .before .before .before .before .before .before .before .before .before .before .before .before .before .before .before .before .heading-at .ensures .0) (c .before .before .before .before .before .before .before .before .before .before .before .before .before .before .before .before .before .before .before .before .before .before .behind .given .1) (answer-done _ _ _ (sym (c .before .before .before .before .before .before .before .before .before .before .before .before .before .before .before .before .before .before .before .before .flags-section .ensures .0) ∙ c .before .before .before .before .before .before .before .before .before .before .before .before .before .before .before .before .before .before .flags .given .1)) (b .0) (c .before .before .before .before .before .before .before .before .before .before .before .before .tables-at .ensures)
+returns-3 c = let b = onwards-done _ _ _ _ _ (c .before .before .before .before .before .before .before .before .before .before .before .before .before .before .before .before .before .before .from .given .1) (c .before .before .before .before .before .before .before .before .before .before .before .before .before .before .before .before .before .before .before .before .flags-section .ensures .1) in declares (now (c .before .before .before .before .before .before .before .before .before .before .before .before .before .before .before .before .before .before .before .before .before .before .before .before .before .before .before .before .args .text)) _ _ _ _ _ _ _ _ _ _ (now (c .before .before .before .before .before .before .before .before .before .before .before .before .before .before .before .before .before .before .before .before .before .before .before .before .before .before .before .before .args .tables)) _ (c .before .before .before .before .before .before .before .before .before .before .before .before .before .before .before .before .before .before .before .before .before .before .before .before .before .before .before .before .pre) (c .before .before .store .ensures) (c .before .before .before .before .before .before .before .before .before .before .before .before .before .before .before .before .before .before .before .before .before .before .before .before .heading-at .result) (c .before .before .before .before .before .before .before .before .before .before .before .before .before .before .before .before .before .before .before .before .before .before .before .before .heading-at .ensures .0) (c .before .before .before .before .before .before .before .before .before .before .before .before .before .before .before .before .before .before .before .before .before .before .behind .given .1) (answer-done _ _ _ (sym (c .before .before .before .before .before .before .before .before .before .before .before .before .before .before .before .before .before .before .before .before .flags-section .ensures .0) ∙ c .before .before .before .before .before .before .before .before .before .before .before .before .before .before .before .before .before .before .from .given .1)) (b .0) (c .before .before .before .before .before .before .before .before .before .before .before .before .tables-at .ensures)
 
 pub preamble-at-spec : {M : Type 1} → statement M
 preamble-at-spec =
@@ -93,9 +90,8 @@ preamble-at-spec =
     enum-known-k
     enum-known-behind
     flags-section-requires
-    enum-known-flags
-    enum-told
-    not-begun-requires
+    enum-known-from
+    enum-known-k-2
     returns
     slice-aggregate-tables-at
     slice-aggregate-tables-at-2

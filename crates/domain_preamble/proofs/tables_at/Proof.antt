@@ -1,4 +1,4 @@
--- `preamble::tables_at` meets its contract. Assumes nothing.
+-- `domain_preamble::tables_at` meets its contract. Assumes nothing.
 use denote.Ref.{now}
 use native.Mathlib.Omega.{arith}
 use Rattle.text_words.specs.Bytes.{bytes}
@@ -11,32 +11,26 @@ use Rattle.domain_preamble.proofs.tables_at.Tie as tie
 types-section-requires : tie.Need-types-section-requires
 types-section-requires c κs = search needs
 
-enum-known-first : tie.Need-enum-known-first
-enum-known-first c = search needs
+enum-known-end : tie.Need-enum-known-end
+enum-known-end c = search needs
 
-enum-told : tie.Need-enum-told
-enum-told c = search needs
-
-not-begun-requires : tie.Need-not-begun-requires
-not-begun-requires c κs = search needs
+enum-known-k : tie.Need-enum-known-k
+enum-known-k c = search needs
 
 same-length : tie.Need-same-length
 same-length c = search needs
 
 returns : tie.Need-returns
-returns c = λ n a v h g. types-refused (now (c .before .before .before .before .before .before .before .before .before .before .before .before .args .text)) n a v (c .before .before .before .before .before .before .before .before .before .before .before .before .args .from) h g _ _ _ _ _ _ _ _ _ _ (c .before .enum-told .given .1) (c .not-begun .ensures) (c .before .before .before .before .before .types-section .ensures .0)
+returns c = λ n a v h g. types-refused (now (c .before .before .before .before .before .before .before .before .before .before .before .before .args .text)) n a v (c .before .before .before .before .before .before .before .before .before .before .before .before .args .from) h g _ _ _ _ _ _ _ _ _ (c .before .k .given .1) (c .before .before .before .before .before .types-section .ensures .0)
 
 constants-section-requires : tie.Need-constants-section-requires
-constants-section-requires c κs = let t = outcome-done _ 17 _ _ _ _ (c .before .before .before .before .before .before .before .types-section .ensures .0) (c .before .before .before .first .given .1) in let b1 = onwards-done _ _ _ _ _ (c .before .before .before .first .given .1) (c .before .before .before .before .before .before .before .types-section .ensures .1) in (b1 .1, (t .table, t .holds), c .before .before .before .before .before .before .before .before .before .before .before .before .before .before .pre .2)
+constants-section-requires c κs = let t = outcome-done _ 17 _ _ _ _ (c .before .before .before .before .before .before .before .types-section .ensures .0) (c .before .before .before .end .given .1) in let b1 = onwards-done _ _ _ _ _ (c .before .before .before .end .given .1) (c .before .before .before .before .before .before .before .types-section .ensures .1) in (b1 .1, (t .table, t .holds), c .before .before .before .before .before .before .before .before .before .before .before .before .before .before .pre .2)
 
-enum-known-second : tie.Need-enum-known-second
-enum-known-second c = search needs
+enum-known-end-2 : tie.Need-enum-known-end-2
+enum-known-end-2 c = search needs
 
-enum-told-2 : tie.Need-enum-told-2
-enum-told-2 c = search needs
-
-not-begun-requires-2 : tie.Need-not-begun-requires-2
-not-begun-requires-2 c κs = search needs
+enum-known-k-2 : tie.Need-enum-known-k-2
+enum-known-k-2 c = search needs
 
 same-length-2 : tie.Need-same-length-2
 same-length-2 c = search needs
@@ -45,22 +39,19 @@ same-length-3 : tie.Need-same-length-3
 same-length-3 c = search needs
 
 returns-2 : tie.Need-returns-2
-returns-2 c = λ n a v h g. let t = outcome-done _ 17 _ _ _ _ (c .before .before .before .before .before .before .before .before .before .before .before .before .before .types-section .ensures .0) (c .before .before .before .before .before .before .before .before .before .first .given .1) in constants-refused (now (c .before .before .before .before .before .before .before .before .before .before .before .before .before .before .before .before .before .before .before .before .args .text)) n a v (c .before .before .before .before .before .before .before .before .before .before .before .before .before .before .before .before .before .before .before .before .args .from) h g _ _ _ _ _ _ _ _ _ _ (c .before .enum-told2 .given .1) (c .not-begun2 .ensures) _ _ (t .is) (c .before .before .before .before .before .constants-section .ensures .0 (t .table) (t .holds))
+returns-2 c = λ n a v h g. let t = outcome-done _ 17 _ _ _ _ (c .before .before .before .before .before .before .before .before .before .before .before .before .before .types-section .ensures .0) (c .before .before .before .before .before .before .before .before .before .end .given .1) in constants-refused (now (c .before .before .before .before .before .before .before .before .before .before .before .before .before .before .before .before .before .before .before .before .args .text)) n a v (c .before .before .before .before .before .before .before .before .before .before .before .before .before .before .before .before .before .before .before .before .args .from) h g _ _ _ _ _ _ _ _ _ (c .before .k2 .given .1) _ _ (t .is) (c .before .before .before .before .before .constants-section .ensures .0 (t .table) (t .holds))
 
 slice-aggregate-declared-section : tie.Need-slice-aggregate-declared-section
 slice-aggregate-declared-section c = search needs
 
 declared-section-requires : tie.Need-declared-section-requires
-declared-section-requires c κs = let t = outcome-done _ 17 _ _ _ _ (c .before .before .before .before .before .before .before .before .before .before .before .before .before .before .before .before .types-section .ensures .0) (c .before .before .before .before .before .before .before .before .before .before .before .before .first .given .1) in let b2 = onwards-done _ _ _ _ _ (c .before .before .before .before .second .given .1) (c .before .before .before .before .before .before .before .before .constants-section .ensures .1) in (b2 .1, (t .table, t .holds), c .before .before .before .before .before .before .before .before .before .before .before .before .before .before .before .before .before .before .before .before .before .before .before .pre .3, omega arith)
+declared-section-requires c κs = let t = outcome-done _ 17 _ _ _ _ (c .before .before .before .before .before .before .before .before .before .before .before .before .before .before .before .before .types-section .ensures .0) (c .before .before .before .before .before .before .before .before .before .before .before .before .end .given .1) in let b2 = onwards-done _ _ _ _ _ (c .before .before .before .before .end2 .given .1) (c .before .before .before .before .before .before .before .before .constants-section .ensures .1) in (b2 .1, (t .table, t .holds), c .before .before .before .before .before .before .before .before .before .before .before .before .before .before .before .before .before .before .before .before .before .before .before .pre .3, omega arith)
 
-enum-known-third : tie.Need-enum-known-third
-enum-known-third c = search needs
+enum-known-more : tie.Need-enum-known-more
+enum-known-more c = search needs
 
-enum-told-3 : tie.Need-enum-told-3
-enum-told-3 c = search needs
-
-not-begun-requires-3 : tie.Need-not-begun-requires-3
-not-begun-requires-3 c κs = search needs
+enum-known-more-2 : tie.Need-enum-known-more-2
+enum-known-more-2 c = search needs
 
 same-length-4 : tie.Need-same-length-4
 same-length-4 c = search needs
@@ -73,22 +64,19 @@ same-length-6 c = search needs
 
 returns-3 : tie.Need-returns-3
 unfolding bytes
-returns-3 c = λ n a v h g. let t = outcome-done _ 17 _ _ _ _ (c .before .before .before .before .before .before .before .before .before .before .before .before .before .before .before .before .before .before .before .before .before .before .types-section .ensures .0) (c .before .before .before .before .before .before .before .before .before .before .before .before .before .before .before .before .before .before .first .given .1) in let o = outcome-done _ 64 _ _ _ _ (c .before .before .before .before .before .before .before .before .before .before .before .before .before .before .constants-section .ensures .0 (t .table) (t .holds)) (c .before .before .before .before .before .before .before .before .before .before .second .given .1) in predicates-refused (now (c .before .before .before .before .before .before .before .before .before .before .before .before .before .before .before .before .before .before .before .before .before .before .before .before .before .before .before .before .before .args .text)) n a v (c .before .before .before .before .before .before .before .before .before .before .before .before .before .before .before .before .before .before .before .before .before .before .before .before .before .before .before .before .before .args .from) h g _ _ _ _ _ _ _ _ _ _ (c .before .enum-told3 .given .1) (c .not-begun3 .ensures) _ _ (t .is) _ _ (o .is) (c .before .before .before .before .before .declared-section .ensures .0 (t .table) (t .holds))
+returns-3 c = λ n a v h g. let t = outcome-done _ 17 _ _ _ _ (c .before .before .before .before .before .before .before .before .before .before .before .before .before .before .before .before .before .before .before .before .before .before .types-section .ensures .0) (c .before .before .before .before .before .before .before .before .before .before .before .before .before .before .before .before .before .before .end .given .1) in let o = outcome-done _ 64 _ _ _ _ (c .before .before .before .before .before .before .before .before .before .before .before .before .before .before .constants-section .ensures .0 (t .table) (t .holds)) (c .before .before .before .before .before .before .before .before .before .before .end2 .given .1) in predicates-refused (now (c .before .before .before .before .before .before .before .before .before .before .before .before .before .before .before .before .before .before .before .before .before .before .before .before .before .before .before .before .before .args .text)) n a v (c .before .before .before .before .before .before .before .before .before .before .before .before .before .before .before .before .before .before .before .before .before .before .before .before .before .before .before .before .before .args .from) h g _ _ _ _ _ _ _ _ _ (c .before .more2 .given .1) _ _ (t .is) _ _ (o .is) (c .before .before .before .before .before .declared-section .ensures .0 (t .table) (t .holds))
 
 slice-aggregate-declared-section-2 : tie.Need-slice-aggregate-declared-section-2
 slice-aggregate-declared-section-2 c = search needs
 
 declared-section-requires-2 : tie.Need-declared-section-requires-2
-declared-section-requires-2 c κs = let t = outcome-done _ 17 _ _ _ _ (c .before .before .before .before .before .before .before .before .before .before .before .before .before .before .before .before .before .before .before .before .before .before .before .before .before .types-section .ensures .0) (c .before .before .before .before .before .before .before .before .before .before .before .before .before .before .before .before .before .before .before .before .before .first .given .1) in let b3 = onwards-done _ _ _ _ _ (c .before .before .before .before .third .given .1) (c .before .before .before .before .before .before .before .before .declared-section .ensures .1) in (b3 .1, (t .table, t .holds), c .before .before .before .before .before .before .before .before .before .before .before .before .before .before .before .before .before .before .before .before .before .before .before .before .before .before .before .before .before .before .before .before .pre .4, omega arith)
+declared-section-requires-2 c κs = let t = outcome-done _ 17 _ _ _ _ (c .before .before .before .before .before .before .before .before .before .before .before .before .before .before .before .before .before .before .before .before .before .before .before .before .before .types-section .ensures .0) (c .before .before .before .before .before .before .before .before .before .before .before .before .before .before .before .before .before .before .before .before .before .end .given .1) in let b3 = onwards-done _ _ _ _ _ (c .before .before .before .before .more .given .1) (c .before .before .before .before .before .before .before .before .declared-section .ensures .1) in (b3 .1, (t .table, t .holds), c .before .before .before .before .before .before .before .before .before .before .before .before .before .before .before .before .before .before .before .before .before .before .before .before .before .before .before .before .before .before .before .before .pre .4, omega arith)
 
 enum-known-last : tie.Need-enum-known-last
 enum-known-last c = search needs
 
-enum-told-4 : tie.Need-enum-told-4
-enum-told-4 c = search needs
-
-not-begun-requires-4 : tie.Need-not-begun-requires-4
-not-begun-requires-4 c κs = search needs
+enum-known-last-2 : tie.Need-enum-known-last-2
+enum-known-last-2 c = search needs
 
 same-length-7 : tie.Need-same-length-7
 same-length-7 c = c .before .before .before .before .before .before .before .before .before .before .before .before .before .before .before .before .before .before .before .before .before .before .before .before .before .before .before .before .before .before .types .given
@@ -104,7 +92,7 @@ same-length-10 c = search needs
 
 returns-4 : tie.Need-returns-4
 unfolding bytes
-returns-4 c = λ n a v h g. let t = outcome-done _ 17 _ _ _ _ (c .before .before .before .before .before .before .before .before .before .before .before .before .before .before .before .before .before .before .before .before .before .before .before .before .before .before .before .before .before .before .before .types-section .ensures .0) (c .before .before .before .before .before .before .before .before .before .before .before .before .before .before .before .before .before .before .before .before .before .before .before .before .before .before .before .first .given .1) in let o = outcome-done _ 64 _ _ _ _ (c .before .before .before .before .before .before .before .before .before .before .before .before .before .before .before .before .before .before .before .before .before .before .before .constants-section .ensures .0 (t .table) (t .holds)) (c .before .before .before .before .before .before .before .before .before .before .before .before .before .before .before .before .before .before .before .second .given .1) in let f = outcome-done _ 32 _ _ _ _ (c .before .before .before .before .before .before .before .before .before .before .before .before .before .before .declared-section .ensures .0 (t .table) (t .holds)) (c .before .before .before .before .before .before .before .before .before .before .third .given .1) in functions-refused (now (c .before .before .before .before .before .before .before .before .before .before .before .before .before .before .before .before .before .before .before .before .before .before .before .before .before .before .before .before .before .before .before .before .before .before .before .before .before .before .args .text)) n a v (c .before .before .before .before .before .before .before .before .before .before .before .before .before .before .before .before .before .before .before .before .before .before .before .before .before .before .before .before .before .before .before .before .before .before .before .before .before .before .args .from) h g _ _ _ _ _ _ _ _ _ _ (c .before .enum-told4 .given .1) (c .not-begun4 .ensures) _ _ (t .is) _ _ (o .is) _ _ (f .is) (c .before .before .before .before .before .declared-section2 .ensures .0 (t .table) (t .holds))
+returns-4 c = λ n a v h g. let t = outcome-done _ 17 _ _ _ _ (c .before .before .before .before .before .before .before .before .before .before .before .before .before .before .before .before .before .before .before .before .before .before .before .before .before .before .before .before .before .before .before .types-section .ensures .0) (c .before .before .before .before .before .before .before .before .before .before .before .before .before .before .before .before .before .before .before .before .before .before .before .before .before .before .before .end .given .1) in let o = outcome-done _ 64 _ _ _ _ (c .before .before .before .before .before .before .before .before .before .before .before .before .before .before .before .before .before .before .before .before .before .before .before .constants-section .ensures .0 (t .table) (t .holds)) (c .before .before .before .before .before .before .before .before .before .before .before .before .before .before .before .before .before .before .before .end2 .given .1) in let f = outcome-done _ 32 _ _ _ _ (c .before .before .before .before .before .before .before .before .before .before .before .before .before .before .declared-section .ensures .0 (t .table) (t .holds)) (c .before .before .before .before .before .before .before .before .before .before .more .given .1) in functions-refused (now (c .before .before .before .before .before .before .before .before .before .before .before .before .before .before .before .before .before .before .before .before .before .before .before .before .before .before .before .before .before .before .before .before .before .before .before .before .before .before .args .text)) n a v (c .before .before .before .before .before .before .before .before .before .before .before .before .before .before .before .before .before .before .before .before .before .before .before .before .before .before .before .before .before .before .before .before .before .before .before .before .before .before .args .from) h g _ _ _ _ _ _ _ _ _ (c .before .last .given .1) _ _ (t .is) _ _ (o .is) _ _ (f .is) (c .before .before .before .before .before .declared-section2 .ensures .0 (t .table) (t .holds))
 
 same-length-11 : tie.Need-same-length-11
 same-length-11 c = c .before .before .before .before .before .before .before .before .before .before .before .before .before .before .before .before .before .before .before .before .before .before .before .before .before .before .before .before .before .before .types .given
@@ -120,30 +108,27 @@ same-length-14 c = search needs
 
 returns-5 : tie.Need-returns-5
 unfolding bytes
-returns-5 c = λ n a v h g. let t = outcome-done _ 17 _ _ _ _ (c .before .before .before .before .before .before .before .before .before .before .before .before .before .before .before .before .before .before .before .before .before .before .before .before .before .before .before .before .before .before .before .types-section .ensures .0) (c .before .before .before .before .before .before .before .before .before .before .before .before .before .before .before .before .before .before .before .before .before .before .before .before .before .before .before .first .given .1) in let o = outcome-done _ 64 _ _ _ _ (c .before .before .before .before .before .before .before .before .before .before .before .before .before .before .before .before .before .before .before .before .before .before .before .constants-section .ensures .0 (t .table) (t .holds)) (c .before .before .before .before .before .before .before .before .before .before .before .before .before .before .before .before .before .before .before .second .given .1) in let f = outcome-done _ 32 _ _ _ _ (c .before .before .before .before .before .before .before .before .before .before .before .before .before .before .declared-section .ensures .0 (t .table) (t .holds)) (c .before .before .before .before .before .before .before .before .before .before .third .given .1) in let w = outcome-done _ 16 _ _ _ _ (c .before .before .before .before .before .declared-section2 .ensures .0 (t .table) (t .holds)) (c .before .last .given .1) in let b1 = onwards-done _ _ _ _ _ (c .before .before .before .before .before .before .before .before .before .before .before .before .before .before .before .before .before .before .before .before .before .before .before .before .before .before .before .first .given .1) (c .before .before .before .before .before .before .before .before .before .before .before .before .before .before .before .before .before .before .before .before .before .before .before .before .before .before .before .before .before .before .before .types-section .ensures .1) in let b2 = onwards-done _ _ _ _ _ (c .before .before .before .before .before .before .before .before .before .before .before .before .before .before .before .before .before .before .before .second .given .1) (c .before .before .before .before .before .before .before .before .before .before .before .before .before .before .before .before .before .before .before .before .before .before .before .constants-section .ensures .1) in let b3 = onwards-done _ _ _ _ _ (c .before .before .before .before .before .before .before .before .before .before .third .given .1) (c .before .before .before .before .before .before .before .before .before .before .before .before .before .before .declared-section .ensures .1) in let b4 = onwards-done _ _ _ _ _ (c .before .last .given .1) (c .before .before .before .before .before .declared-section2 .ensures .1) in all-listed (now (c .before .before .before .before .before .before .before .before .before .before .before .before .before .before .before .before .before .before .before .before .before .before .before .before .before .before .before .before .before .before .before .before .before .before .before .before .before .before .args .text)) n a v (c .before .before .before .before .before .before .before .before .before .before .before .before .before .before .before .before .before .before .before .before .before .before .before .before .before .before .before .before .before .before .before .before .before .before .before .before .before .before .args .from) h g _ _ _ _ _ _ _ _ _ _ _ _ _ _ t o f w (omega (arith, b1 .0, b2 .0, b3 .0, b4 .0)) (b4 .1)
+returns-5 c = λ n a v h g. let t = outcome-done _ 17 _ _ _ _ (c .before .before .before .before .before .before .before .before .before .before .before .before .before .before .before .before .before .before .before .before .before .before .before .before .before .before .before .before .before .before .before .types-section .ensures .0) (c .before .before .before .before .before .before .before .before .before .before .before .before .before .before .before .before .before .before .before .before .before .before .before .before .before .before .before .end .given .1) in let o = outcome-done _ 64 _ _ _ _ (c .before .before .before .before .before .before .before .before .before .before .before .before .before .before .before .before .before .before .before .before .before .before .before .constants-section .ensures .0 (t .table) (t .holds)) (c .before .before .before .before .before .before .before .before .before .before .before .before .before .before .before .before .before .before .before .end2 .given .1) in let f = outcome-done _ 32 _ _ _ _ (c .before .before .before .before .before .before .before .before .before .before .before .before .before .before .declared-section .ensures .0 (t .table) (t .holds)) (c .before .before .before .before .before .before .before .before .before .before .more .given .1) in let w = outcome-done _ 16 _ _ _ _ (c .before .before .before .before .before .declared-section2 .ensures .0 (t .table) (t .holds)) (c .before .last2 .given .1) in let b1 = onwards-done _ _ _ _ _ (c .before .before .before .before .before .before .before .before .before .before .before .before .before .before .before .before .before .before .before .before .before .before .before .before .before .before .before .end .given .1) (c .before .before .before .before .before .before .before .before .before .before .before .before .before .before .before .before .before .before .before .before .before .before .before .before .before .before .before .before .before .before .before .types-section .ensures .1) in let b2 = onwards-done _ _ _ _ _ (c .before .before .before .before .before .before .before .before .before .before .before .before .before .before .before .before .before .before .before .end2 .given .1) (c .before .before .before .before .before .before .before .before .before .before .before .before .before .before .before .before .before .before .before .before .before .before .before .constants-section .ensures .1) in let b3 = onwards-done _ _ _ _ _ (c .before .before .before .before .before .before .before .before .before .before .more .given .1) (c .before .before .before .before .before .before .before .before .before .before .before .before .before .before .declared-section .ensures .1) in let b4 = onwards-done _ _ _ _ _ (c .before .last2 .given .1) (c .before .before .before .before .before .declared-section2 .ensures .1) in all-listed (now (c .before .before .before .before .before .before .before .before .before .before .before .before .before .before .before .before .before .before .before .before .before .before .before .before .before .before .before .before .before .before .before .before .before .before .before .before .before .before .args .text)) n a v (c .before .before .before .before .before .before .before .before .before .before .before .before .before .before .before .before .before .before .before .before .before .before .before .before .before .before .before .before .before .before .before .before .before .before .before .before .before .before .args .from) h g _ _ _ _ _ _ _ _ _ _ _ _ _ _ t o f w (omega (arith, b1 .0, b2 .0, b3 .0, b4 .0)) (b4 .1)
 
 pub tables-at-spec : {M : Type 1} → statement M
 tables-at-spec =
     tie.close
     (tie.spec
     types-section-requires
-    enum-known-first
-    enum-told
-    not-begun-requires
+    enum-known-end
+    enum-known-k
     same-length
     returns
     constants-section-requires
-    enum-known-second
-    enum-told-2
-    not-begun-requires-2
+    enum-known-end-2
+    enum-known-k-2
     same-length-2
     same-length-3
     returns-2
     slice-aggregate-declared-section
     declared-section-requires
-    enum-known-third
-    enum-told-3
-    not-begun-requires-3
+    enum-known-more
+    enum-known-more-2
     same-length-4
     same-length-5
     same-length-6
@@ -151,8 +136,7 @@ tables-at-spec =
     slice-aggregate-declared-section-2
     declared-section-requires-2
     enum-known-last
-    enum-told-4
-    not-begun-requires-4
+    enum-known-last-2
     same-length-7
     same-length-8
     same-length-9
