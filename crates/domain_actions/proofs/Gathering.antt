@@ -11,8 +11,8 @@ use Rattle.domain_meaning.specs.Read.{Read, got, refused, andThen}
 use Rattle.domain_meaning.specs.Terms.{Scope}
 use Rattle.domain_meaning.specs.Actions.{Action, action}
 use Rattle.domain_meaning.specs.Domain.{actionsTo}
-use Rattle.domain_due.specs.declared.Reading.{Reading}
-use Rattle.domain_due.specs.declared.Reading.the-variants.{Done, Refused}
+use Rattle.domain_due.specs.declared.Parsed.{Parsed}
+use Rattle.domain_due.specs.declared.Parsed.the-variants.{Done, Refused}
 use Rattle.domain_due.proofs.Dues.{never-done}
 use Rattle.domain_rows.specs.Held.{rowsOf, Holds}
 use Rattle.domain_expressions.proofs.Operands.{sets-append}
@@ -39,7 +39,7 @@ starts-more u (b ∷ as′) a =
 
 -- ---- an action, by its answer
 
-adds-got : (as′ : List Action) (code : List ℕ) (u : ℕ) (starts : List ℕ) (r : Reading) (rows code′ starts′ : List ℕ) (x : Read (List Action)) (a v : ℕ)
+adds-got : (as′ : List Action) (code : List ℕ) (u : ℕ) (starts : List ℕ) (r : Parsed) (rows code′ starts′ : List ℕ) (x : Read (List Action)) (a v : ℕ)
     → Adds as′ code u starts r rows code′ starts′ x → r ≡ Done a v → (bs : List Action) × (x ≡ got bs a) × Added as′ code u starts r rows code′ starts′ bs a
 unfolding Adds
 adds-got as′ code u starts r rows code′ starts′ (got bs m) a v w e =
@@ -48,7 +48,7 @@ adds-got as′ code u starts r rows code′ starts′ (got bs m) a v w e =
     (bs, rw i refl, rw i at w)
 adds-got as′ code u starts r rows code′ starts′ (refused k p) a v w e = never-done k p a v (sym w ∙ e)
 
-adds-not : (as′ : List Action) (code : List ℕ) (u : ℕ) (starts : List ℕ) (r : Reading) (rows code′ starts′ : List ℕ) (x : Read (List Action)) (k p : ℕ)
+adds-not : (as′ : List Action) (code : List ℕ) (u : ℕ) (starts : List ℕ) (r : Parsed) (rows code′ starts′ : List ℕ) (x : Read (List Action)) (k p : ℕ)
     → Adds as′ code u starts r rows code′ starts′ x → r ≡ Refused k p → x ≡ refused k p
 unfolding Adds
 adds-not as′ code u starts r rows code′ starts′ (got bs m) k p w e = never-done k p m (u + length (actionCells (w .action))) (sym e ∙ w .answer)
@@ -97,7 +97,7 @@ module _ (s : List ℕ) (c : Scope) (k from : ℕ) (code₀ starts₀ : List ℕ
         })
 
     module _ (b : ActionHead) (durative : Bool) (e : ℕ) (q : b ≡ B.At durative e) (h : Begins s c (o .before) (o .fuel - 1) b (actionsTo (suc (o .fuel - 1)) s c (o .before) at) at)
-        (r : Reading) (rows′ code′ starts′ : List ℕ) (w : Adds (o .before) code u starts r rows′ code′ starts′ (action s c durative (o .before) e)) where
+        (r : Parsed) (rows′ code′ starts′ : List ℕ) (w : Adds (o .before) code u starts r rows′ code′ starts′ (action s c durative (o .before) e)) where
       step : actionsTo k s c [] from ≡ andThen (action s c durative (o .before) e) (λ bs. actionsTo (o .fuel - 1) s c bs)
       unfolding Begins
       step = o .same ∙ ap (λ (j : ℕ). actionsTo j s c (o .before) at) more ∙ rw q at h
@@ -142,6 +142,6 @@ pub later-by : (n at a v : ℕ) → at ≤ a → a ≤ n → Later n at (Done a 
 unfolding Later
 later-by n at a v lo hi = (lo, hi)
 
-pub later-refused : (n at k p : ℕ) (r : Reading) → r ≡ Refused k p → Later n at r
+pub later-refused : (n at k p : ℕ) (r : Parsed) → r ≡ Refused k p → Later n at r
 unfolding Later
 later-refused n at k p r e = rw e tt

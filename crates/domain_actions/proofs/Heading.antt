@@ -11,8 +11,8 @@ use Rattle.domain_meaning.specs.Due.{opening, wordDue, newName}
 use Rattle.domain_meaning.specs.Tables.{Table, entry, typeOf, fresh}
 use Rattle.domain_meaning.specs.Lists.{variablesTo}
 use Rattle.domain_meaning.specs.Terms.{Scope}
-use Rattle.domain_due.specs.declared.Reading.{Reading}
-use Rattle.domain_due.specs.declared.Reading.the-variants.{Done, Refused}
+use Rattle.domain_due.specs.declared.Parsed.{Parsed}
+use Rattle.domain_due.specs.declared.Parsed.the-variants.{Done, Refused}
 use Rattle.domain_due.proofs.Dues.{Named}
 use Rattle.domain_rows.specs.Held.{Holds}
 use Rattle.domain_typed_lists.proofs.Going.{fresh-stays}
@@ -53,7 +53,7 @@ module _ (s : List ℕ) (c : Scope) (t : Table) (at : ℕ) where
 
 -- ---- what is answered
 
-pub titled-refused : (c : Scope) (counts : Counts) (n : ℕ) (t : Table) (r : Reading) (rows own : List ℕ) (k p : ℕ) (x : Read Title)
+pub titled-refused : (c : Scope) (counts : Counts) (n : ℕ) (t : Table) (r : Parsed) (rows own : List ℕ) (k p : ℕ) (x : Read Title)
     → x ≡ refused k p → r ≡ Refused k p → Titled c counts n t r rows own x
 unfolding Titled
 titled-refused c counts n t r rows own k p x e h = rw e h
@@ -71,7 +71,7 @@ titled-done s c t at v a i o counts n m k info rows own y w l h =
     rw (o .is, y .is)
     (record { answer = ap (λ (j : ℕ). Done m j) many; room = l; rows = rw (y .numbers) at h; own = rw (y .is) at w })
 
-pub beyond-refused : (n at k p : ℕ) (r : Reading) → r ≡ Refused k p → Beyond n at r
+pub beyond-refused : (n at k p : ℕ) (r : Parsed) → r ≡ Refused k p → Beyond n at r
 unfolding Beyond
 beyond-refused n at k p r e = rw e tt
 

@@ -14,8 +14,8 @@ use Rattle.domain_meaning.specs.Terms.{Scope}
 use Rattle.domain_meaning.specs.Conditions.{Cond}
 use Rattle.domain_meaning.specs.Effects.{Effect}
 use Rattle.domain_meaning.specs.Actions.{Timed, Lasting, Action, durationRule, simpleBody, durativeBody}
-use Rattle.domain_due.specs.declared.Reading.{Reading}
-use Rattle.domain_due.specs.declared.Reading.the-variants.{Done, Refused}
+use Rattle.domain_due.specs.declared.Parsed.{Parsed}
+use Rattle.domain_due.specs.declared.Parsed.the-variants.{Done, Refused}
 use Rattle.domain_terms.specs.Cells.{Wrote}
 use Rattle.domain_terms.proofs.Taken.{Took, wrote-got, wrote-not, then-under}
 use Rattle.domain_expressions.proofs.Operands.{sets-append}
@@ -27,7 +27,7 @@ use Rattle.domain_actions.specs.Acted.{conditionsOf, effectsOf, restOf, 
 
 -- ---- the fields
 
-module _ (s : List ℕ) (c : Scope) (durative : Bool) (code : List ℕ) (u : ℕ) (r : Reading) (m : List ℕ) (at : ℕ) where
+module _ (s : List ℕ) (c : Scope) (durative : Bool) (code : List ℕ) (u : ℕ) (r : Parsed) (m : List ℕ) (at : ℕ) where
   pub field-durative : durative ≡ true → Wrote endedCells code u r m (fieldParts true true s c (bytes ":condition") 32 at) → Wrote (partsCells condCells) code u r m (conditionsOf durative s c at)
   unfolding conditionsOf
   field-durative e w = rw e (durative-condition s c code u r m at w)
@@ -36,7 +36,7 @@ module _ (s : List ℕ) (c : Scope) (durative : Bool) (code : List ℕ) (u : ℕ
   unfolding conditionsOf
   field-simple e w = rw e (simple-condition s c code u r m at w)
 
-pub field-effect : (s : List ℕ) (c : Scope) (durative : Bool) (code : List ℕ) (u : ℕ) (r : Reading) (m : List ℕ) (at : ℕ)
+pub field-effect : (s : List ℕ) (c : Scope) (durative : Bool) (code : List ℕ) (u : ℕ) (r : Parsed) (m : List ℕ) (at : ℕ)
     → Wrote endedCells code u r m (fieldParts durative false s c (bytes ":effect") 16 at) → Wrote (partsCells listCells) code u r m (effectsOf durative s c at)
 unfolding effectsOf
 field-effect s c true code u r m at w = durative-effect s c code u r m at w
@@ -44,15 +44,15 @@ field-effect s c false code u r m at w = simple-effect s c code u r m at w
 
 -- ---- places
 
-pub reached-at : (n u at a v : ℕ) (r : Reading) → r ≡ Done a v → Reached n u at r → (at ≤ a) × (a ≤ n) × (u ≤ v) × (v + at ≤ u + a + 1)
+pub reached-at : (n u at a v : ℕ) (r : Parsed) → r ≡ Done a v → Reached n u at r → (at ≤ a) × (a ≤ n) × (u ≤ v) × (v + at ≤ u + a + 1)
 unfolding Reached
 reached-at n u at a v r e h = rw e at h
 
-pub onwards-at : (n u at a v : ℕ) (r : Reading) → r ≡ Done a v → Onwards n u at r → (at ≤ a) × (a ≤ n) × (u ≤ v) × (v + at ≤ u + a + 2)
+pub onwards-at : (n u at a v : ℕ) (r : Parsed) → r ≡ Done a v → Onwards n u at r → (at ≤ a) × (a ≤ n) × (u ≤ v) × (v + at ≤ u + a + 2)
 unfolding Onwards
 onwards-at n u at a v r e h = rw e at h
 
-pub ended-at : (more n u at a v : ℕ) (r : Reading) → r ≡ Done a v → Ended more n u at r → (at ≤ a) × (a ≤ n) × (u ≤ v) × (v + at ≤ u + a + more)
+pub ended-at : (more n u at a v : ℕ) (r : Parsed) → r ≡ Done a v → Ended more n u at r → (at ≤ a) × (a ≤ n) × (u ≤ v) × (v + at ≤ u + a + more)
 unfolding Ended
 ended-at more n u at a v r e h = rw e at h
 
@@ -60,7 +60,7 @@ pub ended-by : (more n u at a v : ℕ) → at ≤ a → a ≤ n → u ≤ v → 
 unfolding Ended
 ended-by more n u at a v lo hi up few = (lo, hi, up, few)
 
-pub ended-refused : (more n u at k p : ℕ) (r : Reading) → r ≡ Refused k p → Ended more n u at r
+pub ended-refused : (more n u at k p : ℕ) (r : Parsed) → r ≡ Refused k p → Ended more n u at r
 unfolding Ended
 ended-refused more n u at k p r e = rw e tt
 
@@ -79,7 +79,7 @@ rest-parts true s c e at =
     sym (then-under (fixed s 14 ":duration" at) _ (behindRule true s c e) _ (λ _ n. then-under (durationRule s c n) _ (behindRule true s c e) _ (λ x b. refl)))
 rest-parts false s c e at = refl
 
-bodied-refused : (e : Entry) (code : List ℕ) (u : ℕ) (starts : List ℕ) (n : ℕ) (r : Reading) (code′ starts′ : List ℕ) (x : Read Action) (k p : ℕ) → x ≡ refused k p → r ≡ Refused k p
+bodied-refused : (e : Entry) (code : List ℕ) (u : ℕ) (starts : List ℕ) (n : ℕ) (r : Parsed) (code′ starts′ : List ℕ) (x : Read Action) (k p : ℕ) → x ≡ refused k p → r ≡ Refused k p
     → Bodied e code u starts n r code′ starts′ x
 unfolding Bodied
 bodied-refused e code u starts n r code′ starts′ x k p i q = rw i q
@@ -102,13 +102,13 @@ bodied-done code u starts n e l cs es v w f m code₁ code₂ code₃ starts′ 
       refl,
     )
 
-module _ (s : List ℕ) (c : Scope) (e : Entry) (durative : Bool) (at : ℕ) (code : List ℕ) (u : ℕ) (starts : List ℕ) (n : ℕ) (r₁ : Reading) (code₁ : List ℕ)
+module _ (s : List ℕ) (c : Scope) (e : Entry) (durative : Bool) (at : ℕ) (code : List ℕ) (u : ℕ) (starts : List ℕ) (n : ℕ) (r₁ : Parsed) (code₁ : List ℕ)
     (w₁ : Wrote lastingCells code u r₁ code₁ (lastingOf durative s c at)) where
   pub rest-rule : (starts′ : List ℕ) (k p : ℕ) → r₁ ≡ Refused k p → Bodied e code u starts n r₁ code₁ starts′ (restOf durative s c e at)
   rest-rule starts′ k p i =
       bodied-refused e code u starts n r₁ code₁ starts′ _ k p (rest-parts durative s c e at ∙ rw (wrote-not lastingCells code u r₁ code₁ (lastingOf durative s c at) k p w₁ i) refl) i
 
-  module _ (a v : ℕ) (i₁ : r₁ ≡ Done a v) (r₂ : Reading) (code₂ : List ℕ) (w₂ : Wrote (partsCells condCells) code₁ v r₂ code₂ (conditionsOf durative s c a)) where
+  module _ (a v : ℕ) (i₁ : r₁ ≡ Done a v) (r₂ : Parsed) (code₂ : List ℕ) (w₂ : Wrote (partsCells condCells) code₁ v r₂ code₂ (conditionsOf durative s c a)) where
     g₁ : Took lastingCells code u code₁ a v (lastingOf durative s c at)
     g₁ = wrote-got lastingCells code u r₁ code₁ (lastingOf durative s c at) a v w₁ i₁
 
@@ -117,7 +117,7 @@ module _ (s : List ℕ) (c : Scope) (e : Entry) (durative : Bool) (at : ℕ) (co
         bodied-refused e code u starts n r₂ code₂ starts′ _ k p
         (rest-parts durative s c e at ∙ rw (g₁ .is, wrote-not (partsCells condCells) code₁ v r₂ code₂ (conditionsOf durative s c a) k p w₂ i) refl) i
 
-    module _ (b w : ℕ) (i₂ : r₂ ≡ Done b w) (r₃ : Reading) (code₃ : List ℕ) (w₃ : Wrote (partsCells listCells) code₂ w r₃ code₃ (effectsOf durative s c b)) where
+    module _ (b w : ℕ) (i₂ : r₂ ≡ Done b w) (r₃ : Parsed) (code₃ : List ℕ) (w₃ : Wrote (partsCells listCells) code₂ w r₃ code₃ (effectsOf durative s c b)) where
       g₂ : Took (partsCells condCells) code₁ v code₂ b w (conditionsOf durative s c a)
       g₂ = wrote-got (partsCells condCells) code₁ v r₂ code₂ (conditionsOf durative s c a) b w w₂ i₂
 
@@ -130,7 +130,7 @@ module _ (s : List ℕ) (c : Scope) (e : Entry) (durative : Bool) (at : ℕ) (co
         g₃ : Took (partsCells listCells) code₂ w code₃ d f (effectsOf durative s c b)
         g₃ = wrote-got (partsCells listCells) code₂ w r₃ code₃ (effectsOf durative s c b) d f w₃ i₃
 
-        pub rest-open : (r : Reading) (starts′ : List ℕ) (k p : ℕ) → closing s 14 d ≡ refused k p → r ≡ Refused k p → Bodied e code u starts n r code₃ starts′ (restOf durative s c e at)
+        pub rest-open : (r : Parsed) (starts′ : List ℕ) (k p : ℕ) → closing s 14 d ≡ refused k p → r ≡ Refused k p → Bodied e code u starts n r code₃ starts′ (restOf durative s c e at)
         rest-open r starts′ k p z i = bodied-refused e code u starts n r code₃ starts′ _ k p (rest-parts durative s c e at ∙ rw (g₁ .is, g₂ .is, g₃ .is, z) refl) i
 
         pub rest-done : (o m : ℕ) (starts′ : List ℕ) → closing s 14 d ≡ got o m → starts′ ≡ sets starts (3 * n) (u ∷ v ∷ w ∷ [])

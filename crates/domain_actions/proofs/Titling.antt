@@ -13,8 +13,8 @@ use Rattle.domain_meaning.specs.Lists.{variablesTo, signature}
 use Rattle.domain_meaning.specs.Terms.{Scope}
 use Rattle.domain_meaning.specs.Actions.{Action, within, action}
 use Rattle.domain_meaning.specs.Domain.{opened, other, beginsWith, actionsTo}
-use Rattle.domain_due.specs.declared.Reading.{Reading}
-use Rattle.domain_due.specs.declared.Reading.the-variants.{Done, Refused}
+use Rattle.domain_due.specs.declared.Parsed.{Parsed}
+use Rattle.domain_due.specs.declared.Parsed.the-variants.{Done, Refused}
 use Rattle.domain_due.proofs.Dues.{never-done}
 use Rattle.domain_rows.specs.Held.{Holds}
 use Rattle.domain_terms.specs.declared.scope.Counts.{Counts}
@@ -27,13 +27,13 @@ use Rattle.domain_actions.specs.Acted.{restOf, Bodied, Ended, declaratio
 
 -- ---- the header, by its answer
 
-pub record Heads (c : Scope) (counts : Counts) (n : ℕ) (t : Table) (r : Reading) (rows own : List ℕ) (x : Read Title) (a v : ℕ) : Type 0 where
+pub record Heads (c : Scope) (counts : Counts) (n : ℕ) (t : Table) (r : Parsed) (rows own : List ℕ) (x : Read Title) (a v : ℕ) : Type 0 where
   pub title : Title
   pub is : x ≡ got title a
   pub entered : Entered c counts n t r rows own title a
   pub count : v ≡ length (title .variables)
 
-pub titled-got : (c : Scope) (counts : Counts) (n : ℕ) (t : Table) (r : Reading) (rows own : List ℕ) (x : Read Title) (a v : ℕ) → Titled c counts n t r rows own x → r ≡ Done a v
+pub titled-got : (c : Scope) (counts : Counts) (n : ℕ) (t : Table) (r : Parsed) (rows own : List ℕ) (x : Read Title) (a v : ℕ) → Titled c counts n t r rows own x → r ≡ Done a v
     → Heads c counts n t r rows own x a v
 unfolding Titled
 titled-got c counts n t r rows own (got h m) a v w e =
@@ -43,7 +43,7 @@ titled-got c counts n t r rows own (got h m) a v w e =
     record { title = h; is = rw i; entered = record { answer = e ∙ rw (← j); room = w .room; rows = w .rows; own = w .own }; count = sym j }
 titled-got c counts n t r rows own (refused k p) a v w e = never-done k p a v (sym w ∙ e)
 
-pub titled-not : (c : Scope) (counts : Counts) (n : ℕ) (t : Table) (r : Reading) (rows own : List ℕ) (x : Read Title) (k p : ℕ) → Titled c counts n t r rows own x → r ≡ Refused k p → x ≡ refused k p
+pub titled-not : (c : Scope) (counts : Counts) (n : ℕ) (t : Table) (r : Parsed) (rows own : List ℕ) (x : Read Title) (k p : ℕ) → Titled c counts n t r rows own x → r ≡ Refused k p → x ≡ refused k p
 unfolding Titled
 titled-not c counts n t r rows own (got h m) k p w e = never-done k p m (length (h .variables)) (sym e ∙ w .answer)
 titled-not c counts n t r rows own (refused j q) k p w e =
@@ -52,7 +52,7 @@ titled-not c counts n t r rows own (refused j q) k p w e =
     let n : q ≡ p = cc in
     rw (i, n)
 
-pub beyond-at : (n at a v : ℕ) (r : Reading) → r ≡ Done a v → Beyond n at r → (at + 4 ≤ a) × (a ≤ n)
+pub beyond-at : (n at a v : ℕ) (r : Parsed) → r ≡ Done a v → Beyond n at r → (at + 4 ≤ a) × (a ≤ n)
 unfolding Beyond
 beyond-at n at a v r e h = rw e at h
 
@@ -83,7 +83,7 @@ titled s c false as′ at =
     (λ n m. then-under (fresh 32 (declarations as′) (n .place) (n .word) m) _ g _
     (λ _ i. then-under (fixed s 14 ":parameters" i) _ g _ (λ _ j. then-under (opening s 14 j) _ g _ (λ _ k. then-under (variablesTo s (c .types) 4 k) _ g _ (λ vs l. refl))))))
 
-added : (as′ : List Action) (e : Entry) (n : ℕ) (code : List ℕ) (u : ℕ) (starts : List ℕ) (r : Reading) (rows code′ starts′ : List ℕ) (x : Read Action) → n ≡ length as′
+added : (as′ : List Action) (e : Entry) (n : ℕ) (code : List ℕ) (u : ℕ) (starts : List ℕ) (r : Parsed) (rows code′ starts′ : List ℕ) (x : Read Action) → n ≡ length as′
     → Holds 32 rows (n + 1) (declarations as′ ++ e ∷ []) → Bodied e code u starts n r code′ starts′ x → Adds as′ code u starts r rows code′ starts′ (andThen x (λ a m. got (as′ ++ a ∷ []) m))
 unfolding Bodied Adds
 added as′ e n code u starts r rows code′ starts′ (got a m) q h w =
@@ -97,18 +97,18 @@ added as′ e n code u starts r rows code′ starts′ (got a m) q h w =
     }
 added as′ e n code u starts r rows code′ starts′ (refused k p) q h w = w
 
-adds-refused : (as′ : List Action) (code : List ℕ) (u : ℕ) (starts : List ℕ) (r : Reading) (rows code′ starts′ : List ℕ) (x : Read (List Action)) (k p : ℕ) → x ≡ refused k p → r ≡ Refused k p
+adds-refused : (as′ : List Action) (code : List ℕ) (u : ℕ) (starts : List ℕ) (r : Parsed) (rows code′ starts′ : List ℕ) (x : Read (List Action)) (k p : ℕ) → x ≡ refused k p → r ≡ Refused k p
     → Adds as′ code u starts r rows code′ starts′ x
 unfolding Adds
 adds-refused as′ code u starts r rows code′ starts′ x k p e q = rw e q
 
-module _ (s : List ℕ) (c : Scope) (counts : Counts) (durative : Bool) (as′ : List Action) (at n : ℕ) (code : List ℕ) (u : ℕ) (starts : List ℕ) (r₁ : Reading) (rows own : List ℕ)
+module _ (s : List ℕ) (c : Scope) (counts : Counts) (durative : Bool) (as′ : List Action) (at n : ℕ) (code : List ℕ) (u : ℕ) (starts : List ℕ) (r₁ : Parsed) (rows own : List ℕ)
     (w₁ : Titled c counts n (declarations as′) r₁ rows own (titleOf s c (declarations as′) at)) where
   pub action-untitled : (k p : ℕ) → r₁ ≡ Refused k p → Adds as′ code u starts r₁ rows code starts (action s c durative as′ at)
   action-untitled k p i =
       adds-refused as′ code u starts r₁ rows code starts _ k p (titled s c durative as′ at ∙ rw (titled-not c counts n (declarations as′) r₁ rows own _ k p w₁ i) refl) i
 
-  pub action-titled : (a v : ℕ) (i : r₁ ≡ Done a v) → length as′ ≡ n → (r : Reading) (code′ starts′ : List ℕ)
+  pub action-titled : (a v : ℕ) (i : r₁ ≡ Done a v) → length as′ ≡ n → (r : Parsed) (code′ starts′ : List ℕ)
       → (let h = titled-got c counts n (declarations as′) r₁ rows own (titleOf s c (declarations as′) at) a v w₁ i .title in
       Bodied (signature (h .word) (h .variables)) code u starts n r code′ starts′ (restOf durative s (within c (h .variables)) (signature (h .word) (h .variables)) a))
       → Adds as′ code u starts r rows code′ starts′ (action s c durative as′ at)
@@ -117,7 +117,7 @@ module _ (s : List ℕ) (c : Scope) (counts : Counts) (durative : Bool) (as′ :
       rw (titled s c durative as′ at, g .is) (added as′ (signature (g .title .word) (g .title .variables)) n code u starts r rows code′ starts′ _ (sym q) (g .entered .rows) w)
 
 -- four bytes at least stand before what is behind the parameters
-pub back : (r : Reading) (n u at from : ℕ) → from + 4 ≤ at → Ended 4 n u at r → Ended 0 n u from r
+pub back : (r : Parsed) (n u at from : ℕ) → from + 4 ≤ at → Ended 4 n u at r → Ended 0 n u from r
 unfolding Ended
 back (Done a v) n u at from le h = (omega (arith, h .0), h .1, h .2, omega (arith, h .3))
 back (Refused k p) n u at from le h = tt

@@ -12,8 +12,8 @@ use Rattle.domain_meaning.specs.Conditions.{Cond, condition}
 use Rattle.domain_meaning.specs.Effects.{Effect, effect}
 use Rattle.domain_meaning.specs.Actions.{Timed, Action, action, whenField, oneCondition, oneInstant, treeOf, parts, simpleBody, durativeBody}
 use Rattle.domain_meaning.specs.Domain.{actionsTo}
-use Rattle.domain_due.specs.declared.Reading.{Reading}
-use Rattle.domain_due.specs.declared.Reading.the-variants.{Done, Refused}
+use Rattle.domain_due.specs.declared.Parsed.{Parsed}
+use Rattle.domain_due.specs.declared.Parsed.the-variants.{Done, Refused}
 use Rattle.domain_rows.specs.Held.{Holds}
 use Rattle.domain_actions.specs.declared.acts.ActionHead.{ActionHead}
 use Rattle.domain_actions.specs.declared.acts.ActionHead.the-variants as B
@@ -35,14 +35,14 @@ restOf true s c e = durativeBody s c e
 restOf false s c e = simpleBody s c e
 
 -- an action with the name and parameters of e was read: its cells were stored from `used` on, and where they begin as number n
-unfoldable pub Bodied : Entry → List ℕ → ℕ → List ℕ → ℕ → Reading → List ℕ → List ℕ → Read Action → Type 0
+unfoldable pub Bodied : Entry → List ℕ → ℕ → List ℕ → ℕ → Parsed → List ℕ → List ℕ → Read Action → Type 0
 Bodied e code used starts n r code′ starts′ (got a m) =
     (r ≡ Done m (used + length (actionCells a))) × (code′ ≡ sets code used (actionCells a))
     × (starts′ ≡ sets starts (3 * n) (startOf used a)) × (a .declared ≡ e)
 Bodied e code used starts n r code′ starts′ (refused k p) = r ≡ Refused k p
 
 -- the place after is within the text's n bytes and not before `at`; at most `more` cells more were written than bytes were read
-unfoldable pub Ended : ℕ → ℕ → ℕ → ℕ → Reading → Type 0
+unfoldable pub Ended : ℕ → ℕ → ℕ → ℕ → Parsed → Type 0
 Ended more n used at (Done a v) = (at ≤ a) × (a ≤ n) × (used ≤ v) × (v + at ≤ used + a + more)
 Ended more n used at (Refused k p) = Unit {0}
 
@@ -52,7 +52,7 @@ declarations as′ = map (λ a. a .declared) as′
 
 -- an action more, behind as′
 pub record Added (as′ : List Action) (code : List ℕ) (used : ℕ) (starts : List ℕ)
-    (r : Reading) (rows′ code′ starts′ : List ℕ) (bs : List Action) (m : ℕ) : Type 0 where
+    (r : Parsed) (rows′ code′ starts′ : List ℕ) (bs : List Action) (m : ℕ) : Type 0 where
   pub action : Action
   pub is : bs ≡ as′ ++ action ∷ []
   pub answer : r ≡ Done m (used + length (actionCells action))
@@ -60,19 +60,19 @@ pub record Added (as′ : List Action) (code : List ℕ) (used : ℕ) (starts : 
   pub cells : code′ ≡ sets code used (actionCells action)
   pub places : starts′ ≡ sets starts (3 * length as′) (startOf used action)
 
-unfoldable pub Adds : List Action → List ℕ → ℕ → List ℕ → Reading → List ℕ → List ℕ → List ℕ → Read (List Action) → Type 0
+unfoldable pub Adds : List Action → List ℕ → ℕ → List ℕ → Parsed → List ℕ → List ℕ → List ℕ → Read (List Action) → Type 0
 Adds as′ code used starts r rows′ code′ starts′ (got bs m) = Added as′ code used starts r rows′ code′ starts′ bs m
 Adds as′ code used starts r rows′ code′ starts′ (refused k p) = r ≡ Refused k p
 
 -- all actions: how many there are, their rows, their cells and where these begin
-pub record Stored (n : ℕ) (code starts : List ℕ) (r : Reading) (rows′ code′ starts′ : List ℕ) (bs : List Action) (m : ℕ) : Type 0 where
+pub record Stored (n : ℕ) (code starts : List ℕ) (r : Parsed) (rows′ code′ starts′ : List ℕ) (bs : List Action) (m : ℕ) : Type 0 where
   pub answer : r ≡ Done m (length bs)
   pub rows : Holds 32 rows′ (length bs) (declarations bs)
   pub cells : code′ ≡ sets code 0 (actionsCells bs)
   pub places : starts′ ≡ sets starts 0 (startsOf 0 bs)
   pub few : length (actionsCells bs) ≤ n
 
-unfoldable pub Stores : ℕ → List ℕ → List ℕ → Reading → List ℕ → List ℕ → List ℕ → Read (List Action) → Type 0
+unfoldable pub Stores : ℕ → List ℕ → List ℕ → Parsed → List ℕ → List ℕ → List ℕ → Read (List Action) → Type 0
 Stores n code starts r rows′ code′ starts′ (got bs m) = Stored n code starts r rows′ code′ starts′ bs m
 Stores n code starts r rows′ code′ starts′ (refused k p) = r ≡ Refused k p
 
@@ -87,6 +87,6 @@ Further n from (B.At durative e) = (from < e) × (e ≤ n)
 Further n from B.Other = Unit {0}
 
 -- the place after is within the text's n bytes and not before `at`
-unfoldable pub Later : ℕ → ℕ → Reading → Type 0
+unfoldable pub Later : ℕ → ℕ → Parsed → Type 0
 Later n at (Done a v) = (at ≤ a) × (a ≤ n)
 Later n at (Refused k p) = Unit {0}

@@ -10,8 +10,8 @@ use Rattle.domain_meaning.specs.Due.{opening, fixed, newName}
 use Rattle.domain_meaning.specs.Lists.{variablesTo, signature}
 use Rattle.domain_meaning.specs.Terms.{Scope}
 use Rattle.domain_meaning.specs.Actions.{within}
-use Rattle.domain_due.specs.declared.Reading.{Reading}
-use Rattle.domain_due.specs.declared.Reading.the-variants.{Done, Refused}
+use Rattle.domain_due.specs.declared.Parsed.{Parsed}
+use Rattle.domain_due.specs.declared.Parsed.the-variants.{Done, Refused}
 use Rattle.domain_rows.specs.Held.{Holds}
 use Rattle.domain_terms.specs.Scoped.{Scoped}
 use Rattle.domain_terms.specs.declared.scope.Counts.{Counts}
@@ -40,17 +40,17 @@ Owned c n own (got vs m) = Scoped own (acting n (length vs)) (within c vs)
 Owned c n own (refused k p) = Unit {0}
 
 -- an action more, with its scope
-pub record Entered (c : Scope) (counts : Counts) (n : ℕ) (t : Table) (r : Reading) (rows′ own′ : List ℕ) (h : Title) (m : ℕ) : Type 0 where
+pub record Entered (c : Scope) (counts : Counts) (n : ℕ) (t : Table) (r : Parsed) (rows′ own′ : List ℕ) (h : Title) (m : ℕ) : Type 0 where
   pub answer : r ≡ Done m (length (h .variables))
   pub room : n < 32
   pub rows : Holds 32 rows′ (n + 1) (t ++ signature (h .word) (h .variables) ∷ [])
   pub own : Scoped own′ (acting counts (length (h .variables))) (within c (h .variables))
 
-unfoldable pub Titled : Scope → Counts → ℕ → Table → Reading → List ℕ → List ℕ → Read Title → Type 0
+unfoldable pub Titled : Scope → Counts → ℕ → Table → Parsed → List ℕ → List ℕ → Read Title → Type 0
 Titled c counts n t r rows′ own′ (got h m) = Entered c counts n t r rows′ own′ h m
 Titled c counts n t r rows′ own′ (refused k p) = r ≡ Refused k p
 
 -- four tokens at least were read, within the text's n bytes
-unfoldable pub Beyond : ℕ → ℕ → Reading → Type 0
+unfoldable pub Beyond : ℕ → ℕ → Parsed → Type 0
 Beyond n at (Done a v) = (at + 4 ≤ a) × (a ≤ n)
 Beyond n at (Refused k p) = Unit {0}

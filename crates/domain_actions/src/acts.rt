@@ -1,7 +1,7 @@
 // Actions one behind the other, "of both kinds".
 use crate::bodies;
 use crate::headers;
-use domain_due::Reading;
+use domain_due::Parsed;
 use domain_rows::layout;
 use domain_sections::Opened;
 use domain_terms::scope::Counts;
@@ -28,7 +28,7 @@ fn action_at(
     code: &mut [u8],
     used: usize,
     starts: &mut [usize],
-) -> Reading
+) -> Parsed
     requires { ⌜ (from ≤ length (now text)) × Scopes (now tables) counts × (length (now tables) ≡ 5054)
         × Stands 32 (now rows) n × (used + (length (now text) - from) + 2 ≤ 18446744073709551615) ⌝ }
     ensures { λ r. ⌜ ((c : Scope) (as′ : List Action) → Scoped (now (tables .entry)) counts c → Holds 32 (now (rows .entry)) n (declarations as′)
@@ -37,7 +37,7 @@ fn action_at(
 {
     let mut own = [0u8; layout::TABLES_LENGTH];
     let h = headers::header_at(text, from, tables, counts, rows, n, &mut own);
-    let Reading::Done(after, v) = h else {
+    let Parsed::Done(after, v) = h else {
         return h;
     };
     let acting = Counts {
@@ -84,7 +84,7 @@ pub fn actions_to(
     rows: &mut [u8],
     code: &mut [u8],
     starts: &mut [usize],
-) -> Reading
+) -> Parsed
     requires { ⌜ (from ≤ length (now text)) × (2 ≤ from) × Scopes (now tables) counts × (length (now tables) ≡ 5054) × (now rows ≡ rowsOf 32 []) ⌝ }
     ensures { λ r. ⌜ ((c : Scope) (k : ℕ) → Scoped (now (tables .entry)) counts c → length (now (text .entry)) - from < k
         → Stores (length (now (text .entry))) (now (code .entry)) (now (starts .entry)) r (now (rows .exit)) (now (code .exit)) (now (starts .exit))
@@ -96,7 +96,7 @@ pub fn actions_to(
     loop {
         let b = begun_at(text, at);
         let ActionHead::At(durative, inside) = b else {
-            return Reading::Done(at, n);
+            return Parsed::Done(at, n);
         };
         let a = action_at(
             text,
@@ -110,7 +110,7 @@ pub fn actions_to(
             used,
             starts,
         );
-        let Reading::Done(after, free) = a else {
+        let Parsed::Done(after, free) = a else {
             return a;
         };
         at = after;

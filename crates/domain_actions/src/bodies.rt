@@ -1,5 +1,5 @@
 // What stands behind an action's parameters: its duration rule, its condition and its effect.
-use domain_due::Reading;
+use domain_due::Parsed;
 use domain_terms::scope::Counts;
 use domain_timed_parts::fields;
 ghost use mathlib.Core.Path.{_≡_};
@@ -34,7 +34,7 @@ fn conditions_field(
     code: &mut [u8],
     used: usize,
     durative: bool,
-) -> Reading
+) -> Parsed
     requires { ⌜ (from ≤ length (now text)) × Scopes (now tables) counts × (used + (length (now text) - from) + 3 ≤ 18446744073709551615) ⌝ }
     ensures { λ r. ⌜ ((c : Scope) → Scoped (now (tables .entry)) counts c
         → Wrote (partsCells condCells) (now (code .entry)) used r (now (code .exit)) (conditionsOf durative (now (text .entry)) c from))
@@ -77,7 +77,7 @@ fn effects_field(
     code: &mut [u8],
     used: usize,
     durative: bool,
-) -> Reading
+) -> Parsed
     requires { ⌜ (from ≤ length (now text)) × Scopes (now tables) counts × (used + (length (now text) - from) + 3 ≤ 18446744073709551615) ⌝ }
     ensures { λ r. ⌜ ((c : Scope) → Scoped (now (tables .entry)) counts c
         → Wrote (partsCells listCells) (now (code .entry)) used r (now (code .exit)) (effectsOf durative (now (text .entry)) c from))
@@ -108,28 +108,28 @@ pub fn body_at(
     durative: bool,
     starts: &mut [usize],
     n: usize,
-) -> Reading
+) -> Parsed
     requires { ⌜ (from ≤ length (now text)) × Scopes (now tables) counts × (used + (length (now text) - from) + 6 ≤ 18446744073709551615) × (n < 32) ⌝ }
     ensures { λ r. ⌜ ((c : Scope) (e : Entry) → Scoped (now (tables .entry)) counts c
         → Bodied e (now (code .entry)) used (now (starts .entry)) n r (now (code .exit)) (now (starts .exit)) (restOf durative (now (text .entry)) c e from))
         × Ended 4 (length (now (text .entry))) used from r ⌝ }
 {
     let rule = domain_durations::lasting_at(text, from, tables, counts, code, used, durative);
-    let Reading::Done(behind, v) = rule else {
+    let Parsed::Done(behind, v) = rule else {
         return rule;
     };
     let condition = conditions_field(text, behind, tables, counts, code, v, durative);
-    let Reading::Done(after, w) = condition else {
+    let Parsed::Done(after, w) = condition else {
         return condition;
     };
     let effect = effects_field(text, after, tables, counts, code, w, durative);
-    let Reading::Done(last, free) = effect else {
+    let Parsed::Done(last, free) = effect else {
         return effect;
     };
     let close = domain_due::closing(text, last, 14);
-    let Reading::Done(end, _) = close else {
+    let Parsed::Done(end, _) = close else {
         return close;
     };
     mark(starts, n, used, v, w);
-    Reading::Done(end, free)
+    Parsed::Done(end, free)
 }

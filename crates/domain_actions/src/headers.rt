@@ -1,5 +1,5 @@
 // An action's name and its parameters, read into the table of actions and into a scope of the action's own.
-use domain_due::Reading;
+use domain_due::Parsed;
 use domain_rows::layout;
 use domain_terms::scope::Counts;
 use domain_typed_lists::typed;
@@ -24,7 +24,7 @@ fn parameters_to(
     counts: Counts,
     own: &mut [u8],
     info: &mut [u8],
-) -> Reading
+) -> Parsed
     requires { ⌜ (from ≤ length (now text)) × Scopes (now tables) counts × (length (now tables) ≡ 5054)
         × (length (now own) ≡ 5054) × (length (now info) ≡ 5) ⌝ }
     ensures { λ r. ⌜ ((c : Scope) → Scoped (now (tables .entry)) counts c
@@ -34,13 +34,13 @@ fn parameters_to(
     let mut table = [0u8; layout::VARIABLES_LENGTH];
     let types = runs::part_of(tables, 0, layout::TYPES_LENGTH);
     let a = typed::variables_to(text, from, types, counts.types, &mut table, 4);
-    let Reading::Done(after, n) = a else {
+    let Parsed::Done(after, n) = a else {
         return a;
     };
     domain_rows::signature(&table, 4, n, info);
     domain_rows::copy(own, 0, tables);
     domain_rows::copy(own, layout::VARIABLES_AT, &table);
-    Reading::Done(after, n)
+    Parsed::Done(after, n)
 }
 
 // Behind the word that opens an action: the place after the parameters, and how many there are.
@@ -52,34 +52,34 @@ pub fn header_at(
     rows: &mut [u8],
     n: usize,
     own: &mut [u8],
-) -> Reading
+) -> Parsed
     requires { ⌜ (from ≤ length (now text)) × Scopes (now tables) counts × (length (now tables) ≡ 5054) × (length (now own) ≡ 5054) × Stands 32 (now rows) n ⌝ }
     ensures { λ r. ⌜ ((c : Scope) (t : Table) → Scoped (now (tables .entry)) counts c → Holds 32 (now (rows .entry)) n t
         → Titled c counts n t r (now (rows .exit)) (now (own .exit)) (titleOf (now (text .entry)) c t from))
         × Beyond (length (now (text .entry))) from r ⌝ }
 {
     let h = domain_due::new_name(text, from, 14);
-    let Reading::Done(end, start) = h else {
+    let Parsed::Done(end, start) = h else {
         return h;
     };
     let f = typed::fresh_at(text, start, start, end, rows, 32, n);
-    let Reading::Done(_, _) = f else {
+    let Parsed::Done(_, _) = f else {
         return f;
     };
     let w = domain_due::word_due(text, end, 14, b":parameters");
-    let Reading::Done(behind, _) = w else {
+    let Parsed::Done(behind, _) = w else {
         return w;
     };
     let o = domain_due::opening(text, behind, 14);
-    let Reading::Done(inside, _) = o else {
+    let Parsed::Done(inside, _) = o else {
         return o;
     };
     let mut info = [0u8; 5];
     let a = parameters_to(text, inside, tables, counts, own, &mut info);
-    let Reading::Done(after, v) = a else {
+    let Parsed::Done(after, v) = a else {
         return a;
     };
     let m = v + 1;
     domain_rows::enter(rows, 32, n, runs::part_of(text, start, end), &info[..m]);
-    Reading::Done(after, v)
+    Parsed::Done(after, v)
 }

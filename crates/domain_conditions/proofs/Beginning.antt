@@ -19,15 +19,15 @@ use Rattle.domain_meaning.specs.Read.{Read, Reader, refused, andThen}
 use Rattle.domain_meaning.specs.Due.{numberOf, placeOf, opening}
 use Rattle.domain_meaning.specs.Terms.{Scope, Counted, counted, onName}
 use Rattle.domain_meaning.specs.Conditions.{Cond, atomAt, operated}
-use Rattle.domain_due.specs.declared.Reading.{Reading}
-use Rattle.domain_due.specs.declared.Reading.the-variants.{Refused}
+use Rattle.domain_due.specs.declared.Parsed.{Parsed}
+use Rattle.domain_due.specs.declared.Parsed.the-variants.{Refused}
 use Rattle.domain_due.proofs.Dues.{not-word, not-open}
 use Rattle.domain_conditions.specs.Begins.{comparisonOf, compared, headedBy, inHead, inBracket, Begins, Inside, Placed}
 use Rattle.domain_conditions.specs.declared.heads.ConditionHead.{ConditionHead}
 use Rattle.domain_conditions.specs.declared.heads.ConditionHead.the-variants as H
 
 module _ (s : List ℕ) (d : ℕ) (c : Scope) (yes′ : Bool) (n : ℕ) (f g : ℕ → ℕ → Reader (Counted Cond)) where
-  pub begin-refused : (r : Reading) (k p : ℕ) (x : Read (Counted Cond)) → r ≡ Refused k p → x ≡ refused k p → Begins s d c yes′ n f g (H.Other r) x
+  pub begin-refused : (r : Parsed) (k p : ℕ) (x : Read (Counted Cond)) → r ≡ Refused k p → x ≡ refused k p → Begins s d c yes′ n f g (H.Other r) x
   unfolding Begins
   begin-refused r k p x e q = rw e q
 
@@ -128,7 +128,7 @@ comparison-some s d c yes′ f g (suc n) k p e z = let o : suc n - 1 ≡ n = ome
 
 -- ---- places
 
-pub inside-other : (at most : ℕ) (r : Reading) → Inside at most (H.Other r)
+pub inside-other : (at most : ℕ) (r : Parsed) → Inside at most (H.Other r)
 unfolding Inside
 inside-other at most r = tt
 
@@ -156,7 +156,7 @@ inside-from (H.Atom a b) at p most e lo hi h = (omega (arith, h .0), omega (arit
 inside-from (H.Compared k b m) at p most e lo hi h = (omega (arith, h .0), omega (arith, h .1), h .2)
 inside-from (H.Other a) at p most e lo hi h = tt
 
-pub placed-other : (at most d : ℕ) (r : Reading) → Placed at most d (H.Other r)
+pub placed-other : (at most d : ℕ) (r : Parsed) → Placed at most d (H.Other r)
 unfolding Placed
 placed-other at most d r = tt
 

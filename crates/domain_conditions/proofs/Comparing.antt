@@ -10,8 +10,8 @@ use Rattle.domain_meaning.specs.Read.{Read, got, refused, andThen}
 use Rattle.domain_meaning.specs.Due.{closing}
 use Rattle.domain_meaning.specs.Terms.{Scope, Expr, counts, expression}
 use Rattle.domain_meaning.specs.Conditions.{Comparison, compare, comparison}
-use Rattle.domain_due.specs.declared.Reading.{Reading}
-use Rattle.domain_due.specs.declared.Reading.the-variants as A
+use Rattle.domain_due.specs.declared.Parsed.{Parsed}
+use Rattle.domain_due.specs.declared.Parsed.the-variants as A
 use Rattle.domain_terms.proofs.Taken.{wrote-got, wrote-not}
 use Rattle.domain_terms.specs.Cells.{Wrote}
 use Rattle.domain_expressions.specs.Codes.{cellsOf, Written, passed, Over}
@@ -39,10 +39,10 @@ comparison-tag false = omega arith
 -- ---- what was read, by the answer
 
 -- a refusal of a part is that of the whole
-pub passed-on : (r : Reading) (l k p : ℕ) (b : Progress) → r ≡ A.Refused k p → b ≡ passed l r → b ≡ Refused k p
+pub passed-on : (r : Parsed) (l k p : ℕ) (b : Progress) → r ≡ A.Refused k p → b ≡ passed l r → b ≡ Refused k p
 passed-on r l k p b e q = q ∙ ap (passed l) e
 
-pub over-at : (u at a v : ℕ) (r : Reading) → r ≡ A.Done a v → Over u at r → (u ≤ v) × (v + at ≤ u + a + 1)
+pub over-at : (u at a v : ℕ) (r : Parsed) → r ≡ A.Done a v → Over u at r → (u ≤ v) × (v + at ≤ u + a + 1)
 unfolding Over
 over-at u at a v r e h = rw e at h
 
@@ -76,12 +76,12 @@ module _ (s : List ℕ) (d : ℕ) (c : Scope) (yes′ : Bool) (op : Comparison) 
   both-closed code u w m a b (got p n) e h = (rw e, h)
   both-closed code u w m a b (refused k p) e h = refl
 
-  module _ (code : List ℕ) (u tag : ℕ) (et : tag ≡ cond yes′ 12 17 + comparisonCell op) (r₁ : Reading) (m₁ : List ℕ)
+  module _ (code : List ℕ) (u tag : ℕ) (et : tag ≡ cond yes′ 12 17 + comparisonCell op) (r₁ : Parsed) (m₁ : List ℕ)
       (w₁ : Wrote cellsOf (set code u tag) (u + 1) r₁ m₁ (expression s d c at)) where
     pub comparison-first : (k p : ℕ) (r : Progress) → r₁ ≡ A.Refused k p → r ≡ Refused k p → Written condCells code u r m₁ (comparison s d c yes′ op l at)
     comparison-first k p r e q = written-refused condCells code u r m₁ _ k p (first-not k p (wrote-not cellsOf _ _ r₁ m₁ _ k p w₁ e)) q
 
-    module _ (i v : ℕ) (e₁ : r₁ ≡ A.Done i v) (r₂ : Reading) (m₂ : List ℕ) (w₂ : Wrote cellsOf m₁ v r₂ m₂ (expression s d c i)) where
+    module _ (i v : ℕ) (e₁ : r₁ ≡ A.Done i v) (r₂ : Parsed) (m₂ : List ℕ) (w₂ : Wrote cellsOf m₁ v r₂ m₂ (expression s d c i)) where
       pub comparison-second : (k p : ℕ) (r : Progress) → r₂ ≡ A.Refused k p → r ≡ Refused k p → Written condCells code u r m₂ (comparison s d c yes′ op l at)
       comparison-second k p r e q =
           let g = wrote-got cellsOf _ _ r₁ m₁ _ i v w₁ e₁ in

@@ -17,8 +17,8 @@ use Rattle.domain_meaning.specs.Read.{Read, got, refused, andThen}
 use Rattle.domain_meaning.specs.Due.{onWord, closing}
 use Rattle.domain_meaning.specs.Terms.{Scope, Arg, Given, counts, argument}
 use Rattle.domain_meaning.specs.Conditions.{same, comparison, sameObjects, equality}
-use Rattle.domain_due.specs.declared.Reading.{Reading}
-use Rattle.domain_due.specs.declared.Reading.the-variants as A
+use Rattle.domain_due.specs.declared.Parsed.{Parsed}
+use Rattle.domain_due.specs.declared.Parsed.the-variants as A
 use Rattle.domain_due.proofs.Dues.{not-word}
 use Rattle.domain_terms.specs.Cells.{cellOf, cellAnswer}
 use Rattle.domain_terms.proofs.Wanted.{given-refused}
@@ -71,11 +71,11 @@ module _ (s : List ℕ) (d : ℕ) (c : Scope) (yes′ : Bool) (l at : ℕ) where
       let two : u + 2 ≡ suc (suc u) = omega arith in
       rw (ea, eb, ← et) (rw (one, two) at h)
 
-  module _ (code : List ℕ) (u : ℕ) (r₁ : Reading) (e₁ : r₁ ≡ cellAnswer (argument s d c at)) where
+  module _ (code : List ℕ) (u : ℕ) (r₁ : Parsed) (e₁ : r₁ ≡ cellAnswer (argument s d c at)) where
     pub same-first : (k p : ℕ) (r : Progress) (m : List ℕ) → r₁ ≡ A.Refused k p → r ≡ Refused k p → Written condCells code u r m (sameObjects s d c yes′ l at)
     same-first k p r m e q = written-refused condCells code u r m _ k p (same-not k p (given-refused (argument s d c at) k p (sym e₁ ∙ e))) q
 
-    module _ (i x : ℕ) (h₁ : r₁ ≡ A.Done i x) (r₂ : Reading) (e₂ : r₂ ≡ cellAnswer (argument s d c i)) where
+    module _ (i x : ℕ) (h₁ : r₁ ≡ A.Done i x) (r₂ : Parsed) (e₂ : r₂ ≡ cellAnswer (argument s d c i)) where
       pub same-second : (k p : ℕ) (r : Progress) (m : List ℕ) → r₂ ≡ A.Refused k p → r ≡ Refused k p → Written condCells code u r m (sameObjects s d c yes′ l at)
       same-second k p r m e q =
           let g = told (argument s d c at) i x (sym e₁ ∙ h₁) in

@@ -11,8 +11,8 @@ use Rattle.domain_meaning.specs.Tables.{lookup, declared}
 use Rattle.domain_meaning.specs.Terms.{Scope, Ref, counts, counted, reference}
 use Rattle.domain_meaning.specs.Conditions.{atom, atomAt}
 use Rattle.domain_due.specs.Answers.{answerOf}
-use Rattle.domain_due.specs.declared.Reading.{Reading}
-use Rattle.domain_due.specs.declared.Reading.the-variants as A
+use Rattle.domain_due.specs.declared.Parsed.{Parsed}
+use Rattle.domain_due.specs.declared.Parsed.the-variants as A
 use Rattle.domain_due.proofs.Dues.{answer-done, answer-refused}
 use Rattle.domain_terms.specs.Scoped.{Scoped, Signatures}
 use Rattle.domain_terms.specs.Cells.{Wrote}
@@ -24,7 +24,7 @@ use Rattle.domain_conditions.specs.Closed.{closedBy}
 
 -- ---- the closing bracket
 
-module _ (x : Read ℕ) (a : Reading) (e : a ≡ answerOf x) (free left : ℕ) where
+module _ (x : Read ℕ) (a : Parsed) (e : a ≡ answerOf x) (free left : ℕ) where
   pub closed-done : (n p : ℕ) → a ≡ A.Done n p → Done n free left ≡ closedBy free left x
   closed-done n p q = rw (answer-done x n p (sym e ∙ q))
 
@@ -63,12 +63,12 @@ module _ (s : List ℕ) (d : ℕ) (c : Scope) (yes′ : Bool) (p e : ℕ) where
   fact-read zero i q z = absurd (z refl)
   fact-read (suc n) i q z = let k : suc n - 1 ≡ n = omega arith in rw (q, k)
 
-  referred : (code : List ℕ) (u : ℕ) (r : Reading) (m : List ℕ) (l : ℕ) (x : Read Ref) → Wrote (refCells (cond yes′ 4 8)) code u r m x
+  referred : (code : List ℕ) (u : ℕ) (r : Parsed) (m : List ℕ) (l : ℕ) (x : Read Ref) → Wrote (refCells (cond yes′ 4 8)) code u r m x
       → Written condCells code u (passed l r) m (andThen x (λ a n. got (counts (atom yes′ a) l) n))
   unfolding Wrote Written condCells
   referred code u r m l (got a n) h = (ap (passed l) (h .0), h .1)
   referred code u r m l (refused k q) h = ap (passed l) h
 
-  pub fact-written : (n i : ℕ) (code : List ℕ) (u : ℕ) (r : Reading) (m : List ℕ) → lookup (c .predicates) (part s p e) ≡ F.At i → (n ≡ 0 → ⊥)
+  pub fact-written : (n i : ℕ) (code : List ℕ) (u : ℕ) (r : Parsed) (m : List ℕ) → lookup (c .predicates) (part s p e) ≡ F.At i → (n ≡ 0 → ⊥)
       → Wrote (refCells (cond yes′ 4 8)) code u r m (reference s d c (c .predicates) i e) → Written condCells code u (passed (n - 1) r) m (atomAt s d c yes′ n p e e)
   fact-written n i code u r m q z h = rw (fact-read n i q z) (referred code u r m (n - 1) (reference s d c (c .predicates) i e) h)

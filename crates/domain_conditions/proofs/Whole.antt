@@ -14,8 +14,8 @@ use Rattle.domain_meaning.specs.Read.{Read, Reader, got, refused, andThen, give
 use Rattle.domain_meaning.specs.Due.{afterOf, wrong, onOpen, onWord, opening, closing}
 use Rattle.domain_meaning.specs.Terms.{Scope, Counted, counts}
 use Rattle.domain_meaning.specs.Conditions.{Cond, Conds, all, atomAt, negatedHead, negation, listTo, conjunction, conditionHead, condition}
-use Rattle.domain_due.specs.declared.Reading.{Reading}
-use Rattle.domain_due.specs.declared.Reading.the-variants as A
+use Rattle.domain_due.specs.declared.Parsed.{Parsed}
+use Rattle.domain_due.specs.declared.Parsed.the-variants as A
 use Rattle.domain_expressions.specs.Codes.{Written, Spent, passed}
 use Rattle.domain_expressions.specs.declared.leaves.Progress.{Progress}
 use Rattle.domain_expressions.specs.declared.leaves.Progress.the-variants.{Done, Refused}
@@ -46,23 +46,23 @@ module _ (s : List ℕ) (d : ℕ) (c : Scope) (yes′ : Bool) (n : ℕ) (f g : �
   unfolding Begins
   by-comparison k e m q = rw q at h
 
-  refuses : (a : Reading) → r ≡ H.Other a → Refuses a x
+  refuses : (a : Parsed) → r ≡ H.Other a → Refuses a x
   unfolding Begins
   refuses a q = rw q at h
 
-  other-written : (a : Reading) (l : ℕ) (code : List ℕ) (u : ℕ) (b : Progress) → Refuses a x → b ≡ passed l a → Written condCells code u b code x
+  other-written : (a : Parsed) (l : ℕ) (code : List ℕ) (u : ℕ) (b : Progress) → Refuses a x → b ≡ passed l a → Written condCells code u b code x
   other-written (A.Done i v) l code u b w e = absurd w
   other-written (A.Refused k p) l code u b w e = written-refused condCells code u b code x k p w e
 
-  other-spent : (a : Reading) (l more most u at : ℕ) (b : Progress) → Refuses a x → b ≡ passed l a → Spent more most u at b
+  other-spent : (a : Parsed) (l more most u at : ℕ) (b : Progress) → Refuses a x → b ≡ passed l a → Spent more most u at b
   unfolding Spent
   other-spent (A.Done i v) l more most u at b w e = absurd w
   other-spent (A.Refused k p) l more most u at b w e = rw e tt
 
-  pub by-other : (a : Reading) (l : ℕ) (code : List ℕ) (u : ℕ) (b : Progress) → r ≡ H.Other a → b ≡ passed l a → Written condCells code u b code x
+  pub by-other : (a : Parsed) (l : ℕ) (code : List ℕ) (u : ℕ) (b : Progress) → r ≡ H.Other a → b ≡ passed l a → Written condCells code u b code x
   by-other a l code u b q e = other-written a l code u b (refuses a q) e
 
-  pub spent-other : (a : Reading) (l more most u at : ℕ) (b : Progress) → r ≡ H.Other a → b ≡ passed l a → Spent more most u at b
+  pub spent-other : (a : Parsed) (l more most u at : ℕ) (b : Progress) → r ≡ H.Other a → b ≡ passed l a → Spent more most u at b
   spent-other a l more most u at b q e = other-spent a l more most u at b (refuses a q) e
 
 -- ---- one reader after the other
@@ -138,10 +138,10 @@ module _ (s : List ℕ) (d : ℕ) (c : Scope) (n at : ℕ) (r : ConditionHead)
   pub condition-comparison : (k e m : ℕ) → r ≡ H.Compared k e m → condition d s c n at ≡ compared s (d - 1) c true (comparisonOf k) m e
   condition-comparison k e m q = condition-bracket s c n d at ∙ by-comparison s (d - 1) c true n _ _ r _ h k e m q
 
-  pub condition-other : (a : Reading) (l : ℕ) (code : List ℕ) (u : ℕ) (b : Progress) → r ≡ H.Other a → b ≡ passed l a → Written condCells code u b code (condition d s c n at)
+  pub condition-other : (a : Parsed) (l : ℕ) (code : List ℕ) (u : ℕ) (b : Progress) → r ≡ H.Other a → b ≡ passed l a → Written condCells code u b code (condition d s c n at)
   condition-other a l code u b q e = rw (condition-bracket s c n d at) (by-other s (d - 1) c true n _ _ r _ h a l code u b q e)
 
-  pub condition-ended : (a : Reading) (l most u from : ℕ) (b : Progress) → r ≡ H.Other a → b ≡ passed l a → Spent 0 most u from b
+  pub condition-ended : (a : Parsed) (l most u from : ℕ) (b : Progress) → r ≡ H.Other a → b ≡ passed l a → Spent 0 most u from b
   condition-ended a l most u from b q e = spent-other s (d - 1) c true n _ _ r _ h a l 0 most u from b q e
 
 -- ---- behind `not`

@@ -12,8 +12,8 @@ use Rattle.domain_meaning.specs.Read.{_>>=_, Read, Reader, refused, refuse}
 use Rattle.domain_meaning.specs.Due.{token, wrong, onWord, opening}
 use Rattle.domain_meaning.specs.Terms.{Scope, Counted, onName}
 use Rattle.domain_meaning.specs.Conditions.{Comparison, equal, less, atMost, more, atLeast, Cond, atomAt, comparison, equality, operated}
-use Rattle.domain_due.specs.declared.Reading.{Reading}
-use Rattle.domain_due.specs.declared.Reading.the-variants.{Done, Refused}
+use Rattle.domain_due.specs.declared.Parsed.{Parsed}
+use Rattle.domain_due.specs.declared.Parsed.the-variants.{Done, Refused}
 use Rattle.domain_conditions.specs.declared.heads.ConditionHead.{ConditionHead}
 use Rattle.domain_conditions.specs.declared.heads.ConditionHead.the-variants as H
 
@@ -57,7 +57,7 @@ inBracket s d c yes′ n f g = do
   inHead s (d - 1) c yes′ n f g
 
 -- a refusal is that of the definition
-abbrev pub Refuses : Reading → Read (Counted Cond) → Type 0
+abbrev pub Refuses : Parsed → Read (Counted Cond) → Type 0
 Refuses (Done a v) x = ⊥
 Refuses (Refused k p) x = x ≡ refused k p
 

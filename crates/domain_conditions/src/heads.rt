@@ -1,5 +1,5 @@
 // How a condition begins: with a bracket and its head word, a comparison's counted where it stands.
-use domain_due::Reading;
+use domain_due::Parsed;
 use text_tokens::tokens;
 use text_tokens::tokens::Token;
 use text_tokens::tokens::Word;
@@ -22,7 +22,7 @@ pub enum ConditionHead {
     // a comparison: its number of five, where its word ends, and how many single conditions may follow
     Compared(usize, usize, usize),
     // anything else: its refusal
-    Other(Reading),
+    Other(Parsed),
 }
 
 // Comparison k, whose word stands from p to e.
@@ -33,7 +33,7 @@ fn comparison_of(k: usize, p: usize, e: usize, left: usize) -> ConditionHead
         × Inside p e r ⌝ }
 {
     if left == 0 {
-        return ConditionHead::Other(Reading::Refused(12, p));
+        return ConditionHead::Other(Parsed::Refused(12, p));
     }
     ConditionHead::Compared(k, e, left - 1)
 }
@@ -50,7 +50,7 @@ fn operated_of(h: HeadWord, p: usize, e: usize, left: usize) -> ConditionHead
         HeadWord::AtMost => comparison_of(2, p, e, left),
         HeadWord::More => comparison_of(3, p, e, left),
         HeadWord::AtLeast => comparison_of(4, p, e, left),
-        _ => ConditionHead::Other(Reading::Refused(3, p)),
+        _ => ConditionHead::Other(Parsed::Refused(3, p)),
     }
 }
 
@@ -81,8 +81,8 @@ fn head_at(text: &[u8], from: usize, d: usize, left: usize) -> ConditionHead
     match k {
         Word::Name => named_of(fixed::head_of(tokens::word_of(text, t)), p, e),
         Word::Operator => operated_of(fixed::head_of(tokens::word_of(text, t)), p, e, left),
-        Word::Variable => ConditionHead::Other(Reading::Refused(3, p)),
-        Word::Keyword => ConditionHead::Other(Reading::Refused(3, p)),
+        Word::Variable => ConditionHead::Other(Parsed::Refused(3, p)),
+        Word::Keyword => ConditionHead::Other(Parsed::Refused(3, p)),
     }
 }
 

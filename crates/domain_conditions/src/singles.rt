@@ -1,5 +1,5 @@
 // Single conditions, as they are written or under `not`: facts, comparisons, and equalities of objects.
-use domain_due::Reading;
+use domain_due::Parsed;
 use domain_expressions::leaves;
 use domain_expressions::leaves::Progress;
 use domain_expressions::references;
@@ -43,8 +43,8 @@ pub fn closed_at(text: &[u8], from: usize, d: usize, free: usize, left: usize) -
 {
     let a = domain_due::closing(text, from, d);
     match a {
-        Reading::Done(n, _) => Progress::Done(n, free, left),
-        Reading::Refused(k, p) => Progress::Refused(k, p),
+        Parsed::Done(n, _) => Progress::Done(n, free, left),
+        Parsed::Refused(k, p) => Progress::Refused(k, p),
     }
 }
 
@@ -119,11 +119,11 @@ fn comparison_at(
 {
     domain_literals::put(code, used, chosen(yes, 12, 17) + k);
     let a = trees::expression_at(text, from, d, tables, counts, code, used + 1);
-    let Reading::Done(mid, v) = a else {
+    let Parsed::Done(mid, v) = a else {
         return leaves::progress_of(a, left);
     };
     let b = trees::expression_at(text, mid, d, tables, counts, code, v);
-    let Reading::Done(end, w) = b else {
+    let Parsed::Done(end, w) = b else {
         return leaves::progress_of(b, left);
     };
     closed_at(text, end, d, w, left)
@@ -147,11 +147,11 @@ fn same_at(
         × Spent 2 (length (now (text .entry))) used from r ⌝ }
 {
     let a = arguments::argument_at(text, from, d, tables, counts);
-    let Reading::Done(mid, x) = a else {
+    let Parsed::Done(mid, x) = a else {
         return leaves::progress_of(a, left);
     };
     let b = arguments::argument_at(text, mid, d, tables, counts);
-    let Reading::Done(end, y) = b else {
+    let Parsed::Done(end, y) = b else {
         return leaves::progress_of(b, left);
     };
     domain_literals::put(code, used, chosen(yes, 2, 3));

@@ -9,8 +9,8 @@ use Rattle.domain_meaning.specs.Actions.{Action}
 use Rattle.domain_meaning.specs.Domain.{Vocabulary, vocabulary, scopeIn, actionsTo, ending, domainText, readDomain}
 use Rattle.domain_sections.proofs.Short.{ending-short}
 use Rattle.domain_due.specs.Answers.{answerOf}
-use Rattle.domain_due.specs.declared.Reading.{Reading}
-use Rattle.domain_due.specs.declared.Reading.the-variants as A
+use Rattle.domain_due.specs.declared.Parsed.{Parsed}
+use Rattle.domain_due.specs.declared.Parsed.the-variants as A
 use Rattle.domain_due.proofs.Dues.{never-done, answer-done, answer-refused}
 use Rattle.domain_terms.specs.declared.scope.Counts.{Counts}
 use Rattle.domain_preamble.specs.declared.Preamble.{Preamble}
@@ -61,7 +61,7 @@ no-preamble s code starts tables rows code′ starts′ r k p h e = knows-refuse
 
 -- ---- the actions and the end
 
-stores-got : (n : ℕ) (code starts : List ℕ) (r : Reading) (rows code′ starts′ : List ℕ) (x : Read (List Action)) (a v : ℕ) → Stores n code starts r rows code′ starts′ x → r ≡ A.Done a v
+stores-got : (n : ℕ) (code starts : List ℕ) (r : Parsed) (rows code′ starts′ : List ℕ) (x : Read (List Action)) (a v : ℕ) → Stores n code starts r rows code′ starts′ x → r ≡ A.Done a v
     → (bs : List Action) × (x ≡ got bs a) × Stored n code starts r rows code′ starts′ bs a × (v ≡ length bs)
 unfolding Stores
 stores-got n code starts r rows code′ starts′ (got bs m) a v w e =
@@ -71,7 +71,7 @@ stores-got n code starts r rows code′ starts′ (got bs m) a v w e =
     (bs, rw i refl, rw i at w, sym j)
 stores-got n code starts r rows code′ starts′ (refused k p) a v w e = never-done k p a v (sym w ∙ e)
 
-stores-not : (n : ℕ) (code starts : List ℕ) (r : Reading) (rows code′ starts′ : List ℕ) (x : Read (List Action)) (k p : ℕ) → Stores n code starts r rows code′ starts′ x → r ≡ A.Refused k p → x ≡ refused k p
+stores-not : (n : ℕ) (code starts : List ℕ) (r : Parsed) (rows code′ starts′ : List ℕ) (x : Read (List Action)) (k p : ℕ) → Stores n code starts r rows code′ starts′ x → r ≡ A.Refused k p → x ≡ refused k p
 unfolding Stores
 stores-not n code starts r rows code′ starts′ (got bs m) k p w e = never-done k p m (length bs) (sym e ∙ w .answer)
 stores-not n code starts r rows code′ starts′ (refused j q) k p w e =
@@ -80,14 +80,14 @@ stores-not n code starts r rows code′ starts′ (refused j q) k p w e =
     let l : q ≡ p = cc in
     rw (i, l)
 
-module _ (s code starts : List ℕ) (at p e : ℕ) (counts : Counts) (tables : List ℕ) (v : Vocabulary) (b : Preceded s at p e counts tables v) (r : Reading) (rows code′ starts′ : List ℕ)
+module _ (s code starts : List ℕ) (at p e : ℕ) (counts : Counts) (tables : List ℕ) (v : Vocabulary) (b : Preceded s at p e counts tables v) (r : Parsed) (rows code′ starts′ : List ℕ)
     (w : Stores (length s) code starts r rows code′ starts′ (actionsTo (length s + 1) s (scopeIn v) [] at)) where
   pub no-actions : (k q : ℕ) → r ≡ A.Refused k q → Knows s code starts (Refused k q) tables rows code′ starts′ (readDomain s)
   unfolding readDomain domainText
   no-actions k q i =
       knows-refused s code starts tables rows code′ starts′ k q (rw (b .is, stores-not (length s) code starts r rows code′ starts′ _ k q w i) refl)
 
-  module _ (a n : ℕ) (i : r ≡ A.Done a n) (z : Reading) (o : z ≡ answerOf (ending s a)) where
+  module _ (a n : ℕ) (i : r ≡ A.Done a n) (z : Parsed) (o : z ≡ answerOf (ending s a)) where
     pub no-end : (k q : ℕ) → z ≡ A.Refused k q → Knows s code starts (Refused k q) tables rows code′ starts′ (readDomain s)
     unfolding readDomain domainText
     no-end k q j =

@@ -1,6 +1,6 @@
 // The text of a domain, read whole: its tables, and its actions as rows and cells.
 use domain_actions::acts;
-use domain_due::Reading;
+use domain_due::Parsed;
 use domain_preamble::Preamble;
 use domain_terms::scope::Counts;
 ghost use mathlib.Core.Path.{_≡_};
@@ -38,12 +38,12 @@ fn acting_at(
 {
     let a = acts::actions_to(text, at, tables, counts, rows, code, starts);
     match a {
-        Reading::Refused(k, q) => Known::Refused(k, q),
-        Reading::Done(after, n) => {
+        Parsed::Refused(k, q) => Known::Refused(k, q),
+        Parsed::Done(after, n) => {
             let end = domain_sections::ending_at(text, after);
             match end {
-                Reading::Refused(k, q) => Known::Refused(k, q),
-                Reading::Done(_, _) => Known::Done(p, e, counts, n),
+                Parsed::Refused(k, q) => Known::Refused(k, q),
+                Parsed::Done(_, _) => Known::Done(p, e, counts, n),
             }
         }
     }

@@ -23,8 +23,8 @@ use Rattle.text_tokens.proofs.Within.{Within, token-within}
 use Rattle.domain_meaning.specs.Read.{Read, got, refused, give, refuse}
 use Rattle.domain_meaning.specs.Due.{afterOf, numberOf, placeOf, wrong, onWord, onNumber, onOpen, onClose, onRefusal, onEnd, opening, closing, wordDue, isNameWord, Name, anyName, newName}
 use Rattle.domain_due.specs.Answers.{answerOf, nameOf, Ahead}
-use Rattle.domain_due.specs.declared.Reading.{Reading}
-use Rattle.domain_due.specs.declared.Reading.the-variants.{Done, Refused}
+use Rattle.domain_due.specs.declared.Parsed.{Parsed}
+use Rattle.domain_due.specs.declared.Parsed.the-variants.{Done, Refused}
 
 -- ---- a token that is not of a kind
 
@@ -93,11 +93,11 @@ word-as t k j p e q h = rw h at q
 
 -- ---- answers
 
-pub ahead-done : (n at a v : ℕ) (r : Reading) → r ≡ Done a v → Ahead n at r → (at < a) × (a ≤ n)
+pub ahead-done : (n at a v : ℕ) (r : Parsed) → r ≡ Done a v → Ahead n at r → (at < a) × (a ≤ n)
 unfolding Ahead
 ahead-done n at a v r e h = rw e at h
 
-pub ahead-refused : (n at k p : ℕ) (r : Reading) → r ≡ Refused k p → Ahead n at r
+pub ahead-refused : (n at k p : ℕ) (r : Parsed) → r ≡ Refused k p → Ahead n at r
 unfolding Ahead
 ahead-refused n at k p r e = rw e tt
 
@@ -139,7 +139,7 @@ module _ (s : List ℕ) (at : ℕ) (h : at ≤ length s) where
 -- ---- the ways
 
 module _ (s : List ℕ) (d at : ℕ) where
-  pub opening-else : (t : Token) (r : Reading) → t ≡ tokenAt s at → OneOf (0 ∷ 1 ∷ 3 ∷ 4 ∷ 5 ∷ 6 ∷ []) (tagOf token-type.the-type t)
+  pub opening-else : (t : Token) (r : Parsed) → t ≡ tokenAt s at → OneOf (0 ∷ 1 ∷ 3 ∷ 4 ∷ 5 ∷ 6 ∷ []) (tagOf token-type.the-type t)
       → r ≡ Refused (numberOf d t) (placeOf t) → (r ≡ answerOf (opening s d at)) × Ahead (length s) at r
   unfolding opening
   opening-else t r e o q = (rw (← e, not-open t _ _ o) q, ahead-refused _ _ _ _ r q)
@@ -152,7 +152,7 @@ module _ (s : List ℕ) (d at : ℕ) where
   unfolding opening
   opening-read p n h e z = let w = open-in s at h p n e in (rw (e, ne-eqb d 0 z), ahead-by _ _ _ _ (w .0) (w .1))
 
-  pub closing-else : (t : Token) (r : Reading) → t ≡ tokenAt s at → OneOf (0 ∷ 1 ∷ 2 ∷ 4 ∷ 5 ∷ 6 ∷ []) (tagOf token-type.the-type t)
+  pub closing-else : (t : Token) (r : Parsed) → t ≡ tokenAt s at → OneOf (0 ∷ 1 ∷ 2 ∷ 4 ∷ 5 ∷ 6 ∷ []) (tagOf token-type.the-type t)
       → r ≡ Refused (numberOf d t) (placeOf t) → (r ≡ answerOf (closing s d at)) × Ahead (length s) at r
   unfolding closing
   closing-else t r e o q = (rw (← e, not-close t _ _ o) q, ahead-refused _ _ _ _ r q)
@@ -161,7 +161,7 @@ module _ (s : List ℕ) (d at : ℕ) where
   unfolding closing
   closing-read p n h e = let w = close-in s at h p n e in (rw e, ahead-by _ _ _ _ (w .0) (w .1))
 
-  pub word-else : (w : List ℕ) (t : Token) (r : Reading) → t ≡ tokenAt s at → OneOf (1 ∷ 2 ∷ 3 ∷ 4 ∷ 5 ∷ 6 ∷ []) (tagOf token-type.the-type t)
+  pub word-else : (w : List ℕ) (t : Token) (r : Parsed) → t ≡ tokenAt s at → OneOf (1 ∷ 2 ∷ 3 ∷ 4 ∷ 5 ∷ 6 ∷ []) (tagOf token-type.the-type t)
       → r ≡ Refused (numberOf d t) (placeOf t) → (r ≡ answerOf (wordDue s d w at)) × Ahead (length s) at r
   unfolding wordDue
   word-else w t r e o q = (rw (← e, not-word t _ _ o) q, ahead-refused _ _ _ _ r q)
@@ -176,7 +176,7 @@ module _ (s : List ℕ) (d at : ℕ) where
   unfolding wordDue
   word-other w k p e q m = (rw (q, m), ahead-refused _ _ _ _ _ refl)
 
-  pub any-else : (t : Token) (r : Reading) → t ≡ tokenAt s at → OneOf (1 ∷ 2 ∷ 3 ∷ 4 ∷ 5 ∷ 6 ∷ []) (tagOf token-type.the-type t)
+  pub any-else : (t : Token) (r : Parsed) → t ≡ tokenAt s at → OneOf (1 ∷ 2 ∷ 3 ∷ 4 ∷ 5 ∷ 6 ∷ []) (tagOf token-type.the-type t)
       → r ≡ Refused (numberOf d t) (placeOf t) → (r ≡ nameOf (anyName s d at)) × Ahead (length s) at r
   unfolding anyName
   any-else t r e o q = (rw (← e, not-word t _ _ o) q, ahead-refused _ _ _ _ r q)
@@ -219,7 +219,7 @@ name-refused (refused j q) k p e = let z : j ≡ k = cc in let y : q ≡ p = cc 
 
 -- a name that is declared
 
-module _ (s : List ℕ) (d at : ℕ) (r : Reading) (q : r ≡ nameOf (anyName s d at)) where
+module _ (s : List ℕ) (d at : ℕ) (r : Parsed) (q : r ≡ nameOf (anyName s d at)) where
   pub new-refused : (k p : ℕ) → r ≡ Refused k p → (r ≡ nameOf (newName s d at)) × Ahead (length s) at r
   unfolding newName
   new-refused k p e = (rw (name-refused (anyName s d at) k p (sym q ∙ e)) e, ahead-refused _ _ _ _ r e)

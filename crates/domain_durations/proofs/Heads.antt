@@ -23,8 +23,8 @@ use Rattle.domain_meaning.specs.Read.{Read, refused, give, refuse}
 use Rattle.domain_meaning.specs.Due.{afterOf, numberOf, placeOf, opening}
 use Rattle.domain_meaning.specs.Actions.{ruleHead}
 use Rattle.domain_due.specs.Answers.{answerOf, Ahead}
-use Rattle.domain_due.specs.declared.Reading.{Reading}
-use Rattle.domain_due.specs.declared.Reading.the-variants.{Done, Refused}
+use Rattle.domain_due.specs.declared.Parsed.{Parsed}
+use Rattle.domain_due.specs.declared.Parsed.the-variants.{Done, Refused}
 use Rattle.domain_due.proofs.Dues.{not-refusal, not-word, never-done, answer-done, answer-refused, ahead-refused, ahead-by}
 use Rattle.domain_durations.specs.Lasts.{ruleBegun}
 
@@ -37,7 +37,7 @@ module _ (s : List ℕ) (t : Token) where
   pub head-refused : (k p : ℕ) → t ≡ T.Refusal k p → (k ≡ 5 → ⊥) → Refused k p ≡ answerOf (ruleHead s t (afterOf t))
   head-refused k p e h = rw (e, ne-eqb k 5 h)
 
-  pub head-else : (r : Reading) → OneOf (0 ∷ 1 ∷ 2 ∷ 3 ∷ 4 ∷ 6 ∷ []) (tagOf token-type.the-type t) → OneOf (1 ∷ 2 ∷ 3 ∷ 4 ∷ 5 ∷ 6 ∷ []) (tagOf token-type.the-type t)
+  pub head-else : (r : Parsed) → OneOf (0 ∷ 1 ∷ 2 ∷ 3 ∷ 4 ∷ 6 ∷ []) (tagOf token-type.the-type t) → OneOf (1 ∷ 2 ∷ 3 ∷ 4 ∷ 5 ∷ 6 ∷ []) (tagOf token-type.the-type t)
       → r ≡ Refused (numberOf 13 t) (placeOf t) → r ≡ answerOf (ruleHead s t (afterOf t))
   head-else r o n q = rw (not-word t _ _ n, not-refusal t _ _ o) q
 
@@ -66,21 +66,21 @@ head-end s at (T.Refusal k p) a v w h = go (eqb k 5) h
     go false q = never-done k p a v q
 head-end s at (T.End p) a v w h = never-done _ _ a v h
 
-pub head-ahead : (s : List ℕ) (at a v : ℕ) (r : Reading) → at ≤ length s → r ≡ answerOf (ruleHead s (tokenAt s at) (afterOf (tokenAt s at))) → r ≡ Done a v
+pub head-ahead : (s : List ℕ) (at a v : ℕ) (r : Parsed) → at ≤ length s → r ≡ answerOf (ruleHead s (tokenAt s at) (afterOf (tokenAt s at))) → r ≡ Done a v
     → (at < a) × (a ≤ length s)
 head-ahead s at a v r h e q = head-end s at (tokenAt s at) a v (token-within s at h) (sym e ∙ q)
 
 -- ---- `(= ?duration`: one thing after the other, of which each was read until one is refused
 
-stops : (s : List ℕ) (at : ℕ) (x : Read ℕ) (r : Reading) (k p : ℕ) → x ≡ refused k p → r ≡ Refused k p → (r ≡ answerOf x) × Ahead (length s) at r
+stops : (s : List ℕ) (at : ℕ) (x : Read ℕ) (r : Parsed) (k p : ℕ) → x ≡ refused k p → r ≡ Refused k p → (r ≡ answerOf x) × Ahead (length s) at r
 stops s at x r k p e q = (q ∙ sym (ap answerOf e), ahead-refused _ _ k p r q)
 
-module _ (s : List ℕ) (at : ℕ) (r : Reading) (q : r ≡ answerOf (opening s 14 at)) where
+module _ (s : List ℕ) (at : ℕ) (r : Parsed) (q : r ≡ answerOf (opening s 14 at)) where
   pub begun-closed : (k p : ℕ) → r ≡ Refused k p → (r ≡ answerOf (ruleBegun s at)) × Ahead (length s) at r
   unfolding ruleBegun
   begun-closed k p e = let o = answer-refused (opening s 14 at) k p (sym q ∙ e) in stops s at (ruleBegun s at) r k p (rw o) e
 
-  module _ (a v : ℕ) (e : r ≡ Done a v) (r₂ : Reading) (q₂ : r₂ ≡ answerOf (ruleHead s (tokenAt s a) (afterOf (tokenAt s a)))) where
+  module _ (a v : ℕ) (e : r ≡ Done a v) (r₂ : Parsed) (q₂ : r₂ ≡ answerOf (ruleHead s (tokenAt s a) (afterOf (tokenAt s a)))) where
     pub begun-headless : (k p : ℕ) → r₂ ≡ Refused k p → (r₂ ≡ answerOf (ruleBegun s at)) × Ahead (length s) at r₂
     unfolding ruleBegun
     begun-headless k p i =
@@ -89,7 +89,7 @@ module _ (s : List ℕ) (at : ℕ) (r : Reading) (q : r ≡ answerOf (opening s 
         stops s at (ruleBegun s at) r₂ k p (rw (o, h)) i
 
     module _ (b w : ℕ) (i : r₂ ≡ Done b w) where
-      pub begun-other : (t : Token) (r₃ : Reading) → spotAt s b (bytes "?duration") ≡ P.Other → t ≡ tokenAt s b → r₃ ≡ Refused (numberOf 13 t) (placeOf t)
+      pub begun-other : (t : Token) (r₃ : Parsed) → spotAt s b (bytes "?duration") ≡ P.Other → t ≡ tokenAt s b → r₃ ≡ Refused (numberOf 13 t) (placeOf t)
           → (r₃ ≡ answerOf (ruleBegun s at)) × Ahead (length s) at r₃
       unfolding ruleBegun
       begun-other t r₃ f g j =

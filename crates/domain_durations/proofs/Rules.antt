@@ -13,8 +13,8 @@ use Rattle.domain_meaning.specs.Due.{afterOf, opening, closing, fixed}
 use Rattle.domain_meaning.specs.Terms.{Scope, Expr, expression}
 use Rattle.domain_meaning.specs.Actions.{rule, ruleHead, durationSpot, durationRule}
 use Rattle.domain_due.specs.Answers.{answerOf, Ahead}
-use Rattle.domain_due.specs.declared.Reading.{Reading}
-use Rattle.domain_due.specs.declared.Reading.the-variants.{Done, Refused}
+use Rattle.domain_due.specs.declared.Parsed.{Parsed}
+use Rattle.domain_due.specs.declared.Parsed.the-variants.{Done, Refused}
 use Rattle.domain_due.proofs.Dues.{answer-done, answer-refused, ahead-by}
 use Rattle.domain_terms.proofs.Taken.{wrote-got, wrote-not, wrote-by, then-then}
 use Rattle.domain_terms.specs.Cells.{Wrote, Room}
@@ -48,20 +48,20 @@ rule-parts s c at = go (opening s 14 at)
 rule-got : (s : List ℕ) (c : Scope) (at v a : ℕ) (x : Expr) (b p n : ℕ) → ruleBegun s at ≡ got v a → expression s 13 c a ≡ got x b → closing s 13 b ≡ got p n → durationRule s c at ≡ got x n
 rule-got s c at v a x b p n i j k = rule-parts s c at ∙ rw (i, j, k)
 
-module _ (s : List ℕ) (c : Scope) (at : ℕ) (code : List ℕ) (u : ℕ) (r : Reading) (q : r ≡ answerOf (ruleBegun s at)) where
+module _ (s : List ℕ) (c : Scope) (at : ℕ) (code : List ℕ) (u : ℕ) (r : Parsed) (q : r ≡ answerOf (ruleBegun s at)) where
   pub rule-unbegun : (k p : ℕ) → r ≡ Refused k p → Wrote cellsOf code u r code (durationRule s c at)
   rule-unbegun k p e =
       let o = answer-refused (ruleBegun s at) k p (sym q ∙ e) in
       wrote-refused cellsOf code u r code (durationRule s c at) k p (rule-parts s c at ∙ rw o) e
 
-  module _ (a v : ℕ) (e : r ≡ Done a v) (r₂ : Reading) (m : List ℕ) (w : Wrote cellsOf code u r₂ m (expression s 13 c a)) where
+  module _ (a v : ℕ) (e : r ≡ Done a v) (r₂ : Parsed) (m : List ℕ) (w : Wrote cellsOf code u r₂ m (expression s 13 c a)) where
     pub rule-empty : (k p : ℕ) → r₂ ≡ Refused k p → Wrote cellsOf code u r₂ m (durationRule s c at)
     rule-empty k p i =
         let o = answer-done (ruleBegun s at) a v (sym q ∙ e) in
         let x = wrote-not cellsOf code u r₂ m (expression s 13 c a) k p w i in
         wrote-refused cellsOf code u r₂ m (durationRule s c at) k p (rule-parts s c at ∙ rw (o, x)) i
 
-    module _ (b f : ℕ) (i : r₂ ≡ Done b f) (r₃ : Reading) (q₃ : r₃ ≡ answerOf (closing s 13 b)) where
+    module _ (b f : ℕ) (i : r₂ ≡ Done b f) (r₃ : Parsed) (q₃ : r₃ ≡ answerOf (closing s 13 b)) where
       pub rule-open : (k p : ℕ) → r₃ ≡ Refused k p → Wrote cellsOf code u r₃ m (durationRule s c at)
       rule-open k p j =
           let o = answer-done (ruleBegun s at) a v (sym q ∙ e) in
@@ -76,7 +76,7 @@ module _ (s : List ℕ) (c : Scope) (at : ℕ) (code : List ℕ) (u : ℕ) (r : 
           let z = answer-done (closing s 13 b) n p (sym q₃ ∙ j) in
           wrote-by cellsOf code u m (durationRule s c at) (g .tree) n f (rule-got s c at v a (g .tree) b p n o (g .is) z) (g .free) (g .stored)
 
-pub over-done : (u at a v : ℕ) (r : Reading) → r ≡ Done a v → Over u at r → (u ≤ v) × (v + at ≤ u + a + 1)
+pub over-done : (u at a v : ℕ) (r : Parsed) → r ≡ Done a v → Over u at r → (u ≤ v) × (v + at ≤ u + a + 1)
 unfolding Over
 over-done u at a v r e h = rw e at h
 
@@ -85,11 +85,11 @@ rule-places n u from at a v b h i j k l o = (ahead-by _ _ _ _ (omega arith) k, r
 
 -- ---- what an action begins with
 
-pub reached-refused : (n u at k p : ℕ) (r : Reading) → r ≡ Refused k p → Reached n u at r
+pub reached-refused : (n u at k p : ℕ) (r : Parsed) → r ≡ Refused k p → Reached n u at r
 unfolding Reached
 reached-refused n u at k p r e = rw e tt
 
-lasts : (code : List ℕ) (u : ℕ) (r : Reading) (m : List ℕ) (x : Read Expr) → Wrote cellsOf (set code u 1) (u + 1) r m x → Wrote lastingCells code u r m (andThen x (λ y. give (rule y)))
+lasts : (code : List ℕ) (u : ℕ) (r : Parsed) (m : List ℕ) (x : Read Expr) → Wrote cellsOf (set code u 1) (u + 1) r m x → Wrote lastingCells code u r m (andThen x (λ y. give (rule y)))
 unfolding Wrote lastingCells
 lasts code u r m (got y n) h =
     let e : u + 1 + length (cellsOf y) ≡ u + suc (length (cellsOf y)) = omega arith in
@@ -101,7 +101,7 @@ module _ (s : List ℕ) (c : Scope) (at : ℕ) (code : List ℕ) (u : ℕ) (dura
   unfolding Wrote lastingCells lastingOf
   lasts-not m b h = rw b (refl, h)
 
-  module _ (b : durative ≡ true) (r : Reading) (q : r ≡ answerOf (fixed s 14 ":duration" at)) where
+  module _ (b : durative ≡ true) (r : Parsed) (q : r ≡ answerOf (fixed s 14 ":duration" at)) where
     pub lasts-unsaid : (k p : ℕ) → r ≡ Refused k p → Wrote lastingCells code u r code (lastingOf durative s c at)
     unfolding lastingOf
     lasts-unsaid k p e =
@@ -109,7 +109,7 @@ module _ (s : List ℕ) (c : Scope) (at : ℕ) (code : List ℕ) (u : ℕ) (dura
         let y : lastingOf durative s c at ≡ refused k p = rw (b, o) in
         wrote-refused lastingCells code u r code (lastingOf durative s c at) k p y e
 
-    pub lasts-ruled : (a v : ℕ) (m : List ℕ) (r₂ : Reading) (m₂ : List ℕ) → r ≡ Done a v → m ≡ set code u 1 → Wrote cellsOf m (u + 1) r₂ m₂ (durationRule s c a)
+    pub lasts-ruled : (a v : ℕ) (m : List ℕ) (r₂ : Parsed) (m₂ : List ℕ) → r ≡ Done a v → m ≡ set code u 1 → Wrote cellsOf m (u + 1) r₂ m₂ (durationRule s c a)
         → Wrote lastingCells code u r₂ m₂ (lastingOf durative s c at)
     unfolding lastingOf
     lasts-ruled a v m r₂ m₂ e h w =
@@ -121,7 +121,7 @@ pub reached-moment : (n u at : ℕ) → at ≤ n → Reached n u at (Done at (u 
 unfolding Reached
 reached-moment n u at h = (omega arith, h, omega arith, omega arith)
 
-pub reached-rule : (n u from at : ℕ) (r : Reading) → from < at → Ahead n at r → Room (u + 1) at r → Reached n u from r
+pub reached-rule : (n u from at : ℕ) (r : Parsed) → from < at → Ahead n at r → Room (u + 1) at r → Reached n u from r
 unfolding Reached Ahead Room
 reached-rule n u from at (Done a v) i h k = (omega (arith, h .0), h .1, omega (arith, k .0), omega (arith, k .1))
 reached-rule n u from at (Refused j p) i h k = tt

@@ -8,8 +8,8 @@ use Rattle.domain_meaning.specs.Read.{_>>=_, Reader, give}
 use Rattle.domain_meaning.specs.Due.{token, opening, fixed}
 use Rattle.domain_meaning.specs.Terms.{Scope}
 use Rattle.domain_meaning.specs.Actions.{Lasting, moment, rule, ruleHead, durationSpot, durationRule}
-use Rattle.domain_due.specs.declared.Reading.{Reading}
-use Rattle.domain_due.specs.declared.Reading.the-variants.{Done, Refused}
+use Rattle.domain_due.specs.declared.Parsed.{Parsed}
+use Rattle.domain_due.specs.declared.Parsed.the-variants.{Done, Refused}
 
 -- a rule up to its expression
 unfoldable pub ruleBegun : List ℕ → Reader ℕ
@@ -28,6 +28,6 @@ lastingOf true s c = do
 lastingOf false s c = give moment
 
 -- the place after is within the text's n bytes and not before `at`; at most one cell more was written than bytes were read
-unfoldable pub Reached : ℕ → ℕ → ℕ → Reading → Type 0
+unfoldable pub Reached : ℕ → ℕ → ℕ → Parsed → Type 0
 Reached n used at (Done a v) = (at ≤ a) × (a ≤ n) × (used ≤ v) × (v + at ≤ used + a + 1)
 Reached n used at (Refused k p) = Unit {0}

@@ -1,5 +1,5 @@
 // How long an action lasts, read and written as cells: the rule of a durative action, nothing of a simple one.
-use domain_due::Reading;
+use domain_due::Parsed;
 use domain_expressions::trees;
 use domain_terms::scope::Counts;
 use text_tokens::tokens;
@@ -20,42 +20,42 @@ ghost use Rattle.domain_stored_meaning.specs.Cells.{lastingCells};
 ghost use Rattle.domain_durations.specs.Lasts.{ruleBegun, lastingOf, Reached};
 
 // A rule's head word: 11 if it is not `=`, however long.
-fn rule_head(text: &[u8], t: Token) -> Reading
+fn rule_head(text: &[u8], t: Token) -> Parsed
     ensures { λ r. ⌜ r ≡ answerOf (ruleHead (now (text .entry)) t (afterOf t)) ⌝ }
 {
     if let Token::Refusal(k, p) = t {
         if k == 5 {
-            return Reading::Refused(11, p);
+            return Parsed::Refused(11, p);
         }
-        return Reading::Refused(k, p);
+        return Parsed::Refused(k, p);
     }
     let Token::Word(_, p, e) = t else {
         return domain_due::refusal(t, 13);
     };
     if spelling::same_word(tokens::word_of(text, t), b"=") {
-        return Reading::Done(e, p);
+        return Parsed::Done(e, p);
     }
-    Reading::Refused(11, p)
+    Parsed::Refused(11, p)
 }
 
 // What stands before a rule's expression: `(= ?duration`.
-fn rule_begun(text: &[u8], from: usize) -> Reading
+fn rule_begun(text: &[u8], from: usize) -> Parsed
     requires { ⌜ from ≤ length (now text) ⌝ }
     ensures { λ r. ⌜ (r ≡ answerOf (ruleBegun (now (text .entry)) from)) × Ahead (length (now (text .entry))) from r ⌝ }
 {
     let first = domain_due::opening(text, from, 14);
-    let Reading::Done(a, _) = first else {
+    let Parsed::Done(a, _) = first else {
         return first;
     };
     let head = rule_head(text, tokens::token_at(text, a));
-    let Reading::Done(b, _) = head else {
+    let Parsed::Done(b, _) = head else {
         return head;
     };
     let spot = tokens::spot_at(text, b, b"?duration");
     let Spot::At(p, e) = spot else {
         return domain_due::refusal(tokens::token_at(text, b), 13);
     };
-    Reading::Done(e, p)
+    Parsed::Done(e, p)
 }
 
 // The rule `(= ?duration e)`: the cells of e, stored from `used` on.
@@ -66,25 +66,25 @@ fn duration_at(
     counts: Counts,
     code: &mut [u8],
     used: usize,
-) -> Reading
+) -> Parsed
     requires { ⌜ (from ≤ length (now text)) × Scopes (now tables) counts × (used + (length (now text) - from) + 1 ≤ 18446744073709551615) ⌝ }
     ensures { λ r. ⌜ ((c : Scope) → Scoped (now (tables .entry)) counts c
         → Wrote cellsOf (now (code .entry)) used r (now (code .exit)) (durationRule (now (text .entry)) c from))
         × Ahead (length (now (text .entry))) from r × Room used from r ⌝ }
 {
     let begun = rule_begun(text, from);
-    let Reading::Done(at, _) = begun else {
+    let Parsed::Done(at, _) = begun else {
         return begun;
     };
     let x = trees::expression_at(text, at, 13, tables, counts, code, used);
-    let Reading::Done(after, free) = x else {
+    let Parsed::Done(after, free) = x else {
         return x;
     };
     let last = domain_due::closing(text, after, 13);
-    let Reading::Done(end, _) = last else {
+    let Parsed::Done(end, _) = last else {
         return last;
     };
-    Reading::Done(end, free)
+    Parsed::Done(end, free)
 }
 
 // How long an action lasts, stored from `used` on.
@@ -96,7 +96,7 @@ pub fn lasting_at(
     code: &mut [u8],
     used: usize,
     durative: bool,
-) -> Reading
+) -> Parsed
     requires { ⌜ (from ≤ length (now text)) × Scopes (now tables) counts × (used + (length (now text) - from) + 2 ≤ 18446744073709551615) ⌝ }
     ensures { λ r. ⌜ ((c : Scope) → Scoped (now (tables .entry)) counts c
         → Wrote lastingCells (now (code .entry)) used r (now (code .exit)) (lastingOf durative (now (text .entry)) c from))
@@ -104,12 +104,12 @@ pub fn lasting_at(
 {
     if durative {
         let word = domain_due::word_due(text, from, 14, b":duration");
-        let Reading::Done(at, _) = word else {
+        let Parsed::Done(at, _) = word else {
             return word;
         };
         domain_literals::put(code, used, 1);
         return duration_at(text, at, tables, counts, code, used + 1);
     }
     domain_literals::put(code, used, 0);
-    Reading::Done(from, used + 1)
+    Parsed::Done(from, used + 1)
 }

@@ -24,8 +24,8 @@ use Rattle.domain_meaning.specs.Due.{numberOf, placeOf, opening, closing}
 use Rattle.domain_meaning.specs.Terms.{Scope, Counted, onName}
 use Rattle.domain_meaning.specs.Effects.{Effect, becomesAt, deletedWord, inDeletion, deletion}
 use Rattle.domain_due.specs.Answers.{answerOf}
-use Rattle.domain_due.specs.declared.Reading.{Reading}
-use Rattle.domain_due.specs.declared.Reading.the-variants as A
+use Rattle.domain_due.specs.declared.Parsed.{Parsed}
+use Rattle.domain_due.specs.declared.Parsed.the-variants as A
 use Rattle.domain_due.proofs.Dues.{answer-done, answer-refused, not-word}
 use Rattle.domain_expressions.specs.Codes.{Written, passed}
 use Rattle.domain_expressions.specs.declared.leaves.Progress.{Progress}
@@ -78,7 +78,7 @@ arrived : (code : List ℕ) (u : ℕ) (t : Counted (List Effect)) (after v l : �
 unfolding Written
 arrived code u t after v l m free left stored = (rw (free, left), stored)
 
-module _ (s : List ℕ) (d : ℕ) (c : Scope) (n from : ℕ) (code : List ℕ) (u : ℕ) (a : Reading) (ea : a ≡ answerOf (opening s d from)) where
+module _ (s : List ℕ) (d : ℕ) (c : Scope) (n from : ℕ) (code : List ℕ) (u : ℕ) (a : Parsed) (ea : a ≡ answerOf (opening s d from)) where
   pub deletion-unopened : (k p : ℕ) (r : Progress) (m : List ℕ) → a ≡ A.Refused k p → r ≡ passed n a → Written effectsCells code u r m (deletion s d c n from)
   unfolding deletion
   deletion-unopened k p r m q j = written-refused effectsCells code u r m _ k p (rw (answer-refused (opening s d from) k p (sym ea ∙ q))) (j ∙ ap (passed n) q)
@@ -90,7 +90,7 @@ module _ (s : List ℕ) (d : ℕ) (c : Scope) (n from : ℕ) (code : List ℕ) (
         written-refused effectsCells code u x m₁ _ k p
         (rw (answer-done (opening s d from) next o (sym ea ∙ qa), written-not effectsCells code u x m₁ (inDeletion s (d - 1) c n next) k p wx q)) q
 
-    module _ (end v l : ℕ) (qx : x ≡ Done end v l) (b : Reading) (eb : b ≡ answerOf (closing s d end)) where
+    module _ (end v l : ℕ) (qx : x ≡ Done end v l) (b : Parsed) (eb : b ≡ answerOf (closing s d end)) where
       pub deletion-unclosed : (k p : ℕ) (r : Progress) (m : List ℕ) → b ≡ A.Refused k p → r ≡ passed n b → Written effectsCells code u r m (deletion s d c n from)
       unfolding deletion
       deletion-unclosed k p r m q j =

@@ -16,8 +16,8 @@ use Rattle.domain_meaning.specs.Due.{afterOf, wrong, onOpen, opening}
 use Rattle.domain_meaning.specs.Terms.{Scope, Ref, counts, counted, reference}
 use Rattle.domain_meaning.specs.Effects.{Effect, becomes, becomesAt}
 use Rattle.domain_due.specs.Answers.{answerOf}
-use Rattle.domain_due.specs.declared.Reading.{Reading}
-use Rattle.domain_due.specs.declared.Reading.the-variants as A
+use Rattle.domain_due.specs.declared.Parsed.{Parsed}
+use Rattle.domain_due.specs.declared.Parsed.the-variants as A
 use Rattle.domain_due.proofs.Dues.{never-done}
 use Rattle.domain_terms.specs.Scoped.{Scoped, Signatures}
 use Rattle.domain_terms.specs.Cells.{Wrote}
@@ -76,7 +76,7 @@ fact-cells : (yes′ : Bool) (r : Ref) → effectsCells (becomes yes′ r ∷ []
 unfolding effectCells
 fact-cells yes′ r = one-cells (becomes yes′ r)
 
-fact-written : (yes′ : Bool) (code : List ℕ) (u : ℕ) (r : Reading) (m : List ℕ) (l : ℕ) (x : Read Ref) → Wrote (refCells (cond yes′ 4 8)) code u r m x
+fact-written : (yes′ : Bool) (code : List ℕ) (u : ℕ) (r : Parsed) (m : List ℕ) (l : ℕ) (x : Read Ref) → Wrote (refCells (cond yes′ 4 8)) code u r m x
     → Written effectsCells code u (passed l r) m (andThen x (λ a n. got (counts (becomes yes′ a ∷ []) l) n))
 unfolding Wrote Written
 fact-written yes′ code u r m l (got a n) h = rw (fact-cells yes′ a) (ap (passed l) (h .0), h .1)
@@ -97,6 +97,6 @@ module _ (s : List ℕ) (d : ℕ) (c : Scope) (yes′ : Bool) (p e : ℕ) where
   fact-read zero i q z = absurd (z refl)
   fact-read (suc n) i q z = let k : suc n - 1 ≡ n = omega arith in rw (q, k)
 
-  pub fact-stored : (n i tag : ℕ) (code : List ℕ) (u : ℕ) (r : Reading) (m : List ℕ) → tag ≡ cond yes′ 4 8 → lookup (c .predicates) (part s p e) ≡ F.At i → (n ≡ 0 → ⊥)
+  pub fact-stored : (n i tag : ℕ) (code : List ℕ) (u : ℕ) (r : Parsed) (m : List ℕ) → tag ≡ cond yes′ 4 8 → lookup (c .predicates) (part s p e) ≡ F.At i → (n ≡ 0 → ⊥)
       → Wrote (refCells tag) code u r m (reference s d c (c .predicates) i e) → Written effectsCells code u (passed (n - 1) r) m (becomesAt s d c yes′ n p e e)
   fact-stored n i tag code u r m t q z h = rw (fact-read n i q z) (fact-written yes′ code u r m (n - 1) (reference s d c (c .predicates) i e) (rw t at h))

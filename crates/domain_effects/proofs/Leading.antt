@@ -22,8 +22,8 @@ use Rattle.domain_meaning.specs.Read.{Read, Reader, refused}
 use Rattle.domain_meaning.specs.Due.{numberOf, placeOf, opening}
 use Rattle.domain_meaning.specs.Terms.{Scope, Counted}
 use Rattle.domain_meaning.specs.Effects.{assign, raise, lower, Effect, effectHead, effectWord, effect}
-use Rattle.domain_due.specs.declared.Reading.{Reading}
-use Rattle.domain_due.specs.declared.Reading.the-variants.{Refused}
+use Rattle.domain_due.specs.declared.Parsed.{Parsed}
+use Rattle.domain_due.specs.declared.Parsed.the-variants.{Refused}
 use Rattle.domain_due.proofs.Dues.{not-word, not-open}
 use Rattle.domain_effects.specs.Leads.{inBracket, Refuses, Leads, Inside}
 use Rattle.domain_effects.specs.declared.heads.EffectHead.{EffectHead}
@@ -69,7 +69,7 @@ module _ (s : List ℕ) (d : ℕ) (c : Scope) (f : ℕ → Reader (Counted (List
   lead-fact H.Minus p e o = refl
   lead-fact H.Other p e o = refl
 
-  pub lead-refused : (r : Reading) (k p : ℕ) (x : Read (Counted (List Effect))) → r ≡ Refused k p → x ≡ refused k p → Leads s d c f n (L.Other r) x
+  pub lead-refused : (r : Parsed) (k p : ℕ) (x : Read (Counted (List Effect))) → r ≡ Refused k p → x ≡ refused k p → Leads s d c f n (L.Other r) x
   unfolding Leads Refuses
   lead-refused r k p x e q = rw e q
 
@@ -131,7 +131,7 @@ module _ (least most levels : ℕ) where
   unfolding Inside
   inside-fact p e lo hi l = (lo, hi, l)
 
-  pub inside-other : (r : Reading) → Inside least most levels (L.Other r)
+  pub inside-other : (r : Parsed) → Inside least most levels (L.Other r)
   unfolding Inside
   inside-other r = tt
 

@@ -7,8 +7,8 @@ use lib.ListN.{length}
 use Rattle.domain_meaning.specs.Read.{Read, Reader}
 use Rattle.domain_meaning.specs.Terms.{Scope, Counted}
 use Rattle.domain_meaning.specs.Effects.{Change, Effect, becomesAt, changeAt, deletion, effectsTo}
-use Rattle.domain_due.specs.declared.Reading.{Reading}
-use Rattle.domain_due.specs.declared.Reading.the-variants as A
+use Rattle.domain_due.specs.declared.Parsed.{Parsed}
+use Rattle.domain_due.specs.declared.Parsed.the-variants as A
 use Rattle.domain_expressions.specs.Codes.{Written, Spent, passed}
 use Rattle.domain_expressions.specs.declared.leaves.Progress.{Progress}
 use Rattle.domain_expressions.proofs.Ends.{written-refused, spent-refused}
@@ -56,22 +56,22 @@ module _ (s : List ℕ) (d : ℕ) (c : Scope) (f : ℕ → Reader (Counted (List
   unfolding Leads
   whole-fact p e q w = let k : x ≡ becomesAt s d c true n p e e = rw q at h in rw k w
 
-  refuses : (a : Reading) → r ≡ L.Other a → Refuses a x
+  refuses : (a : Parsed) → r ≡ L.Other a → Refuses a x
   unfolding Leads
   refuses a q = rw q at h
 
-  other-written : (a : Reading) (l : ℕ) → Refuses a x → b ≡ passed l a → Written effectsCells code u b m x
+  other-written : (a : Parsed) (l : ℕ) → Refuses a x → b ≡ passed l a → Written effectsCells code u b m x
   unfolding Refuses
   other-written (A.Done i v) l w e = absurd w
   other-written (A.Refused k p) l w e = written-refused effectsCells code u b m x k p w e
 
-  other-spent : (a : Reading) (l more most at : ℕ) → Refuses a x → b ≡ passed l a → Spent more most u at b
+  other-spent : (a : Parsed) (l more most at : ℕ) → Refuses a x → b ≡ passed l a → Spent more most u at b
   unfolding Refuses
   other-spent (A.Done i v) l more most at w e = absurd w
   other-spent (A.Refused k p) l more most at w e = spent-refused more most u at b k p e
 
-  pub whole-other : (a : Reading) (l : ℕ) → r ≡ L.Other a → b ≡ passed l a → Written effectsCells code u b m x
+  pub whole-other : (a : Parsed) (l : ℕ) → r ≡ L.Other a → b ≡ passed l a → Written effectsCells code u b m x
   whole-other a l q e = other-written a l (refuses a q) e
 
-  pub spent-other : (a : Reading) (l more most at : ℕ) → r ≡ L.Other a → b ≡ passed l a → Spent more most u at b
+  pub spent-other : (a : Parsed) (l more most at : ℕ) → r ≡ L.Other a → b ≡ passed l a → Spent more most u at b
   spent-other a l more most at q e = other-spent a l more most at (refuses a q) e

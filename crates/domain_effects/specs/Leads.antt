@@ -9,8 +9,8 @@ use Rattle.domain_meaning.specs.Due.{token, wrong, onWord}
 use Rattle.domain_meaning.specs.Terms.{Scope, Counted}
 use Rattle.domain_meaning.specs.Effects.{Change, Effect, becomesAt, changeAt, deletion, effectsTo, effectWord}
 use Rattle.domain_stored_meaning.specs.Cells.{changeCell}
-use Rattle.domain_due.specs.declared.Reading.{Reading}
-use Rattle.domain_due.specs.declared.Reading.the-variants.{Done, Refused}
+use Rattle.domain_due.specs.declared.Parsed.{Parsed}
+use Rattle.domain_due.specs.declared.Parsed.the-variants.{Done, Refused}
 use Rattle.domain_effects.specs.declared.heads.EffectHead.{EffectHead}
 use Rattle.domain_effects.specs.declared.heads.EffectHead.the-variants as L
 
@@ -21,7 +21,7 @@ inBracket s d c f n = do
   onWord h (effectWord s d c f n) (wrong d h)
 
 -- a refusal is that of the definition
-unfoldable pub Refuses : Reading → Read (Counted (List Effect)) → Type 0
+unfoldable pub Refuses : Parsed → Read (Counted (List Effect)) → Type 0
 Refuses (Done a v) x = ⊥
 Refuses (Refused k p) x = x ≡ refused k p
 

@@ -1,5 +1,5 @@
 // How an effect begins: a bracket, and what its head word says.
-use domain_due::Reading;
+use domain_due::Parsed;
 use text_tokens::tokens;
 use text_tokens::tokens::Token;
 use text_tokens::tokens::Word;
@@ -23,7 +23,7 @@ pub enum EffectHead {
     // a fact: where its name begins and where it ends
     Fact(usize, usize),
     // anything else: its refusal
-    Other(Reading),
+    Other(Parsed),
 }
 
 // What a name as head word from p to e says.
@@ -54,7 +54,7 @@ fn head_at(text: &[u8], from: usize, d: usize) -> EffectHead
         return EffectHead::Other(domain_due::refusal(t, d));
     };
     let Word::Name = k else {
-        return EffectHead::Other(Reading::Refused(3, p));
+        return EffectHead::Other(Parsed::Refused(3, p));
     };
     led_by(fixed::head_of(tokens::word_of(text, t)), p, e)
 }

@@ -1,5 +1,5 @@
 // Single effects: a fact that becomes true or false, a number that is changed.
-use domain_due::Reading;
+use domain_due::Parsed;
 use domain_expressions::leaves;
 use domain_expressions::leaves::Progress;
 use domain_expressions::references;
@@ -86,18 +86,18 @@ fn target_at(
     tag: usize,
     code: &mut [u8],
     used: usize,
-) -> Reading
+) -> Parsed
     requires { ⌜ (from ≤ length (now text)) × Scopes (now tables) counts × (tag ≤ 251) × (used + (length (now text) - from) ≤ 18446744073709551615) ⌝ }
     ensures { λ r. ⌜ ((c : Scope) → Scoped (now (tables .entry)) counts c
         → Wrote (refCells tag) (now (code .entry)) used r (now (code .exit)) (target (now (text .entry)) d c from))
         × Ahead (length (now (text .entry))) from r × Room used from r ⌝ }
 {
     let a = domain_due::opening(text, from, d);
-    let Reading::Done(next, _) = a else {
+    let Parsed::Done(next, _) = a else {
         return a;
     };
     let b = domain_due::any_name(text, next, d - 1);
-    let Reading::Done(e, p) = b else {
+    let Parsed::Done(e, p) = b else {
         return b;
     };
     let n = counts.functions;
@@ -109,7 +109,7 @@ fn target_at(
         runs::part_of(text, p, e),
     );
     let Place::At(i) = f else {
-        return Reading::Refused(8, p);
+        return Parsed::Refused(8, p);
     };
     references::reference_at(
         text,
@@ -148,15 +148,15 @@ pub fn change_at(
         return Progress::Refused(12, p);
     }
     let a = target_at(text, e, d, tables, counts, tag, code, used);
-    let Reading::Done(after, v) = a else {
+    let Parsed::Done(after, v) = a else {
         return leaves::progress_of(a, left);
     };
     let x = trees::expression_at(text, after, d, tables, counts, code, v);
-    let Reading::Done(end, free) = x else {
+    let Parsed::Done(end, free) = x else {
         return leaves::progress_of(x, left);
     };
     let b = domain_due::closing(text, end, d);
-    let Reading::Done(next, _) = b else {
+    let Parsed::Done(next, _) = b else {
         return leaves::progress_of(b, left);
     };
     Progress::Done(next, free, left - 1)
@@ -208,7 +208,7 @@ pub fn deletion_at(
         × Spent 0 (length (now (text .entry))) used from r ⌝ }
 {
     let a = domain_due::opening(text, from, d);
-    let Reading::Done(next, _) = a else {
+    let Parsed::Done(next, _) = a else {
         return leaves::progress_of(a, left);
     };
     let x = deleted_at(text, next, d - 1, tables, counts, code, used, left);
@@ -216,7 +216,7 @@ pub fn deletion_at(
         return x;
     };
     let b = domain_due::closing(text, end, d);
-    let Reading::Done(after, _) = b else {
+    let Parsed::Done(after, _) = b else {
         return leaves::progress_of(b, left);
     };
     Progress::Done(after, v, l)

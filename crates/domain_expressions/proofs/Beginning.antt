@@ -21,8 +21,8 @@ use Rattle.text_tokens.proofs.tokens.Token as token-type
 use Rattle.domain_meaning.specs.Read.{Read, Reader, got, refused}
 use Rattle.domain_meaning.specs.Due.{numberOf, placeOf}
 use Rattle.domain_meaning.specs.Terms.{Scope, Expr, number, Counted, counts, counted, operation, headed, inBracket, expr}
-use Rattle.domain_due.specs.declared.Reading.{Reading}
-use Rattle.domain_due.specs.declared.Reading.the-variants.{Refused}
+use Rattle.domain_due.specs.declared.Parsed.{Parsed}
+use Rattle.domain_due.specs.declared.Parsed.the-variants.{Refused}
 use Rattle.domain_due.proofs.Dues.{not-word, not-number, not-open}
 use Rattle.domain_literals.specs.Literal.{numberCells}
 use Rattle.domain_expressions.specs.Begins.{Bracketed, Begins, Inside, Placed}
@@ -32,7 +32,7 @@ use Rattle.domain_expressions.specs.declared.heads.ExpressionHead.the-va
 -- ---- behind a bracket
 
 module _ (s : List ℕ) (d : ℕ) (c : Scope) (f : ℕ → Reader (Counted Expr)) (n : ℕ) where
-  pub bracket-refused : (r : Reading) (k p : ℕ) (x : Read (Counted Expr)) → r ≡ Refused k p → x ≡ refused k p → Bracketed s d c f n (B.Other r) x
+  pub bracket-refused : (r : Parsed) (k p : ℕ) (x : Read (Counted Expr)) → r ≡ Refused k p → x ≡ refused k p → Bracketed s d c f n (B.Other r) x
   unfolding Bracketed
   bracket-refused r k p x e q = rw e q
 
@@ -87,7 +87,7 @@ module _ (s : List ℕ) (d : ℕ) (c : Scope) (f : ℕ → Reader (Counted Expr)
 
 -- ---- places
 
-pub inside-other : (at most : ℕ) (r : Reading) → Inside at most (B.Other r)
+pub inside-other : (at most : ℕ) (r : Parsed) → Inside at most (B.Other r)
 unfolding Inside
 inside-other at most r = tt
 
@@ -106,7 +106,7 @@ inside-from (B.Function a b) at p most e lo hi h = (omega (arith, h .0), omega (
 inside-from (B.Operation minus b m) at p most e lo hi h = (omega (arith, h .0), omega (arith, h .1))
 inside-from (B.Other a) at p most e lo hi h = tt
 
-pub placed-other : (at most d : ℕ) (r : Reading) → Placed at most d (B.Other r)
+pub placed-other : (at most d : ℕ) (r : Parsed) → Placed at most d (B.Other r)
 unfolding Placed
 placed-other at most d r = tt
 
@@ -124,7 +124,7 @@ placed-inside (B.Other r) at a most d lo k h = tt
 -- ---- an expression
 
 module _ (s : List ℕ) (c : Scope) where
-  pub begin-refused : (d n : ℕ) (r : Reading) (k p : ℕ) (x : Read (Counted Expr)) → r ≡ Refused k p → x ≡ refused k p → Begins s c d n (B.Other r) x
+  pub begin-refused : (d n : ℕ) (r : Parsed) (k p : ℕ) (x : Read (Counted Expr)) → r ≡ Refused k p → x ≡ refused k p → Begins s c d n (B.Other r) x
   unfolding Begins
   begin-refused d n r k p x e q = rw e q
 

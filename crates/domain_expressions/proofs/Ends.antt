@@ -20,8 +20,8 @@ use Rattle.domain_meaning.specs.Tables.{lookup, declared}
 use Rattle.domain_meaning.specs.Due.{afterOf, numberOf, placeOf}
 use Rattle.domain_meaning.specs.Terms.{Scope, Ref, value, Counted, counts, counted, reference, operandsEnd, functionAt}
 use Rattle.domain_due.specs.Answers.{answerOf, Ahead}
-use Rattle.domain_due.specs.declared.Reading.{Reading}
-use Rattle.domain_due.specs.declared.Reading.the-variants as A
+use Rattle.domain_due.specs.declared.Parsed.{Parsed}
+use Rattle.domain_due.specs.declared.Parsed.the-variants as A
 use Rattle.domain_due.proofs.Dues.{not-close, not-number, ahead-refused, ahead-by, answer-done, answer-refused, close-in}
 use Rattle.domain_terms.specs.Scoped.{Scoped, Signatures}
 use Rattle.domain_terms.specs.Cells.{Wrote, Room}
@@ -40,13 +40,13 @@ pub spent-refused : (more n u at : ℕ) (r : Progress) (k p : ℕ) → r ≡ Ref
 unfolding Spent
 spent-refused more n u at r k p e = rw e tt
 
-written-value : (code : List ℕ) (u : ℕ) (r : Reading) (m : List ℕ) (l : ℕ) (x : Read Ref) → Wrote (refCells 5) code u r m x
+written-value : (code : List ℕ) (u : ℕ) (r : Parsed) (m : List ℕ) (l : ℕ) (x : Read Ref) → Wrote (refCells 5) code u r m x
     → Written cellsOf code u (passed l r) m (andThen x (λ a n. got (counts (value a) l) n))
 unfolding Wrote Written cellsOf
 written-value code u r m l (got a n) h = (ap (passed l) (h .0), h .1)
 written-value code u r m l (refused k p) h = ap (passed l) h
 
-pub spent-passed : (r : Reading) (n u at l : ℕ) → Ahead n at r → Room u at r → Spent 0 n u at (passed l r)
+pub spent-passed : (r : Parsed) (n u at l : ℕ) → Ahead n at r → Room u at r → Spent 0 n u at (passed l r)
 unfolding Ahead Room Spent
 spent-passed (A.Done a v) n u at l h k = (h .0, h .1, k .0, omega (arith, k .1))
 spent-passed (A.Refused j p) n u at l h k = tt
@@ -79,7 +79,7 @@ module _ (s : List ℕ) (d : ℕ) (c : Scope) (p e : ℕ) where
   function-read zero i q z = absurd (z refl)
   function-read (suc n) i q z = let k : suc n - 1 ≡ n = omega arith in rw (q, k)
 
-  pub function-written : (n i : ℕ) (code : List ℕ) (u : ℕ) (r : Reading) (m : List ℕ) → lookup (c .functions) (part s p e) ≡ F.At i → (n ≡ 0 → ⊥)
+  pub function-written : (n i : ℕ) (code : List ℕ) (u : ℕ) (r : Parsed) (m : List ℕ) → lookup (c .functions) (part s p e) ≡ F.At i → (n ≡ 0 → ⊥)
       → Wrote (refCells 5) code u r m (reference s d c (c .functions) i e) → Written cellsOf code u (passed (n - 1) r) m (functionAt s d c n p e e)
   function-written n i code u r m q z h = rw (function-read n i q z) (written-value code u r m (n - 1) (reference s d c (c .functions) i e) h)
 
@@ -108,13 +108,13 @@ module _ (s : List ℕ) (d n at : ℕ) where
   unfolding operandsEnd
   end-number z p e q k = (rw (q, ne-eqb n 0 k), ahead-refused _ _ 3 p _ refl)
 
-  pub end-else : (t : Token) (r : Reading) → t ≡ tokenAt s at → OneOf (0 ∷ 1 ∷ 2 ∷ 4 ∷ 5 ∷ 6 ∷ []) (tagOf token-type.the-type t)
+  pub end-else : (t : Token) (r : Parsed) → t ≡ tokenAt s at → OneOf (0 ∷ 1 ∷ 2 ∷ 4 ∷ 5 ∷ 6 ∷ []) (tagOf token-type.the-type t)
       → OneOf (0 ∷ 2 ∷ 3 ∷ 4 ∷ 5 ∷ 6 ∷ []) (tagOf token-type.the-type t) → r ≡ A.Refused (numberOf d t) (placeOf t)
       → (r ≡ answerOf (operandsEnd s d n at)) × Ahead (length s) at r
   unfolding operandsEnd
   end-else t r e o k q = (rw (← e, not-close t _ _ o, not-number t _ _ k) q, ahead-refused _ _ _ _ r q)
 
-module _ (code : List ℕ) (u free left : ℕ) (minus : Bool) (a : Reading) (x : Read ℕ) (e : a ≡ answerOf x) where
+module _ (code : List ℕ) (u free left : ℕ) (minus : Bool) (a : Parsed) (x : Read ℕ) (e : a ≡ answerOf x) where
   pub joined-refused : (k p : ℕ) (r : Progress) (m : List ℕ) → a ≡ A.Refused k p → r ≡ passed left a → Joined code u free left minus r m x
   unfolding Joined
   joined-refused k p r m q h = rw (answer-refused x k p (sym e ∙ q)) (h ∙ ap (passed left) q)

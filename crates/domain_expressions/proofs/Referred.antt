@@ -11,7 +11,7 @@ use Rattle.domain_meaning.specs.Read.{Read, Reader, got, refused, andThen, give
 use Rattle.domain_meaning.specs.Tables.{Table, entryAt, wantedOf}
 use Rattle.domain_meaning.specs.Due.{onClose, closing}
 use Rattle.domain_meaning.specs.Terms.{Scope, Arg, argument, fits, arguments, reference}
-use Rattle.domain_due.specs.declared.Reading.{Reading}
+use Rattle.domain_due.specs.declared.Parsed.{Parsed}
 use Rattle.domain_terms.specs.Cells.{argCells, Wrote}
 use Rattle.domain_expressions.specs.Codes.{refCells}
 
@@ -47,7 +47,7 @@ many s d c (w ∷ ws) at =
     many-close (suc (length ws)) at (tokenAt s at) _ _ (λ p. tt)
     (many-then (suc (length ws)) (argument s d c at) _ (λ g n. many-then (suc (length ws)) (fits c w g n) _ (λ a m. many-more (length ws) a (arguments s d c ws m) (many s d c ws m))))
 
-module _ (code : List ℕ) (u tag i arity : ℕ) (r : Reading) (m : List ℕ) where
+module _ (code : List ℕ) (u tag i arity : ℕ) (r : Parsed) (m : List ℕ) where
   referred : (x : Read (List Arg)) → Many arity x → Wrote argCells (set (set code u (tag + arity)) (u + 1) i) (u + 2) r m x
       → Wrote (refCells tag) code u r m (andThen x (λ as′. give (record { head = i; args = as′ })))
   unfolding Wrote Many

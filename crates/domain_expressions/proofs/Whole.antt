@@ -13,8 +13,8 @@ use Rattle.text_tokens.specs.Tokens.{tokenAt}
 use Rattle.domain_meaning.specs.Read.{Read, got, refused, andThen, give}
 use Rattle.domain_meaning.specs.Terms.{Scope, Expr, number, Counted, counts, operandsEnd, functionAt, expr, expression}
 use Rattle.domain_due.specs.Answers.{Ahead}
-use Rattle.domain_due.specs.declared.Reading.{Reading}
-use Rattle.domain_due.specs.declared.Reading.the-variants as A
+use Rattle.domain_due.specs.declared.Parsed.{Parsed}
+use Rattle.domain_due.specs.declared.Parsed.the-variants as A
 use Rattle.domain_due.proofs.Dues.{close-in}
 use Rattle.domain_terms.specs.Cells.{Wrote}
 use Rattle.domain_literals.specs.Literal.{numberCells}
@@ -58,23 +58,23 @@ module _ (s : List ℕ) (c : Scope) (d n : ℕ) (r : ExpressionHead) (x : Read (
   unfolding Begins
   whole-function p e code u a code′ q w = let k : x ≡ functionAt s (d - 1) c n p e e = rw q at h in rw k w
 
-  refuses : (a : Reading) → r ≡ B.Other a → Refuses a x
+  refuses : (a : Parsed) → r ≡ B.Other a → Refuses a x
   unfolding Begins
   refuses a q = rw q at h
 
-  other-written : (a : Reading) (l : ℕ) (code : List ℕ) (u : ℕ) (b : Progress) → Refuses a x → b ≡ passed l a → Written cellsOf code u b code x
+  other-written : (a : Parsed) (l : ℕ) (code : List ℕ) (u : ℕ) (b : Progress) → Refuses a x → b ≡ passed l a → Written cellsOf code u b code x
   other-written (A.Done i v) l code u b w e = absurd w
   other-written (A.Refused k p) l code u b w e = written-refused cellsOf code u b code x k p w e
 
-  other-spent : (a : Reading) (l more most u at : ℕ) (b : Progress) → Refuses a x → b ≡ passed l a → Spent more most u at b
+  other-spent : (a : Parsed) (l more most u at : ℕ) (b : Progress) → Refuses a x → b ≡ passed l a → Spent more most u at b
   unfolding Spent
   other-spent (A.Done i v) l more most u at b w e = absurd w
   other-spent (A.Refused k p) l more most u at b w e = rw e tt
 
-  pub whole-other : (a : Reading) (l : ℕ) (code : List ℕ) (u : ℕ) (b : Progress) → r ≡ B.Other a → b ≡ passed l a → Written cellsOf code u b code x
+  pub whole-other : (a : Parsed) (l : ℕ) (code : List ℕ) (u : ℕ) (b : Progress) → r ≡ B.Other a → b ≡ passed l a → Written cellsOf code u b code x
   whole-other a l code u b q e = other-written a l code u b (refuses a q) e
 
-  pub spent-other : (a : Reading) (l more most u at : ℕ) (b : Progress) → r ≡ B.Other a → b ≡ passed l a → Spent more most u at b
+  pub spent-other : (a : Parsed) (l more most u at : ℕ) (b : Progress) → r ≡ B.Other a → b ≡ passed l a → Spent more most u at b
   spent-other a l more most u at b q e = other-spent a l more most u at b (refuses a q) e
 
   module _ (negative : Bool) (e m : ℕ) (q : r ≡ B.Operation negative e m) (code : List ℕ) (u : ℕ) (r₁ : Progress) (m₁ : List ℕ)
@@ -115,7 +115,7 @@ module _ (s : List ℕ) (c : Scope) (d n : ℕ) (r : ExpressionHead) (x : Read (
 
 -- ---- an expression of its own
 
-abbrev alone : Progress → Reading
+abbrev alone : Progress → Parsed
 alone (Done a v l) = A.Done a v
 alone (Refused k p) = A.Refused k p
 

@@ -8,8 +8,8 @@ use lib.Signed.{mag}
 use Rattle.domain_meaning.specs.Read.{Read, Reader, got, refused}
 use Rattle.domain_meaning.specs.Terms.{Scope, Expr, number, Counted, counts, plusOf, minusOf, functionAt, expr}
 use Rattle.domain_literals.specs.Literal.{numberCells}
-use Rattle.domain_due.specs.declared.Reading.{Reading}
-use Rattle.domain_due.specs.declared.Reading.the-variants.{Done, Refused}
+use Rattle.domain_due.specs.declared.Parsed.{Parsed}
+use Rattle.domain_due.specs.declared.Parsed.the-variants.{Done, Refused}
 use Rattle.domain_expressions.specs.declared.heads.ExpressionHead.{ExpressionHead}
 use Rattle.domain_expressions.specs.declared.heads.ExpressionHead.the-variants as B
 
@@ -19,7 +19,7 @@ operands true s d f n = minusOf s d f n
 operands false s d f n = plusOf s d f n
 
 -- a refusal is that of the definition
-abbrev pub Refuses : Reading → Read (Counted Expr) → Type 0
+abbrev pub Refuses : Parsed → Read (Counted Expr) → Type 0
 Refuses (Done a v) x = ⊥
 Refuses (Refused k p) x = x ≡ refused k p
 

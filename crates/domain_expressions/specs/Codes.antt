@@ -12,8 +12,8 @@ use Rattle.domain_meaning.specs.Read.{Read, got, refused}
 use Rattle.domain_meaning.specs.Due.{onClose, afterOf}
 use Rattle.domain_meaning.specs.Terms.{Ref, Expr, number, value, minus, difference, plus, Counted}
 use Rattle.domain_literals.specs.Literal.{numberCells}
-use Rattle.domain_due.specs.declared.Reading.{Reading}
-use Rattle.domain_due.specs.declared.Reading.the-variants as A
+use Rattle.domain_due.specs.declared.Parsed.{Parsed}
+use Rattle.domain_due.specs.declared.Parsed.the-variants as A
 use Rattle.domain_terms.specs.Cells.{argCells}
 use Rattle.domain_expressions.specs.declared.leaves.Progress.{Progress}
 use Rattle.domain_expressions.specs.declared.leaves.Progress.the-variants.{Done, Refused}
@@ -42,12 +42,12 @@ Spent more n used from (Done a v l) = (from < a) × (a ≤ n) × (used ≤ v) ×
 Spent more n used from (Refused k p) = Unit {0}
 
 -- of an expression of its own, at most one cell more was written than bytes were read
-unfoldable pub Over : ℕ → ℕ → Reading → Type 0
+unfoldable pub Over : ℕ → ℕ → Parsed → Type 0
 Over used from (A.Done a v) = (used ≤ v) × (v + from ≤ used + a + 1)
 Over used from (A.Refused k p) = Unit {0}
 
 -- an answer as it is passed on, where so many may follow
-abbrev pub passed : ℕ → Reading → Progress
+abbrev pub passed : ℕ → Parsed → Progress
 passed left (A.Done n v) = Done n v left
 passed left (A.Refused k p) = Refused k p
 

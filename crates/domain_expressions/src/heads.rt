@@ -1,5 +1,5 @@
 // How an expression begins: with a number, or with a bracket and its head word.
-use domain_due::Reading;
+use domain_due::Parsed;
 use text_tokens::tokens;
 use text_tokens::tokens::Token;
 use text_tokens::tokens::Word;
@@ -20,7 +20,7 @@ pub enum ExpressionHead {
     // `-` or `+`: whether it is `-`, where it ends, and how many may follow
     Operation(bool, usize, usize),
     // anything else: its refusal
-    Other(Reading),
+    Other(Parsed),
 }
 
 // The operation of a head word from p to e.
@@ -32,17 +32,17 @@ fn operation_of(h: HeadWord, p: usize, e: usize, left: usize) -> ExpressionHead
     match h {
         HeadWord::Plus => {
             if left == 0 {
-                return ExpressionHead::Other(Reading::Refused(12, p));
+                return ExpressionHead::Other(Parsed::Refused(12, p));
             }
             ExpressionHead::Operation(false, e, left - 1)
         }
         HeadWord::Minus => {
             if left == 0 {
-                return ExpressionHead::Other(Reading::Refused(12, p));
+                return ExpressionHead::Other(Parsed::Refused(12, p));
             }
             ExpressionHead::Operation(true, e, left - 1)
         }
-        _ => ExpressionHead::Other(Reading::Refused(3, p)),
+        _ => ExpressionHead::Other(Parsed::Refused(3, p)),
     }
 }
 
@@ -59,8 +59,8 @@ fn head_at(text: &[u8], from: usize, d: usize, left: usize) -> ExpressionHead
     match k {
         Word::Name => ExpressionHead::Function(p, e),
         Word::Operator => operation_of(fixed::head_of(tokens::word_of(text, t)), p, e, left),
-        Word::Variable => ExpressionHead::Other(Reading::Refused(3, p)),
-        Word::Keyword => ExpressionHead::Other(Reading::Refused(3, p)),
+        Word::Variable => ExpressionHead::Other(Parsed::Refused(3, p)),
+        Word::Keyword => ExpressionHead::Other(Parsed::Refused(3, p)),
     }
 }
 
@@ -73,7 +73,7 @@ pub fn begun_at(text: &[u8], from: usize, d: usize, left: usize) -> ExpressionHe
     let t = tokens::token_at(text, from);
     if let Token::Number(z, p, e) = t {
         if left == 0 {
-            return ExpressionHead::Other(Reading::Refused(12, p));
+            return ExpressionHead::Other(Parsed::Refused(12, p));
         }
         return ExpressionHead::Number(z, e, left - 1);
     }

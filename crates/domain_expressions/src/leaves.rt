@@ -1,6 +1,6 @@
 // What an expression is made of besides expressions: functions, and the ends of operands.
 use crate::references;
-use domain_due::Reading;
+use domain_due::Parsed;
 use domain_rows::layout;
 use domain_terms::scope;
 use domain_terms::scope::Counts;
@@ -26,12 +26,12 @@ pub enum Progress {
 }
 
 // An answer as it is passed on, where so many may follow.
-pub fn progress_of(a: Reading, left: usize) -> Progress
+pub fn progress_of(a: Parsed, left: usize) -> Progress
     ensures { λ r. ⌜ r ≡ passed left a ⌝ }
 {
     match a {
-        Reading::Done(n, v) => Progress::Done(n, v, left),
-        Reading::Refused(k, p) => Progress::Refused(k, p),
+        Parsed::Done(n, v) => Progress::Done(n, v, left),
+        Parsed::Refused(k, p) => Progress::Refused(k, p),
     }
 }
 
@@ -99,19 +99,19 @@ pub fn lone_end(text: &[u8], from: usize, minus: bool) -> Place
 }
 
 // Behind the last operand: a closing bracket.
-pub fn operands_end(text: &[u8], from: usize, d: usize, left: usize) -> Reading
+pub fn operands_end(text: &[u8], from: usize, d: usize, left: usize) -> Parsed
     requires { ⌜ from ≤ length (now text) ⌝ }
     ensures { λ r. ⌜ (r ≡ answerOf (operandsEnd (now (text .entry)) d left from)) × Ahead (length (now (text .entry))) from r ⌝ }
 {
     let t = tokens::token_at(text, from);
     if let Token::Close(p, n) = t {
-        return Reading::Done(n, p);
+        return Parsed::Done(n, p);
     }
     if let Token::Number(_, p, _) = t {
         if left == 0 {
-            return Reading::Refused(12, p);
+            return Parsed::Refused(12, p);
         }
-        return Reading::Refused(3, p);
+        return Parsed::Refused(3, p);
     }
     domain_due::refusal(t, d)
 }
@@ -132,7 +132,7 @@ pub fn joined_at(
         × Spent 0 (length (now (text .entry))) free from r ⌝ }
 {
     let a = operands_end(text, from, d, left);
-    let Reading::Done(n, _) = a else {
+    let Parsed::Done(n, _) = a else {
         return progress_of(a, left);
     };
     domain_literals::put(code, used, operator_cell(minus));

@@ -1,5 +1,5 @@
 // A reference to a fact or a number: its head and its arguments as cells.
-use domain_due::Reading;
+use domain_due::Parsed;
 use domain_terms::arguments;
 use domain_terms::scope;
 use domain_terms::scope::Counts;
@@ -28,7 +28,7 @@ pub fn reference_at(
     tag: usize,
     code: &mut [u8],
     used: usize,
-) -> Reading
+) -> Parsed
     requires { ⌜ (from ≤ length (now text)) × Scopes (now tables) counts × Signatures (now tables) off n
         × (i < n) × (tag ≤ 251) × (used + 2 + (length (now text) - from) ≤ 18446744073709551615) ⌝ }
     ensures { λ r. ⌜ ((c : Scope) (m to : ℕ) (t : Table) → Scoped (now (tables .entry)) counts c → Holds m (part (now (tables .entry)) off to) n t → AllSigned t

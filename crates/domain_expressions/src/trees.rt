@@ -3,7 +3,7 @@ use crate::heads;
 use crate::heads::ExpressionHead;
 use crate::leaves;
 use crate::leaves::Progress;
-use domain_due::Reading;
+use domain_due::Parsed;
 use domain_terms::scope::Counts;
 use text_words::spelling::Place;
 ghost use mathlib.Core.Path.{_≡_};
@@ -69,7 +69,7 @@ pub fn expression_at(
     counts: Counts,
     code: &mut [u8],
     used: usize,
-) -> Reading
+) -> Parsed
     requires { ⌜ (from ≤ length (now text)) × Scopes (now tables) counts × (used + (length (now text) - from) + 1 ≤ 18446744073709551615) ⌝ }
     ensures { λ r. ⌜ ((c : Scope) → Scoped (now (tables .entry)) counts c
         → Wrote cellsOf (now (code .entry)) used r (now (code .exit)) (expression (now (text .entry)) d c from))
@@ -77,7 +77,7 @@ pub fn expression_at(
 {
     let x = expr_at(text, from, d, tables, counts, code, used, 16);
     match x {
-        Progress::Done(n, v, _) => Reading::Done(n, v),
-        Progress::Refused(k, p) => Reading::Refused(k, p),
+        Progress::Done(n, v, _) => Parsed::Done(n, v),
+        Progress::Refused(k, p) => Parsed::Refused(k, p),
     }
 }

@@ -15,8 +15,8 @@ use Rattle.domain_meaning.specs.Read.{Read, got, refused, andThen}
 use Rattle.domain_meaning.specs.Due.{opening, closing}
 use Rattle.domain_meaning.specs.Terms.{Scope}
 use Rattle.domain_meaning.specs.Problem.{Init, nothing, initTo}
-use Rattle.domain_due.specs.declared.Reading.{Reading}
-use Rattle.domain_due.specs.declared.Reading.the-variants.{Done, Refused}
+use Rattle.domain_due.specs.declared.Parsed.{Parsed}
+use Rattle.domain_due.specs.declared.Parsed.the-variants.{Done, Refused}
 use Rattle.domain_due.proofs.Dues.{not-close}
 use Rattle.domain_init.specs.State.{Begins}
 use Rattle.domain_meaning.specs.First.{noFacts, noNumbers}
@@ -31,7 +31,7 @@ record Taken (facts : List ℕ) (numbers : List ℤ) (a : ℕ) (x : Read Init) :
   is : x ≡ got now a
   stands : Stands facts numbers now
 
-module _ (r : Reading) (facts : List ℕ) (numbers : List ℤ) where
+module _ (r : Parsed) (facts : List ℕ) (numbers : List ℤ) where
   took-done : (x : Read Init) (a v : ℕ) → Took r facts numbers x → r ≡ Done a v → Taken facts numbers a x
   unfolding Took
   took-done (got y n) a v h e =
@@ -49,7 +49,7 @@ module _ (r : Reading) (facts : List ℕ) (numbers : List ℤ) where
       let n : q ≡ p = cc in
       rw (i, n)
 
-begins-refused : (r : Reading) (facts : List ℕ) (numbers : List ℤ) (x : Read Init) (k p : ℕ) → x ≡ refused k p → r ≡ Refused k p → Begins r facts numbers x
+begins-refused : (r : Parsed) (facts : List ℕ) (numbers : List ℤ) (x : Read Init) (k p : ℕ) → x ≡ refused k p → r ≡ Refused k p → Begins r facts numbers x
 unfolding Begins
 begins-refused r facts numbers x k p e h = rw e h
 
@@ -91,7 +91,7 @@ module _ (s : List ℕ) (c : Scope) (from : ℕ) (facts : List ℕ) (numbers : L
   holding-close p n q k h = begins-got facts numbers _ (o .init) n (whole (got (o .init) n) (λ j. init-close j s c (o .init) at p n q) k h) (o .stands)
 
   module _ (t : Token) (e : t ≡ tokenAt s at) (w : OneOf (0 ∷ 1 ∷ 2 ∷ 4 ∷ 5 ∷ 6 ∷ []) (tagOf token-type.the-type t))
-      (r : Reading) (facts′ : List ℕ) (numbers′ : List ℤ) (out : Took r facts′ numbers′ (entryOf s c (o .init) at)) where
+      (r : Parsed) (facts′ : List ℕ) (numbers′ : List ℤ) (out : Took r facts′ numbers′ (entryOf s c (o .init) at)) where
     pub holding-refused : (i p : ℕ) → r ≡ Refused i p → (k : ℕ) → length s - from < k → Begins r facts′ numbers′ (initTo k s c nothing from)
     holding-refused i p q k h =
         begins-refused r facts′ numbers′ _ i p

@@ -16,8 +16,8 @@ use Rattle.domain_indexes.specs.Firsts.{firstOf}
 use Rattle.domain_indexes.proofs.Sums.{base-first}
 use Rattle.domain_meaning.specs.Indexes.{sumOf, digits, indexIn, indexOf}
 use Rattle.domain_due.specs.Answers.{answerOf}
-use Rattle.domain_due.specs.declared.Reading.{Reading}
-use Rattle.domain_due.specs.declared.Reading.the-variants.{Done, Refused}
+use Rattle.domain_due.specs.declared.Parsed.{Parsed}
+use Rattle.domain_due.specs.declared.Parsed.the-variants.{Done, Refused}
 use Rattle.domain_terms.specs.Scoped.{AllSigned}
 use Rattle.domain_terms.specs.Cells.{cellOf, argCells, Wrote}
 use Rattle.domain_terms.proofs.Kept.{found-below}
@@ -41,7 +41,7 @@ front l vs n e h =
     ap (λ (x : List ℕ). take n x) (sets-eq vs l 0 (omega arith) ∙ let z : (take 0 l ++ vs) ++ drop (0 + length vs) l ≡ vs ++ drop (0 + length vs) l = refl in z)
     ∙ take-at vs (drop (0 + length vs) l) n e
 
-module _ (code : List ℕ) (r : Reading) (m : List ℕ) where
+module _ (code : List ℕ) (r : Parsed) (m : List ℕ) where
   stored-done : (x : Read (List Arg)) (a v : ℕ) → Wrote argCells code 0 r m x → r ≡ Done a v → Stored code m a v x
   unfolding Wrote
   stored-done (got as′ n) a v h e =
@@ -88,11 +88,11 @@ module _ (s : List ℕ) (d : ℕ) (c : Scope) (t : Table) (i at : ℕ) where
   read-many : (as′ : List Arg) (a : ℕ) → arguments s d c wanted at ≡ got as′ a → length as′ ≡ length wanted
   read-many as′ a e = every-at (Many (length wanted)) _ as′ a e (many s d c wanted at)
 
-  cells-many : (code : List ℕ) (r : Reading) (m : List ℕ) (a v : ℕ) → Wrote argCells code 0 r m (arguments s d c wanted at) → r ≡ Done a v → v ≡ length wanted
+  cells-many : (code : List ℕ) (r : Parsed) (m : List ℕ) (a v : ℕ) → Wrote argCells code 0 r m (arguments s d c wanted at) → r ≡ Done a v → v ≡ length wanted
   cells-many code r m a v w e = let g = stored-done code r m _ a v w e in g .count ∙ read-many (g .args) a (g .is)
 
   -- four cells are enough
-  pub cells-room : (code : List ℕ) (r : Reading) (m : List ℕ) (a v : ℕ) → length code ≡ 4 → length wanted ≤ 4 → Wrote argCells code 0 r m (arguments s d c wanted at) → r ≡ Done a v
+  pub cells-room : (code : List ℕ) (r : Parsed) (m : List ℕ) (a v : ℕ) → length code ≡ 4 → length wanted ≤ 4 → Wrote argCells code 0 r m (arguments s d c wanted at) → r ≡ Done a v
       → (v ≤ length m) × (v ≤ 4)
   cells-room code r m a v four few w e =
       let g = stored-done code r m _ a v w e in
@@ -102,7 +102,7 @@ module _ (s : List ℕ) (d : ℕ) (c : Scope) (t : Table) (i at : ℕ) where
     read-objects : (as′ : List Arg) (a : ℕ) → arguments s d c wanted at ≡ got as′ a → Objects (length (c .objects)) as′
     read-objects as′ a e = every-at (Objects (length (c .objects))) _ as′ a e (objects-only s d c out wanted at)
 
-    pub behind-done : (code : List ℕ) (r : Reading) (m : List ℕ) (a v n first low : ℕ) → length code ≡ 4 → length wanted ≤ 4 → i < length t
+    pub behind-done : (code : List ℕ) (r : Parsed) (m : List ℕ) (a v n first low : ℕ) → length code ≡ 4 → length wanted ≤ 4 → i < length t
         → Wrote argCells code 0 r m (arguments s d c wanted at) → r ≡ Done a v → n ≡ length (c .objects) → first ≡ firstOf n t i → low ≡ digits n 0 (take v m)
         → Done a (first + low) ≡ answerOf (groundBehind s d c t i at)
     unfolding indexOf indexIn

@@ -28,8 +28,8 @@ use Rattle.domain_meaning.specs.Terms.{Scope, reference}
 use Rattle.domain_meaning.specs.Problem.{Init, isGiven, once, withFact, withNumber, factOf, valueOf, initWord, sumsFit}
 use Rattle.domain_meaning.specs.Indexes.{sumOf, indexOf}
 use Rattle.domain_due.specs.Answers.{answerOf, nameOf, Ahead}
-use Rattle.domain_due.specs.declared.Reading.{Reading}
-use Rattle.domain_due.specs.declared.Reading.the-variants.{Done, Refused}
+use Rattle.domain_due.specs.declared.Parsed.{Parsed}
+use Rattle.domain_due.specs.declared.Parsed.the-variants.{Done, Refused}
 use Rattle.domain_due.proofs.Dues.{not-word, not-number, answer-done, answer-refused, any-named, name-refused}
 use Rattle.domain_terms.specs.Scoped.{Scoped, Signatures}
 use Rattle.domain_terms.specs.declared.scope.Counts.{Counts}
@@ -66,7 +66,7 @@ module _ (tables : List ℕ) (n : Counts) (c : Scope) (h : Scoped tables n c) wh
 
 -- ---- places
 
-pub ahead-later : (n at b : ℕ) (r : Reading) → at ≤ b → Ahead n b r → Ahead n at r
+pub ahead-later : (n at b : ℕ) (r : Parsed) → at ≤ b → Ahead n b r → Ahead n at r
 unfolding Ahead
 ahead-later n at b (Done a v) h w = (omega (arith, w .0), w .1)
 ahead-later n at b (Refused k p) h w = tt
@@ -93,7 +93,7 @@ ground-on s d c t p e at f = then-then (declared t p (part s p e) at) _ f ∙ th
 
 -- ---- what was taken
 
-took-refused : (r : Reading) (facts : List ℕ) (numbers : List ℤ) (x : Read Init) (k p : ℕ) → x ≡ refused k p → r ≡ Refused k p → Took r facts numbers x
+took-refused : (r : Parsed) (facts : List ℕ) (numbers : List ℤ) (x : Read Init) (k p : ℕ) → x ≡ refused k p → r ≡ Refused k p → Took r facts numbers x
 unfolding Took
 took-refused r facts numbers x k p e h = rw e h
 
@@ -103,7 +103,7 @@ took-got facts numbers x y n e h = rw e (refl, h)
 
 -- ---- a fact
 
-module _ (s : List ℕ) (c : Scope) (x : Init) (p e : ℕ) (a : Reading) (h : a ≡ answerOf (groundOf s 13 c (c .predicates) p e e)) where
+module _ (s : List ℕ) (c : Scope) (x : Init) (p e : ℕ) (a : Parsed) (h : a ≡ answerOf (groundOf s 13 c (c .predicates) p e e)) where
   pub fact-refused : (facts : List ℕ) (numbers : List ℤ) (k q : ℕ) → a ≡ Refused k q → Took a facts numbers (factOf s c x p e e)
   fact-refused facts numbers k q i =
       took-refused a facts numbers _ k q
@@ -124,17 +124,17 @@ sums-numbers c h = leb-true _ _ (second (leb (sumOf (length (c .objects)) (c .pr
     second true b k = k
     second false b k = absurd (let z : _≡_ {A = ℕ} 0 1 = cc in let y : ⊥ = omega arith in y)
 
-module _ (s : List ℕ) (c : Scope) (x : Init) (at : ℕ) (o : Reading) (ho : o ≡ answerOf (opening s 13 at)) where
+module _ (s : List ℕ) (c : Scope) (x : Init) (at : ℕ) (o : Parsed) (ho : o ≡ answerOf (opening s 13 at)) where
   pub target-shut : (k q : ℕ) → o ≡ Refused k q → o ≡ answerOf (targetOf s c x at)
   unfolding targetOf
   target-shut k q i = rw (answer-refused (opening s 13 at) k q (sym ho ∙ i)) i
 
-  module _ (b q : ℕ) (i : o ≡ Done b q) (w : Reading) (hw : w ≡ nameOf (anyName s 12 b)) where
+  module _ (b q : ℕ) (i : o ≡ Done b q) (w : Parsed) (hw : w ≡ nameOf (anyName s 12 b)) where
     pub target-nameless : (k l : ℕ) → w ≡ Refused k l → w ≡ answerOf (targetOf s c x at)
     unfolding targetOf
     target-nameless k l j = rw (answer-done (opening s 13 at) b q (sym ho ∙ i), name-refused (anyName s 12 b) k l (sym hw ∙ j)) j
 
-    module _ (e p : ℕ) (j : w ≡ Done e p) (a : Reading) (ha : a ≡ answerOf (groundOf s 12 c (c .functions) p e e)) where
+    module _ (e p : ℕ) (j : w ≡ Done e p) (a : Parsed) (ha : a ≡ answerOf (groundOf s 12 c (c .functions) p e e)) where
       target-as : targetOf s c x at ≡ andThen (groundOf s 12 c (c .functions) p e e) (λ y. once p y (x .numbers))
       unfolding targetOf
       target-as =
@@ -161,12 +161,12 @@ module _ (s : List ℕ) (c : Scope) (x : Init) (at : ℕ) (o : Reading) (ho : o 
 -- ---- its value
 
 module _ (s : List ℕ) (x : Init) (i at : ℕ) (facts : List ℕ) where
-  pub value-else : (numbers : List ℤ) (t : Token) (r : Reading) → t ≡ tokenAt s at → OneOf (0 ∷ 2 ∷ 3 ∷ 4 ∷ 5 ∷ 6 ∷ []) (tagOf token-type.the-type t)
+  pub value-else : (numbers : List ℤ) (t : Token) (r : Parsed) → t ≡ tokenAt s at → OneOf (0 ∷ 2 ∷ 3 ∷ 4 ∷ 5 ∷ 6 ∷ []) (tagOf token-type.the-type t)
       → r ≡ Refused (numberOf 13 t) (placeOf t) → Took r facts numbers (valueFor s x i at)
   unfolding valueFor
   value-else numbers t r e o q = took-refused r facts numbers (valueFor s x i at) (numberOf 13 t) (placeOf t) (rw (← e, not-number t _ _ o)) q
 
-  module _ (z : ℤ) (p e : ℕ) (q : tokenAt s at ≡ T.Number z p e) (a : Reading) (h : a ≡ answerOf (closing s 13 e)) where
+  module _ (z : ℤ) (p e : ℕ) (q : tokenAt s at ≡ T.Number z p e) (a : Parsed) (h : a ≡ answerOf (closing s 13 e)) where
     pub value-open : (numbers : List ℤ) (k l : ℕ) → a ≡ Refused k l → Took a facts numbers (valueFor s x i at)
     unfolding valueFor
     value-open numbers k l j = took-refused a facts numbers _ k l (rw (q, answer-refused (closing s 13 e) k l (sym h ∙ j))) j
@@ -176,7 +176,7 @@ module _ (s : List ℕ) (x : Init) (i at : ℕ) (facts : List ℕ) where
     value-done numbers numbers′ n v j k w =
         took-got facts numbers′ _ (withNumber x i z) n (rw (q, answer-done (closing s 13 e) n v (sym h ∙ j))) (stands-number facts numbers x w numbers′ i z k (number-defined s at z p e q))
 
-module _ (s : List ℕ) (c : Scope) (x : Init) (at : ℕ) (a : Reading) (h : a ≡ answerOf (targetOf s c x at)) where
+module _ (s : List ℕ) (c : Scope) (x : Init) (at : ℕ) (a : Parsed) (h : a ≡ answerOf (targetOf s c x at)) where
   value-as : andThen (targetOf s c x at) (λ i. valueFor s x i) ≡ valueOf s c x at
   unfolding targetOf valueFor
   value-as =
@@ -188,18 +188,18 @@ module _ (s : List ℕ) (c : Scope) (x : Init) (at : ℕ) (a : Reading) (h : a �
   pub number-refused : (facts : List ℕ) (numbers : List ℤ) (k p : ℕ) → a ≡ Refused k p → Took a facts numbers (valueOf s c x at)
   number-refused facts numbers k p i = took-refused a facts numbers _ k p (sym value-as ∙ rw (answer-refused (targetOf s c x at) k p (sym h ∙ i))) i
 
-  pub number-done : (facts : List ℕ) (numbers : List ℤ) (n v : ℕ) (r : Reading) → a ≡ Done n v → Took r facts numbers (valueFor s x v n) → Took r facts numbers (valueOf s c x at)
+  pub number-done : (facts : List ℕ) (numbers : List ℤ) (n v : ℕ) (r : Parsed) → a ≡ Done n v → Took r facts numbers (valueFor s x v n) → Took r facts numbers (valueOf s c x at)
   number-done facts numbers n v r i w = rw (← value-as, answer-done (targetOf s c x at) n v (sym h ∙ i)) w
 
 -- ---- with its brackets
 
-module _ (s : List ℕ) (c : Scope) (x : Init) (at : ℕ) (o : Reading) (ho : o ≡ answerOf (opening s 14 at)) (facts : List ℕ) (numbers : List ℤ) where
+module _ (s : List ℕ) (c : Scope) (x : Init) (at : ℕ) (o : Parsed) (ho : o ≡ answerOf (opening s 14 at)) (facts : List ℕ) (numbers : List ℤ) where
   pub entry-shut : (k q : ℕ) → o ≡ Refused k q → Took o facts numbers (entryOf s c x at)
   unfolding entryOf
   entry-shut k q i = took-refused o facts numbers _ k q (rw (answer-refused (opening s 14 at) k q (sym ho ∙ i))) i
 
   module _ (b q : ℕ) (i : o ≡ Done b q) where
-    pub entry-else : (t : Token) (r : Reading) → t ≡ tokenAt s b → OneOf (1 ∷ 2 ∷ 3 ∷ 4 ∷ 5 ∷ 6 ∷ []) (tagOf token-type.the-type t)
+    pub entry-else : (t : Token) (r : Parsed) → t ≡ tokenAt s b → OneOf (1 ∷ 2 ∷ 3 ∷ 4 ∷ 5 ∷ 6 ∷ []) (tagOf token-type.the-type t)
         → r ≡ Refused (numberOf 13 t) (placeOf t) → Took r facts numbers (entryOf s c x at)
     unfolding entryOf
     entry-else t r e w z =
@@ -210,10 +210,10 @@ module _ (s : List ℕ) (c : Scope) (x : Init) (at : ℕ) (o : Reading) (ho : o 
       unfolding entryOf
       entry-as j w = rw (answer-done (opening s 14 at) b q (sym ho ∙ i), t, w)
 
-      pub entry-fact : (r : Reading) → k ≡ W.Name → Took r facts numbers (factOf s c x p e e) → Took r facts numbers (entryOf s c x at)
+      pub entry-fact : (r : Parsed) → k ≡ W.Name → Took r facts numbers (factOf s c x p e e) → Took r facts numbers (entryOf s c x at)
       entry-fact r w z = rw (entry-as W.Name w) z
 
-      pub entry-number : (r : Reading) → k ≡ W.Operator → sameWord (part s p e) (bytes "=") ≡ true → Took r facts numbers (valueOf s c x e) → Took r facts numbers (entryOf s c x at)
+      pub entry-number : (r : Parsed) → k ≡ W.Operator → sameWord (part s p e) (bytes "=") ≡ true → Took r facts numbers (valueOf s c x e) → Took r facts numbers (entryOf s c x at)
       entry-number r w y z = rw (entry-as W.Operator w, y) z
 
       pub entry-operator : k ≡ W.Operator → sameWord (part s p e) (bytes "=") ≡ false → Took (Refused 3 p) facts numbers (entryOf s c x at)

@@ -15,8 +15,8 @@ use Rattle.domain_meaning.specs.Problem.{Valued, Init, once, numberDue, withNum
 use Rattle.domain_meaning.specs.Indexes.{indexOf}
 use Rattle.domain_rows.specs.Held.{Holds}
 use Rattle.domain_terms.specs.Scoped.{AllSigned}
-use Rattle.domain_due.specs.declared.Reading.{Reading}
-use Rattle.domain_due.specs.declared.Reading.the-variants.{Done, Refused}
+use Rattle.domain_due.specs.declared.Parsed.{Parsed}
+use Rattle.domain_due.specs.declared.Parsed.the-variants.{Done, Refused}
 use Rattle.domain_meaning.specs.First.{undefined, firstFacts, firstNumbers}
 
 -- behind its name, number i of a table: the index of a ground fact or number
@@ -76,6 +76,6 @@ pub record Stands (facts : List ℕ) (numbers : List ℤ) (x : Init) : Type 0 wh
   pub defined : Defined (x .numbers)
 
 -- one more was read
-unfoldable pub Took : Reading → List ℕ → List ℤ → Read Init → Type 0
+unfoldable pub Took : Parsed → List ℕ → List ℤ → Read Init → Type 0
 Took r facts numbers (got x n) = (r ≡ Done n 0) × Stands facts numbers x
 Took r facts numbers (refused k p) = r ≡ Refused k p

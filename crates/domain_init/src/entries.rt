@@ -1,7 +1,7 @@
 // What init holds: facts, and numbers behind `=`.
 use crate::grounds;
 use crate::values;
-use domain_due::Reading;
+use domain_due::Parsed;
 use domain_rows::layout;
 use domain_terms::scope::Counts;
 use text_tokens::tokens;
@@ -30,7 +30,7 @@ fn fact_at(
     tables: &[u8],
     counts: Counts,
     facts: &mut [u8],
-) -> Reading
+) -> Parsed
     requires { ⌜ (e ≤ length (now text)) × Scopes (now tables) counts ⌝ }
     ensures { λ r. ⌜ ((c : Scope) (x : Init) (numbers : List ℤ) → Scoped (now (tables .entry)) counts c → c .inAction ≡ false
         → Stands (now (facts .entry)) numbers x → Took r (now (facts .exit)) numbers (factOf (now (text .entry)) c x p e e))
@@ -48,26 +48,26 @@ fn fact_at(
         layout::FUNCTIONS_AT,
         n,
     );
-    let Reading::Done(after, i) = a else {
+    let Parsed::Done(after, i) = a else {
         return a;
     };
     domain_literals::put(facts, i, 1);
-    Reading::Done(after, 0)
+    Parsed::Done(after, 0)
 }
 
 // Behind `=`: the index of the number that is given, if it is not given yet.
-fn target_at(text: &[u8], from: usize, tables: &[u8], counts: Counts, numbers: &[i64]) -> Reading
+fn target_at(text: &[u8], from: usize, tables: &[u8], counts: Counts, numbers: &[i64]) -> Parsed
     requires { ⌜ (from ≤ length (now text)) × Scopes (now tables) counts ⌝ }
     ensures { λ r. ⌜ ((c : Scope) (x : Init) (facts : List ℕ) → Scoped (now (tables .entry)) counts c → c .inAction ≡ false → sumsFit c ≡ true
         → Stands facts (now (numbers .entry)) x → r ≡ answerOf (targetOf (now (text .entry)) c x from))
         × Ahead (length (now (text .entry))) from r ⌝ }
 {
     let o = domain_due::opening(text, from, 13);
-    let Reading::Done(inside, _) = o else {
+    let Parsed::Done(inside, _) = o else {
         return o;
     };
     let w = domain_due::any_name(text, inside, 12);
-    let Reading::Done(e, p) = w else {
+    let Parsed::Done(e, p) = w else {
         return w;
     };
     let n = counts.functions;
@@ -82,17 +82,17 @@ fn target_at(text: &[u8], from: usize, tables: &[u8], counts: Counts, numbers: &
         layout::VARIABLES_AT,
         n,
     );
-    let Reading::Done(_, i) = a else {
+    let Parsed::Done(_, i) = a else {
         return a;
     };
     if values::is_defined(numbers, i) {
-        return Reading::Refused(7, p);
+        return Parsed::Refused(7, p);
     }
     a
 }
 
 // The value of number i, and the closing bracket.
-fn value_at(text: &[u8], from: usize, i: usize, numbers: &mut [i64]) -> Reading
+fn value_at(text: &[u8], from: usize, i: usize, numbers: &mut [i64]) -> Parsed
     requires { ⌜ from ≤ length (now text) ⌝ }
     ensures { λ r. ⌜ ((x : Init) (facts : List ℕ) → Stands facts (now (numbers .entry)) x
         → Took r facts (now (numbers .exit)) (valueFor (now (text .entry)) x i from))
@@ -103,28 +103,22 @@ fn value_at(text: &[u8], from: usize, i: usize, numbers: &mut [i64]) -> Reading
         return domain_due::refusal(t, 13);
     };
     let a = domain_due::closing(text, e, 13);
-    let Reading::Done(after, _) = a else {
+    let Parsed::Done(after, _) = a else {
         return a;
     };
     values::put(numbers, i, z);
-    Reading::Done(after, 0)
+    Parsed::Done(after, 0)
 }
 
 // Behind `=`: a number with its value, to the closing bracket.
-fn number_at(
-    text: &[u8],
-    from: usize,
-    tables: &[u8],
-    counts: Counts,
-    numbers: &mut [i64],
-) -> Reading
+fn number_at(text: &[u8], from: usize, tables: &[u8], counts: Counts, numbers: &mut [i64]) -> Parsed
     requires { ⌜ (from ≤ length (now text)) × Scopes (now tables) counts ⌝ }
     ensures { λ r. ⌜ ((c : Scope) (x : Init) (facts : List ℕ) → Scoped (now (tables .entry)) counts c → c .inAction ≡ false → sumsFit c ≡ true
         → Stands facts (now (numbers .entry)) x → Took r facts (now (numbers .exit)) (valueOf (now (text .entry)) c x from))
         × Ahead (length (now (text .entry))) from r ⌝ }
 {
     let a = target_at(text, from, tables, counts, numbers);
-    let Reading::Done(after, i) = a else {
+    let Parsed::Done(after, i) = a else {
         return a;
     };
     value_at(text, after, i, numbers)
@@ -138,14 +132,14 @@ fn entry_at(
     counts: Counts,
     facts: &mut [u8],
     numbers: &mut [i64],
-) -> Reading
+) -> Parsed
     requires { ⌜ (from ≤ length (now text)) × Scopes (now tables) counts ⌝ }
     ensures { λ r. ⌜ ((c : Scope) (x : Init) → Scoped (now (tables .entry)) counts c → c .inAction ≡ false → sumsFit c ≡ true
         → Stands (now (facts .entry)) (now (numbers .entry)) x → Took r (now (facts .exit)) (now (numbers .exit)) (entryOf (now (text .entry)) c x from))
         × Ahead (length (now (text .entry))) from r ⌝ }
 {
     let o = domain_due::opening(text, from, 14);
-    let Reading::Done(inside, _) = o else {
+    let Parsed::Done(inside, _) = o else {
         return o;
     };
     let t = tokens::token_at(text, inside);
@@ -158,10 +152,10 @@ fn entry_at(
             if spelling::same_word(tokens::word_of(text, t), b"=") {
                 return number_at(text, e, tables, counts, numbers);
             }
-            Reading::Refused(3, p)
+            Parsed::Refused(3, p)
         }
-        Word::Variable => Reading::Refused(3, p),
-        Word::Keyword => Reading::Refused(3, p),
+        Word::Variable => Parsed::Refused(3, p),
+        Word::Keyword => Parsed::Refused(3, p),
     }
 }
 
@@ -173,7 +167,7 @@ pub fn init_to(
     counts: Counts,
     facts: &mut [u8],
     numbers: &mut [i64],
-) -> Reading
+) -> Parsed
     requires { ⌜ (from ≤ length (now text)) × Scopes (now tables) counts × (now facts ≡ noFacts) × (now numbers ≡ noNumbers) ⌝ }
     ensures { λ r. ⌜ ((c : Scope) (k : ℕ) → Scoped (now (tables .entry)) counts c → c .inAction ≡ false → sumsFit c ≡ true
         → length (now (text .entry)) - from < k → Begins r (now (facts .exit)) (now (numbers .exit)) (initTo k (now (text .entry)) c nothing from))
@@ -183,10 +177,10 @@ pub fn init_to(
     loop {
         let t = tokens::token_at(text, at);
         if let Token::Close(_, next) = t {
-            return Reading::Done(next, 0);
+            return Parsed::Done(next, 0);
         }
         let a = entry_at(text, at, tables, counts, facts, numbers);
-        let Reading::Done(after, _) = a else {
+        let Parsed::Done(after, _) = a else {
             return a;
         };
         at = after;

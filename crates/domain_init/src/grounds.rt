@@ -1,5 +1,5 @@
 // Ground facts and numbers: a name with objects, and its index.
-use domain_due::Reading;
+use domain_due::Parsed;
 use domain_terms::arguments;
 use domain_terms::scope;
 use domain_terms::scope::Counts;
@@ -42,7 +42,7 @@ fn index_at(
     off: usize,
     n: usize,
     i: usize,
-) -> Reading
+) -> Parsed
     requires { ⌜ (from ≤ length (now text)) × Scopes (now tables) counts × Signatures (now tables) off n × (i < n) ⌝ }
     ensures { λ r. ⌜ ((c : Scope) (m to : ℕ) (t : Table) → Scoped (now (tables .entry)) counts c → c .inAction ≡ false
         → Holds m (part (now (tables .entry)) off to) n t → AllSigned t → r ≡ answerOf (groundBehind (now (text .entry)) d c t i from))
@@ -51,11 +51,11 @@ fn index_at(
     let objects = counts.objects;
     let mut cells = [0u8; 4];
     let a = arguments::arguments_at(text, from, d, tables, counts, off, n, i, &mut cells, 0);
-    let Reading::Done(after, k) = a else {
+    let Parsed::Done(after, k) = a else {
         return a;
     };
     let low = numeral_of(&cells, k, objects);
-    Reading::Done(
+    Parsed::Done(
         after,
         domain_indexes::first_of(tables, off, n, objects, i) + low,
     )
@@ -72,7 +72,7 @@ pub fn ground_at(
     off: usize,
     to: usize,
     n: usize,
-) -> Reading
+) -> Parsed
     requires { ⌜ (e ≤ length (now text)) × Scopes (now tables) counts × Listed (now tables) off to n ⌝ }
     ensures { λ r. ⌜ ((c : Scope) (m : ℕ) (t : Table) → Scoped (now (tables .entry)) counts c → c .inAction ≡ false
         → Holds m (part (now (tables .entry)) off to) n t → AllSigned t → r ≡ answerOf (groundOf (now (text .entry)) d c t p e e))
@@ -80,7 +80,7 @@ pub fn ground_at(
 {
     let f = scope::find_in(tables, off, to, n, runs::part_of(text, p, e));
     let Place::At(i) = f else {
-        return Reading::Refused(8, p);
+        return Parsed::Refused(8, p);
     };
     index_at(text, e, d, tables, counts, off, n, i)
 }

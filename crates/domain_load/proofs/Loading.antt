@@ -21,8 +21,8 @@ use Rattle.domain_actions.specs.Acted.{declarations}
 use Rattle.domain_domain_text.specs.Knowing.{countsIn, Knows}
 use Rattle.domain_domain_text.specs.declared.Known.{Known}
 use Rattle.domain_domain_text.specs.declared.Known.the-variants as K
-use Rattle.domain_due.specs.declared.Reading.{Reading}
-use Rattle.domain_due.specs.declared.Reading.the-variants as A
+use Rattle.domain_due.specs.declared.Parsed.{Parsed}
+use Rattle.domain_due.specs.declared.Parsed.the-variants as A
 use Rattle.domain_due.proofs.Dues.{never-done}
 use Rattle.domain_problem_text.specs.Posed.{Poses, Posed}
 use Rattle.domain_load.specs.declared.Verdict.{Verdict}
@@ -92,7 +92,7 @@ module _ (s code starts : List ℕ) (r : Known) (tables rows code′ starts′ :
 
 -- ---- the problem, by its answer
 
-posed-got : (t : List ℕ) (d : Domain) (c : Counts) (r : Reading) (tables facts : List ℕ) (numbers : List ℤ) (was goal : List ℕ) (x : Read Problem) (a v : ℕ)
+posed-got : (t : List ℕ) (d : Domain) (c : Counts) (r : Parsed) (tables facts : List ℕ) (numbers : List ℤ) (was goal : List ℕ) (x : Read Problem) (a v : ℕ)
     → Posed t d c r tables facts numbers was goal x → r ≡ A.Done a v → (p : Problem) × (x ≡ got p a) × Poses t d c r tables facts numbers was goal p a × (v ≡ length (p .objects))
 unfolding Posed
 posed-got t d c r tables facts numbers was goal (got p m) a v h q =
@@ -102,7 +102,7 @@ posed-got t d c r tables facts numbers was goal (got p m) a v h q =
     (p, rw i refl, rw i at h, sym j)
 posed-got t d c r tables facts numbers was goal (refused k j) a v h q = never-done k j a v (sym h ∙ q)
 
-posed-not : (t : List ℕ) (d : Domain) (c : Counts) (r : Reading) (tables facts : List ℕ) (numbers : List ℤ) (was goal : List ℕ) (x : Read Problem) (k p : ℕ)
+posed-not : (t : List ℕ) (d : Domain) (c : Counts) (r : Parsed) (tables facts : List ℕ) (numbers : List ℤ) (was goal : List ℕ) (x : Read Problem) (k p : ℕ)
     → Posed t d c r tables facts numbers was goal x → r ≡ A.Refused k p → x ≡ refused k p
 unfolding Posed
 posed-not t d c r tables facts numbers was goal (got y m) k p h q = never-done k p m (length (y .objects)) (sym q ∙ h .answer)
@@ -112,7 +112,7 @@ posed-not t d c r tables facts numbers was goal (refused j i) k p h q =
     let y : i ≡ p = cc in
     rw (z, y)
 
-module _ (s t : List ℕ) (d : Domain) (end : ℕ) (i : readDomain s ≡ got d end) (c : Counts) (r : Reading) (tables facts : List ℕ) (numbers : List ℤ) (was goal : List ℕ)
+module _ (s t : List ℕ) (d : Domain) (end : ℕ) (i : readDomain s ≡ got d end) (c : Counts) (r : Parsed) (tables facts : List ℕ) (numbers : List ℤ) (was goal : List ℕ)
     (h : Posed t d c r tables facts numbers was goal (readProblem t d)) where
   pub no-problem : (k p : ℕ) (v : Verdict) (x : Loaded) → r ≡ A.Refused k p → v ≡ problemVerdict r → x ≡ fixedOf v → x ≡ loadOf s t
   unfolding loadOf

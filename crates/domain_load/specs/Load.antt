@@ -17,8 +17,8 @@ use Rattle.domain_actions.specs.Acted.{declarations}
 use Rattle.domain_domain_text.specs.Knowing.{countsIn}
 use Rattle.domain_domain_text.specs.declared.Known.{Known}
 use Rattle.domain_domain_text.specs.declared.Known.the-variants as K
-use Rattle.domain_due.specs.declared.Reading.{Reading}
-use Rattle.domain_due.specs.declared.Reading.the-variants as A
+use Rattle.domain_due.specs.declared.Parsed.{Parsed}
+use Rattle.domain_due.specs.declared.Parsed.the-variants as A
 use Rattle.domain_load.specs.declared.Model.{Model}
 use Rattle.domain_load.specs.declared.Verdict.{Verdict}
 use Rattle.domain_load.specs.declared.Verdict.the-variants as Is
@@ -76,7 +76,7 @@ abbrev pub domainVerdict : Known → Verdict
 domainVerdict (K.Done p e c n) = Is.Loaded
 domainVerdict (K.Refused k p) = Is.Domain k p
 
-abbrev pub problemVerdict : Reading → Verdict
+abbrev pub problemVerdict : Parsed → Verdict
 problemVerdict (A.Done a v) = Is.Loaded
 problemVerdict (A.Refused k p) = Is.Problem k p
 

@@ -1,6 +1,6 @@
 // Domain and problem, both read whole: the model of what they say and the first state, or the one refusal.
 use domain_domain_text::Known;
-use domain_due::Reading;
+use domain_due::Parsed;
 use domain_terms::scope::Counts;
 use text_tokens::runs;
 ghost use mathlib.Core.Path.{_≡_};
@@ -83,12 +83,12 @@ fn domain_verdict(d: Known) -> Verdict
 }
 
 // The refusal of a problem.
-fn problem_verdict(a: Reading) -> Verdict
+fn problem_verdict(a: Parsed) -> Verdict
     ensures { λ r. ⌜ r ≡ problemVerdict a ⌝ }
 {
     match a {
-        Reading::Done(_, _) => Verdict::Loaded,
-        Reading::Refused(k, p) => Verdict::Problem(k, p),
+        Parsed::Done(_, _) => Verdict::Loaded,
+        Parsed::Refused(k, p) => Verdict::Problem(k, p),
     }
 }
 
@@ -137,7 +137,7 @@ pub fn load(domain: &[u8], problem: &[u8]) -> Loaded
         &mut values,
         &mut goal,
     );
-    let Reading::Done(_, objects) = p else {
+    let Parsed::Done(_, objects) = p else {
         return fixed(problem_verdict(p));
     };
     let mut facts = [0usize; 32];

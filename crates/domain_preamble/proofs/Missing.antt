@@ -17,8 +17,8 @@ use Rattle.domain_meaning.specs.Lists.{typesTo, namesTo, declarations}
 use Rattle.domain_meaning.specs.Domain as G
 use Rattle.domain_meaning.specs.Domain.{opened, other, sectionWord, behindOpen, beginsWith, flagsTo, onlyObject, flagsSection, typesSection, constantsSection, declaredSection}
 use Rattle.domain_due.specs.Answers.{Ahead}
-use Rattle.domain_due.specs.declared.Reading.{Reading}
-use Rattle.domain_due.specs.declared.Reading.the-variants.{Done, Refused}
+use Rattle.domain_due.specs.declared.Parsed.{Parsed}
+use Rattle.domain_due.specs.declared.Parsed.the-variants.{Done, Refused}
 use Rattle.domain_sections.specs.Openings.{openedOf, Further}
 use Rattle.domain_sections.specs.declared.Opened.{Opened}
 use Rattle.domain_sections.specs.declared.Opened.the-variants.{At, Other}
@@ -81,7 +81,7 @@ pub onwards-here : (n at v : ℕ) → at ≤ n → Onwards n at (Done at v)
 unfolding Onwards
 onwards-here n at v h = (omega arith, h)
 
-pub onwards-by : (r : Reading) (n at b : ℕ) → at ≤ b → Ahead n b r → Onwards n at r
+pub onwards-by : (r : Parsed) (n at b : ℕ) → at ≤ b → Ahead n b r → Onwards n at r
 unfolding Onwards Ahead
 onwards-by (Done a v) n at b h k = (omega arith, k .1)
 onwards-by (Refused k p) n at b h q = tt

@@ -12,8 +12,8 @@ use Rattle.domain_meaning.specs.Due.{Name}
 use Rattle.domain_meaning.specs.Lists.{declarations}
 use Rattle.domain_meaning.specs.Domain.{Opened, opened, other, onOpened, Vocabulary, headingOf, beginsWith, flagsSection, typesSection, constantsSection, declaredSection, vocabulary}
 use Rattle.domain_due.specs.Answers.{answerOf}
-use Rattle.domain_due.specs.declared.Reading.{Reading}
-use Rattle.domain_due.specs.declared.Reading.the-variants as A
+use Rattle.domain_due.specs.declared.Parsed.{Parsed}
+use Rattle.domain_due.specs.declared.Parsed.the-variants as A
 use Rattle.domain_due.proofs.Dues.{answer-refused}
 use Rattle.domain_sections.specs.Openings.{titledOf, TitledIn}
 use Rattle.domain_sections.specs.declared.Titled.{Titled}
@@ -58,7 +58,7 @@ pub untitled : (s tables : List ℕ) (t : Titled) (k i : ℕ) → t ≡ titledOf
 unfolding vocabulary Declares
 untitled s tables t k i g q = rw (untitled-by (headingOf s (bytes "domain") 0) k i (sym g ∙ q))
 
-pub flags-refused : (s tables : List ℕ) (t : Titled) (a p e : ℕ) (r : Reading) (k i : ℕ) → t ≡ titledOf (headingOf s (bytes "domain") 0) → t ≡ T.At a p e
+pub flags-refused : (s tables : List ℕ) (t : Titled) (a p e : ℕ) (r : Parsed) (k i : ℕ) → t ≡ titledOf (headingOf s (bytes "domain") 0) → t ≡ T.At a p e
     → r ≡ answerOf (flagsSection s a) → r ≡ A.Refused k i → Declares s (Refused k i) tables (vocabulary s 0)
 unfolding vocabulary Declares
 flags-refused s tables t a p e r k i g h f q =
@@ -67,7 +67,7 @@ flags-refused s tables t a p e r k i g h f q =
 
 -- ---- where a section that may be missing ends
 
-pub onwards-done : (n at a v : ℕ) (r : Reading) → r ≡ A.Done a v → Onwards n at r → (at ≤ a) × (a ≤ n)
+pub onwards-done : (n at a v : ℕ) (r : Parsed) → r ≡ A.Done a v → Onwards n at r → (at ≤ a) × (a ≤ n)
 unfolding Onwards
 onwards-done n at a v r q h = rw q at h
 
@@ -89,7 +89,7 @@ held : (m : ℕ) (rows : List ℕ) (a n : ℕ) (x : Read Table) (t : As m rows a
 held m rows a n x t = rw (t .holds .count) at (t .holds)
 
 module _ (s : List ℕ) (h : Name) (a v from : ℕ) (g : headingOf s (bytes "domain") 0 ≡ got h a) (x1 : flagsSection s a ≡ got v from) (p e : ℕ) (ts os ps fs : List ℕ) where
-  module _ (r : Reading) (k i : ℕ) (q : r ≡ A.Refused k i) where
+  module _ (r : Parsed) (k i : ℕ) (q : r ≡ A.Refused k i) where
     stops : (x : Read Vocabulary) → x ≡ refused k i → Listed (length s) h from p e (Refused k i) ts os ps fs x
     unfolding Listed
     stops x z = rw z refl

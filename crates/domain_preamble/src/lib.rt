@@ -1,7 +1,7 @@
 // What a domain declares before its actions: its name, and the types, constants, predicates and functions in the tables of one scope.
 pub mod vocabulary;
 
-use domain_due::Reading;
+use domain_due::Parsed;
 use domain_rows::layout;
 use domain_sections::Titled;
 use domain_terms::scope::Counts;
@@ -48,22 +48,22 @@ fn tables_at(
         (vocabulary (now (text .entry)) 0)) ⌝ }
 {
     let ts = match vocabulary::types_section(text, from, types) {
-        Reading::Done(end, n) => Section { end, n },
-        Reading::Refused(k, q) => return Preamble::Refused(k, q),
+        Parsed::Done(end, n) => Section { end, n },
+        Parsed::Refused(k, q) => return Preamble::Refused(k, q),
     };
     let os = match vocabulary::constants_section(text, ts.end, types, ts.n, objects) {
-        Reading::Done(end, n) => Section { end, n },
-        Reading::Refused(k, q) => return Preamble::Refused(k, q),
+        Parsed::Done(end, n) => Section { end, n },
+        Parsed::Refused(k, q) => return Preamble::Refused(k, q),
     };
     let more = declared_section(text, os.end, b":predicates", types, ts.n, predicates, 32, 3);
     let ps = match more {
-        Reading::Done(end, n) => Section { end, n },
-        Reading::Refused(k, q) => return Preamble::Refused(k, q),
+        Parsed::Done(end, n) => Section { end, n },
+        Parsed::Refused(k, q) => return Preamble::Refused(k, q),
     };
     let last = declared_section(text, ps.end, b":functions", types, ts.n, functions, 16, 2);
     match last {
-        Reading::Refused(k, q) => Preamble::Refused(k, q),
-        Reading::Done(end, count) => {
+        Parsed::Refused(k, q) => Preamble::Refused(k, q),
+        Parsed::Done(end, count) => {
             let counts = Counts {
                 types: ts.n,
                 objects: os.n,
@@ -100,8 +100,8 @@ pub fn preamble_at(text: &[u8], tables: &mut [u8]) -> Preamble
         Titled::Refused(k, p) => Preamble::Refused(k, p),
         Titled::At(behind, p, e) => {
             let from = match vocabulary::flags_section(text, behind) {
-                Reading::Done(from, _) => from,
-                Reading::Refused(k, q) => return Preamble::Refused(k, q),
+                Parsed::Done(from, _) => from,
+                Parsed::Refused(k, q) => return Preamble::Refused(k, q),
             };
             let mut types = [0u8; layout::TYPES_LENGTH];
             let mut objects = [0u8; layout::OBJECTS_LENGTH];

@@ -1,5 +1,5 @@
 // What a domain declares before its actions: types, constants, predicates and functions, each section optional, read into tables.
-use domain_due::Reading;
+use domain_due::Parsed;
 use domain_sections::Opened;
 use domain_typed_lists::declarations;
 use domain_typed_lists::typed;
@@ -15,19 +15,19 @@ ghost use Rattle.domain_typed_lists.specs.Outcome.{Outcome};
 ghost use Rattle.domain_preamble.specs.Onwards.{Onwards};
 
 // The requirement flags.
-pub fn flags_section(text: &[u8], from: usize) -> Reading
+pub fn flags_section(text: &[u8], from: usize) -> Parsed
     requires { ⌜ from ≤ length (now text) ⌝ }
     ensures { λ r. ⌜ (r ≡ answerOf (flagsSection (now (text .entry)) from)) × Onwards (length (now (text .entry))) from r ⌝ }
 {
     let o = domain_sections::begins_at(text, from, b":requirements");
     let Opened::At(_, inside) = o else {
-        return Reading::Done(from, 0);
+        return Parsed::Done(from, 0);
     };
     domain_sections::flags_to(text, inside)
 }
 
 // The types; without the section `object` alone.
-pub fn types_section(text: &[u8], from: usize, rows: &mut [u8]) -> Reading
+pub fn types_section(text: &[u8], from: usize, rows: &mut [u8]) -> Parsed
     requires { ⌜ (from ≤ length (now text)) × (now rows ≡ rowsOf 17 []) ⌝ }
     ensures { λ r. ⌜ Outcome 17 r (now (rows .exit)) (typesSection (now (text .entry)) from) × Onwards (length (now (text .entry))) from r ⌝ }
 {
@@ -35,7 +35,7 @@ pub fn types_section(text: &[u8], from: usize, rows: &mut [u8]) -> Reading
     let Opened::At(_, inside) = o else {
         let root = [0u8; 1];
         domain_rows::enter(rows, 17, 0, b"object", &root);
-        return Reading::Done(from, 1);
+        return Parsed::Done(from, 1);
     };
     typed::types_to(text, inside, rows)
 }
@@ -46,14 +46,14 @@ pub fn constants_section(
     types: &[u8],
     tn: usize,
     rows: &mut [u8],
-) -> Reading
+) -> Parsed
     requires { ⌜ (from ≤ length (now text)) × Stands 17 (now types) tn × (now rows ≡ rowsOf 64 []) ⌝ }
     ensures { λ r. ⌜ ((ts : Table) → Holds 17 (now (types .entry)) tn ts → Outcome 64 r (now (rows .exit)) (constantsSection (now (text .entry)) ts from))
         × Onwards (length (now (text .entry))) from r ⌝ }
 {
     let o = domain_sections::begins_at(text, from, b":constants");
     let Opened::At(_, inside) = o else {
-        return Reading::Done(from, 0);
+        return Parsed::Done(from, 0);
     };
     typed::names_to(text, inside, types, tn, rows, 0)
 }
@@ -68,7 +68,7 @@ pub fn declared_section(
     rows: &mut [u8],
     max: usize,
     most: usize,
-) -> Reading
+) -> Parsed
     requires { ⌜ (from ≤ length (now text)) × Stands 17 (now types) tn × (now rows ≡ rowsOf max []) × (most ≤ 3) ⌝ }
     ensures { λ r. ⌜ ((ts : Table) → Holds 17 (now (types .entry)) tn ts
         → Outcome max r (now (rows .exit)) (declaredSection (now (text .entry)) (now (w .entry)) ts max most from))
@@ -76,7 +76,7 @@ pub fn declared_section(
 {
     let o = domain_sections::begins_at(text, from, w);
     let Opened::At(_, inside) = o else {
-        return Reading::Done(from, 0);
+        return Parsed::Done(from, 0);
     };
     declarations::declarations_at(text, inside, types, tn, rows, max, most, 0)
 }

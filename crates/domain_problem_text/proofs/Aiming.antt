@@ -13,8 +13,8 @@ use Rattle.domain_meaning.specs.Terms.{Scope}
 use Rattle.domain_meaning.specs.Conditions.{Cond, condition}
 use Rattle.domain_meaning.specs.Problem.{goalTo, sumsFit, sumsAt, sectionDueOf}
 use Rattle.domain_due.specs.Answers.{answerOf}
-use Rattle.domain_due.specs.declared.Reading.{Reading}
-use Rattle.domain_due.specs.declared.Reading.the-variants.{Done, Refused}
+use Rattle.domain_due.specs.declared.Parsed.{Parsed}
+use Rattle.domain_due.specs.declared.Parsed.the-variants.{Done, Refused}
 use Rattle.domain_due.proofs.Dues.{answer-done, answer-refused, never-done}
 use Rattle.domain_expressions.specs.Codes.{Written, Spent}
 use Rattle.domain_expressions.specs.declared.leaves.Progress.{Progress}
@@ -35,7 +35,7 @@ module _ (s : List ℕ) (c : Scope) (at : ℕ) (goal : List ℕ) (r₁ : Progres
   unfolding Reached
   reached-not k p e = rw (written-not condCells goal 0 r₁ m (condition 14 s c 64 at) k p w e)
 
-  module _ (a v l : ℕ) (e : r₁ ≡ P.Done a v l) (r : Reading) (q : r ≡ answerOf (closing s 14 a)) where
+  module _ (a v l : ℕ) (e : r₁ ≡ P.Done a v l) (r : Parsed) (q : r ≡ answerOf (closing s 14 a)) where
     pub reached-open : (k p : ℕ) → r ≡ Refused k p → Reached (length s) r goal m (goalTo s c at)
     unfolding Reached
     reached-open k p f =
@@ -50,13 +50,13 @@ module _ (s : List ℕ) (c : Scope) (at : ℕ) (goal : List ℕ) (r₁ : Progres
 
 -- ---- the section
 
-module _ (n : ℕ) (c : Scope) (r : Reading) (goal goal′ : List ℕ) where
+module _ (n : ℕ) (c : Scope) (r : Parsed) (goal goal′ : List ℕ) where
   aimed-by : (judged : Bool) (x : Read Cond) → Reached n r goal goal′ x → (judged ≡ false → sumsFit c ≡ true) → Aimed n c judged r goal goal′ x
   unfolding Reached Aimed
   aimed-by judged (got g a) h f = (h .0, h .1, h .2, f)
   aimed-by judged (refused k p) h f = h
 
-module _ (s : List ℕ) (c : Scope) (at : ℕ) (judged : Bool) (r : Reading) (goal goal′ : List ℕ) where
+module _ (s : List ℕ) (c : Scope) (at : ℕ) (judged : Bool) (r : Parsed) (goal goal′ : List ℕ) where
   pub aimed-undue : (k p : ℕ) → sectionDueOf s (bytes ":goal") at ≡ refused k p → r ≡ Refused k p → Aimed (length s) c judged r goal goal′ (goalFrom s c judged at)
   unfolding goalFrom Aimed
   aimed-undue k p e q = rw e q
@@ -83,7 +83,7 @@ pub record Goal (n : ℕ) (c : Scope) (judged : Bool) (was goal′ : List ℕ) (
   pub few : length (condCells tree) ≤ n
   pub fits : judged ≡ false → sumsFit c ≡ true
 
-module _ (n : ℕ) (c : Scope) (judged : Bool) (r : Reading) (was goal′ : List ℕ) where
+module _ (n : ℕ) (c : Scope) (judged : Bool) (r : Parsed) (was goal′ : List ℕ) where
   pub aimed-got : (x : Read Cond) (a v : ℕ) → Aimed n c judged r was goal′ x → r ≡ Done a v → Goal n c judged was goal′ a x
   unfolding Aimed
   aimed-got (got g i) a v h e =

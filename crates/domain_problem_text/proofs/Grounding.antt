@@ -11,8 +11,8 @@ use Rattle.domain_meaning.specs.Tables.{Table}
 use Rattle.domain_meaning.specs.Lists.{namesTo}
 use Rattle.domain_meaning.specs.Domain.{Domain, opened, other, beginsWith, section}
 use Rattle.domain_meaning.specs.Problem.{scopeOf}
-use Rattle.domain_due.specs.declared.Reading.{Reading}
-use Rattle.domain_due.specs.declared.Reading.the-variants.{Done, Refused}
+use Rattle.domain_due.specs.declared.Parsed.{Parsed}
+use Rattle.domain_due.specs.declared.Parsed.the-variants.{Done, Refused}
 use Rattle.domain_rows.specs.Held.{Holds}
 use Rattle.domain_rows.proofs.Parts.{part-before, part-behind, part-stored}
 use Rattle.domain_rows.proofs.Rows.{rows-long}
@@ -38,7 +38,7 @@ part-back l ys a k e room = rw (drop-drop k a l, e, sets-eq ys l a room, append-
 -- ---- the tables with other objects
 
 module _ (was : List ℕ) (n : Counts) (d : Domain) (h : Scoped was n (scopeOf d (d .constants))) (long : length was ≡ 5054) where
-  pub grounded-none : (r : Reading) (at : ℕ) → r ≡ Done at (n .objects) → Grounded n r was d (got (d .constants) at)
+  pub grounded-none : (r : Parsed) (at : ℕ) → r ≡ Done at (n .objects) → Grounded n r was d (got (d .constants) at)
   unfolding Grounded
   grounded-none r at e = (
     rw e (ap (Done at) (h .objects .count)),
@@ -70,7 +70,7 @@ module _ (was : List ℕ) (n : Counts) (d : Domain) (h : Scoped was n (scopeOf d
         numbers = h .numbers;
       }
 
-  pub grounded : (r : Reading) (ys : List ℕ) (x : Read Table) → Outcome 64 r ys x → Grounded n r (take 646 was ++ (ys ++ drop 2432 (drop 646 was))) d x
+  pub grounded : (r : Parsed) (ys : List ℕ) (x : Read Table) → Outcome 64 r ys x → Grounded n r (take 646 was ++ (ys ++ drop 2432 (drop 646 was))) d x
   unfolding Outcome Grounded
   grounded r ys (got os a) o =
       let l : length ys ≡ 2432 = rows-long 64 ys (length os) os (o .1) in
@@ -80,10 +80,10 @@ module _ (was : List ℕ) (n : Counts) (d : Domain) (h : Scoped was n (scopeOf d
 
 -- ---- the section
 
-pub grounded-by : (n : Counts) (r : Reading) (tables : List ℕ) (d : Domain) (x y : Read Table) → x ≡ y → Grounded n r tables d y → Grounded n r tables d x
+pub grounded-by : (n : Counts) (r : Parsed) (tables : List ℕ) (d : Domain) (x y : Read Table) → x ≡ y → Grounded n r tables d y → Grounded n r tables d x
 grounded-by n r tables d x y e h = rw e h
 
-pub grounded-refused : (n : Counts) (r : Reading) (tables : List ℕ) (d : Domain) (x : Read Table) (k p : ℕ) → x ≡ refused k p → r ≡ Refused k p → Grounded n r tables d x
+pub grounded-refused : (n : Counts) (r : Parsed) (tables : List ℕ) (d : Domain) (x : Read Table) (k p : ℕ) → x ≡ refused k p → r ≡ Refused k p → Grounded n r tables d x
 unfolding Grounded
 grounded-refused n r tables d x k p e h = rw e h
 

@@ -13,8 +13,8 @@ use Rattle.domain_meaning.specs.Lists.{namesTo}
 use Rattle.domain_meaning.specs.Domain.{Domain, section, headingOf}
 use Rattle.domain_meaning.specs.Problem.{sectionDueOf, ofDomain, premises}
 use Rattle.domain_due.specs.Answers.{answerOf, Ahead}
-use Rattle.domain_due.specs.declared.Reading.{Reading}
-use Rattle.domain_due.specs.declared.Reading.the-variants.{Done, Refused}
+use Rattle.domain_due.specs.declared.Parsed.{Parsed}
+use Rattle.domain_due.specs.declared.Parsed.the-variants.{Done, Refused}
 use Rattle.domain_due.proofs.Dues.{answer-done}
 use Rattle.domain_preamble.specs.Onwards.{Onwards}
 use Rattle.domain_sections.specs.Openings.{titledOf, TitledIn}
@@ -22,7 +22,7 @@ use Rattle.domain_sections.specs.declared.Titled.{Titled}
 use Rattle.domain_sections.specs.declared.Titled.the-variants as H
 
 -- what was read, by what was answered of it
-pub read-by : (x : Read ℕ) (r : Reading) (a v : ℕ) → r ≡ answerOf x → r ≡ Done a v → x ≡ got v a
+pub read-by : (x : Read ℕ) (r : Parsed) (a v : ℕ) → r ≡ answerOf x → r ≡ Done a v → x ≡ got v a
 read-by x r a v q e = answer-done x a v (sym q ∙ e)
 
 -- what was answered of two words, of those that they are
@@ -31,17 +31,17 @@ same-as r t v w x y q e f h = rw (← e, ← f) (sym q ∙ h)
 
 -- ---- places
 
-pub ahead-further : (r : Reading) (n at b : ℕ) → at ≤ b → Ahead n b r → Ahead n at r
+pub ahead-further : (r : Parsed) (n at b : ℕ) → at ≤ b → Ahead n b r → Ahead n at r
 unfolding Ahead
 ahead-further (Done a v) n at b h k = (omega (arith, k .0), k .1)
 ahead-further (Refused k p) n at b h q = tt
 
-pub onwards-further : (r : Reading) (n at b : ℕ) → at ≤ b → Onwards n b r → Onwards n at r
+pub onwards-further : (r : Parsed) (n at b : ℕ) → at ≤ b → Onwards n b r → Onwards n at r
 unfolding Onwards
 onwards-further (Done a v) n at b h k = (omega (arith, k .0), k .1)
 onwards-further (Refused k p) n at b h q = tt
 
-pub onwards-refused : (n at k p : ℕ) (r : Reading) → r ≡ Refused k p → Onwards n at r
+pub onwards-refused : (n at k p : ℕ) (r : Parsed) → r ≡ Refused k p → Onwards n at r
 unfolding Onwards
 onwards-refused n at k p r e = rw e tt
 

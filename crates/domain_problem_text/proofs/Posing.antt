@@ -11,8 +11,8 @@ use Rattle.domain_meaning.specs.Tables.{Table}
 use Rattle.domain_meaning.specs.Terms.{Scope}
 use Rattle.domain_meaning.specs.Domain.{Domain}
 use Rattle.domain_meaning.specs.Problem.{Problem, scopeOf, premises, problemText, readProblem}
-use Rattle.domain_due.specs.declared.Reading.{Reading}
-use Rattle.domain_due.specs.declared.Reading.the-variants.{Done, Refused}
+use Rattle.domain_due.specs.declared.Parsed.{Parsed}
+use Rattle.domain_due.specs.declared.Parsed.the-variants.{Done, Refused}
 use Rattle.domain_due.proofs.Dues.{never-done}
 use Rattle.domain_terms.specs.Scoped.{Scoped, Scopes}
 use Rattle.domain_terms.specs.declared.scope.Counts.{Counts}
@@ -50,7 +50,7 @@ pub record Premises (counts : Counts) (tables : List ℕ) (d : Domain) (a v : �
   pub scope : Scoped tables (withObjects counts v) (scopeOf d objects)
   pub long : length tables ≡ 5054
 
-module _ (counts : Counts) (r : Reading) (tables : List ℕ) (d : Domain) where
+module _ (counts : Counts) (r : Parsed) (tables : List ℕ) (d : Domain) where
   pub grounded-got : (x : Read Table) (a v : ℕ) → Grounded counts r tables d x → r ≡ Done a v → Premises counts tables d a v x
   unfolding Grounded
   grounded-got (got os n) a v h e =
@@ -71,7 +71,7 @@ premises-scope counts tables d a v x h = (scopeOf d (h .objects), h .scope)
 
 -- ---- the whole
 
-module _ (s : List ℕ) (d : Domain) (counts : Counts) (r : Reading) (tables facts : List ℕ) (numbers : List ℤ) (was goal′ : List ℕ) where
+module _ (s : List ℕ) (d : Domain) (counts : Counts) (r : Parsed) (tables facts : List ℕ) (numbers : List ℤ) (was goal′ : List ℕ) where
   pub posed-refused : (k p : ℕ) → premises s d 0 ≡ refused k p → r ≡ Refused k p → Posed s d counts r tables facts numbers was goal′ (readProblem s d)
   unfolding readProblem problemText Posed
   posed-refused k p e q = rw e q

@@ -13,8 +13,8 @@ use Rattle.domain_meaning.specs.Conditions.{Cond}
 use Rattle.domain_meaning.specs.Domain.{Opened, opened, other, onOpened, beginsWith, ending}
 use Rattle.domain_meaning.specs.Problem.{Init, Problem, nothing, initAt, sumsFit, sumsAt, sectionDueOf, goalTo, initAndGoal}
 use Rattle.domain_due.specs.Answers.{answerOf}
-use Rattle.domain_due.specs.declared.Reading.{Reading}
-use Rattle.domain_due.specs.declared.Reading.the-variants.{Done, Refused}
+use Rattle.domain_due.specs.declared.Parsed.{Parsed}
+use Rattle.domain_due.specs.declared.Parsed.the-variants.{Done, Refused}
 use Rattle.domain_due.proofs.Dues.{answer-done, answer-refused}
 use Rattle.domain_preamble.specs.Onwards.{Onwards}
 use Rattle.domain_sections.proofs.Short.{ending-short}
@@ -62,13 +62,13 @@ module _ (s : List ℕ) (c : Scope) where
       go (got o n) = on o (onOpened o (λ p. initAt s c p) (give nothing) n)
       go (refused k p) = refl
 
-pub onwards-at : (n at a v : ℕ) (r : Reading) → r ≡ Done a v → Onwards n at r → (at ≤ a) × (a ≤ n)
+pub onwards-at : (n at a v : ℕ) (r : Parsed) → r ≡ Done a v → Onwards n at r → (at ≤ a) × (a ≤ n)
 unfolding Onwards
 onwards-at n at a v r e h = rw e at h
 
 -- ---- one after the other, until one is refused
 
-module _ (s : List ℕ) (c : Scope) (at : ℕ) (r : Reading) (facts : List ℕ) (numbers : List ℤ) (was goal′ : List ℕ) where
+module _ (s : List ℕ) (c : Scope) (at : ℕ) (r : Parsed) (facts : List ℕ) (numbers : List ℤ) (was goal′ : List ℕ) where
   pub settled-unstarted : (k p : ℕ) → startAt s c at ≡ refused k p → r ≡ Refused k p → Settled s c r facts numbers was goal′ (restOf s c at)
   unfolding restOf Settled
   settled-unstarted k p e q = rw (parts s c at, e) q
@@ -87,7 +87,7 @@ module _ (s : List ℕ) (c : Scope) (at : ℕ) (r : Reading) (facts : List ℕ) 
       fit true e = x .fits (sym (x .flag) ∙ e)
       fit false e = g .fits e
 
-      pub settled : (z : Reading) (n w i : ℕ) → z ≡ answerOf (ending s b) → z ≡ Done n w → i ≡ length (c .objects) → r ≡ Done n i → Settled s c r facts numbers was goal′ (restOf s c at)
+      pub settled : (z : Parsed) (n w i : ℕ) → z ≡ answerOf (ending s b) → z ≡ Done n w → i ≡ length (c .objects) → r ≡ Done n i → Settled s c r facts numbers was goal′ (restOf s c at)
       unfolding restOf Settled
       settled z n w i q e o f =
           let k = answer-done (ending s b) n w (sym q ∙ e) in

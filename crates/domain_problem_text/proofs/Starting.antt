@@ -13,8 +13,8 @@ use Rattle.domain_meaning.specs.Terms.{Scope}
 use Rattle.domain_meaning.specs.Domain.{opened, other, beginsWith}
 use Rattle.domain_meaning.specs.Problem.{Init, nothing, initTo, sumsFit, sumsAt}
 use Rattle.domain_due.specs.Answers.{answerOf}
-use Rattle.domain_due.specs.declared.Reading.{Reading}
-use Rattle.domain_due.specs.declared.Reading.the-variants.{Done, Refused}
+use Rattle.domain_due.specs.declared.Parsed.{Parsed}
+use Rattle.domain_due.specs.declared.Parsed.the-variants.{Done, Refused}
 use Rattle.domain_due.proofs.Dues.{answer-refused, never-done}
 use Rattle.domain_init.specs.State.{Begins}
 use Rattle.domain_meaning.specs.First.{noFacts, noNumbers, factsFrom, numbersFrom, firstFacts, firstNumbers}
@@ -24,20 +24,20 @@ pub never-true : {A : Type 0} → false ≡ true → A
 never-true h = absurd (let z : _≡_ {A = ℕ} 0 1 = cc in let y : ⊥ = omega arith in y)
 
 -- where reading goes on behind the sums, they fit
-pub sums-fit : (c : Scope) (p at : ℕ) (r : Reading) (a v : ℕ) → r ≡ answerOf (sumsAt c p at) → r ≡ Done a v → sumsFit c ≡ true
+pub sums-fit : (c : Scope) (p at : ℕ) (r : Parsed) (a v : ℕ) → r ≡ answerOf (sumsAt c p at) → r ≡ Done a v → sumsFit c ≡ true
 sums-fit c p at r a v q e = go (sumsFit c) (sym q ∙ e)
   where
     go : (t : Bool) → answerOf (cond t (give p) (refuse 12 p) at) ≡ Done a v → t ≡ true
     go true h = refl
     go false h = never-done 12 p a v h
 
-start-begins : (c : Scope) (r : Reading) (facts : List ℕ) (numbers : List ℤ) (x : Read Init) (a v : ℕ) → Begins r facts numbers x → r ≡ Done a v → sumsFit c ≡ true
+start-begins : (c : Scope) (r : Parsed) (facts : List ℕ) (numbers : List ℤ) (x : Read Init) (a v : ℕ) → Begins r facts numbers x → r ≡ Done a v → sumsFit c ≡ true
     → Started c (Done a 1) facts numbers (andThen x (λ i. give (starting true i)))
 unfolding Begins Started
 start-begins c r facts numbers (got i n) a v h e f = let q : Done n 0 ≡ Done a v = sym (h .0) ∙ e in let z : n ≡ a = cc in (rw z, h .1, h .2, λ _. f)
 start-begins c r facts numbers (refused k p) a v h e f = never-done k p a v (sym h ∙ e)
 
-start-ends : (c : Scope) (r : Reading) (facts : List ℕ) (numbers : List ℤ) (x : Read Init) (k p : ℕ) → Begins r facts numbers x → r ≡ Refused k p
+start-ends : (c : Scope) (r : Parsed) (facts : List ℕ) (numbers : List ℤ) (x : Read Init) (k p : ℕ) → Begins r facts numbers x → r ≡ Refused k p
     → Started c r facts numbers (andThen x (λ i. give (starting true i)))
 unfolding Begins Started
 start-ends c r facts numbers (got i n) k p h e = never-done k p n 0 (sym e ∙ h .0)
@@ -49,7 +49,7 @@ module _ (s : List ℕ) (c : Scope) (at : ℕ) where
   unfolding startAt Started firstFacts firstNumbers factsFrom numbersFrom
   start-none facts numbers q f n = rw q (refl, f, n, λ h. never-true h)
 
-  module _ (p e : ℕ) (q : beginsWith s (bytes ":init") at ≡ got (opened p) e) (r : Reading) (facts : List ℕ) (numbers : List ℤ) where
+  module _ (p e : ℕ) (q : beginsWith s (bytes ":init") at ≡ got (opened p) e) (r : Parsed) (facts : List ℕ) (numbers : List ℤ) where
     pub start-unfit : (k i : ℕ) → r ≡ answerOf (sumsAt c p e) → r ≡ Refused k i → Started c r facts numbers (startAt s c at)
     unfolding startAt Started
     start-unfit k i h g = rw (q, answer-refused (sumsAt c p e) k i (sym h ∙ g)) g
@@ -77,7 +77,7 @@ flag-is : (j : Bool) (v : ℕ) → cond j 1 0 ≡ v → eqb v 1 ≡ j
 flag-is true v e = rw (← e)
 flag-is false v e = rw (← e)
 
-module _ (c : Scope) (r : Reading) (facts : List ℕ) (numbers : List ℤ) where
+module _ (c : Scope) (r : Parsed) (facts : List ℕ) (numbers : List ℤ) where
   pub started-got : (x : Read Start) (a v : ℕ) → Started c r facts numbers x → r ≡ Done a v → Begun c facts numbers a v x
   unfolding Started
   started-got (got i n) a v h e =

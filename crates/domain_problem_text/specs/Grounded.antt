@@ -7,8 +7,8 @@ use Rattle.domain_meaning.specs.Read.{Read, got, refused}
 use Rattle.domain_meaning.specs.Tables.{Table}
 use Rattle.domain_meaning.specs.Domain.{Domain}
 use Rattle.domain_meaning.specs.Problem.{scopeOf}
-use Rattle.domain_due.specs.declared.Reading.{Reading}
-use Rattle.domain_due.specs.declared.Reading.the-variants.{Done, Refused}
+use Rattle.domain_due.specs.declared.Parsed.{Parsed}
+use Rattle.domain_due.specs.declared.Parsed.the-variants.{Done, Refused}
 use Rattle.domain_terms.specs.Scoped.{Scoped}
 use Rattle.domain_terms.specs.declared.scope.Counts.{Counts}
 
@@ -25,6 +25,6 @@ withObjects c n =
     }
 
 -- the objects were read: the answer has their number, and the tables hold them beside what the domain declares
-unfoldable pub Grounded : Counts → Reading → List ℕ → Domain → Read Table → Type 0
+unfoldable pub Grounded : Counts → Parsed → List ℕ → Domain → Read Table → Type 0
 Grounded c r tables d (got os n) = (r ≡ Done n (length os)) × Scoped tables (withObjects c (length os)) (scopeOf d os) × (length tables ≡ 5054)
 Grounded c r tables d (refused k p) = r ≡ Refused k p

@@ -9,8 +9,8 @@ use lib.Seq.{sets}
 use Rattle.domain_meaning.specs.Read.{Read, got, refused}
 use Rattle.domain_meaning.specs.Domain.{Domain}
 use Rattle.domain_meaning.specs.Problem.{Problem, scopeOf, sumsFit}
-use Rattle.domain_due.specs.declared.Reading.{Reading}
-use Rattle.domain_due.specs.declared.Reading.the-variants.{Done, Refused}
+use Rattle.domain_due.specs.declared.Parsed.{Parsed}
+use Rattle.domain_due.specs.declared.Parsed.the-variants.{Done, Refused}
 use Rattle.domain_terms.specs.Scoped.{Scoped}
 use Rattle.domain_terms.specs.declared.scope.Counts.{Counts}
 use Rattle.domain_stored_meaning.specs.Cells.{condCells}
@@ -18,7 +18,7 @@ use Rattle.domain_problem_text.specs.Grounded.{withObjects}
 use Rattle.domain_meaning.specs.First.{firstFacts, firstNumbers}
 
 -- the problem p was read, to the place n
-pub record Poses (s : List ℕ) (d : Domain) (counts : Counts) (r : Reading) (tables′ : List ℕ) (facts′ : List ℕ)
+pub record Poses (s : List ℕ) (d : Domain) (counts : Counts) (r : Parsed) (tables′ : List ℕ) (facts′ : List ℕ)
     (numbers′ : List ℤ) (was goal′ : List ℕ) (p : Problem) (n : ℕ) : Type 0 where
   pub answer : r ≡ Done n (length (p .objects))
   pub scope : Scoped tables′ (withObjects counts (length (p .objects))) (scopeOf d (p .objects))
@@ -31,6 +31,6 @@ pub record Poses (s : List ℕ) (d : Domain) (counts : Counts) (r : Reading) (ta
   pub fits : sumsFit (scopeOf d (p .objects)) ≡ true
 
 -- what is answered of the text s, and what the tables, the first facts and numbers and the goal are then
-unfoldable pub Posed : List ℕ → Domain → Counts → Reading → List ℕ → List ℕ → List ℤ → List ℕ → List ℕ → Read Problem → Type 0
+unfoldable pub Posed : List ℕ → Domain → Counts → Parsed → List ℕ → List ℕ → List ℤ → List ℕ → List ℕ → Read Problem → Type 0
 Posed s d counts r tables′ facts′ numbers′ was goal′ (got p n) = Poses s d counts r tables′ facts′ numbers′ was goal′ p n
 Posed s d counts r tables′ facts′ numbers′ was goal′ (refused k p) = r ≡ Refused k p

@@ -2,7 +2,7 @@
 pub mod premises;
 
 use domain_conditions::trees;
-use domain_due::Reading;
+use domain_due::Parsed;
 use domain_expressions::leaves::Progress;
 use domain_init::entries;
 use domain_sections::Opened;
@@ -28,7 +28,7 @@ fn init_at(
     counts: Counts,
     facts: &mut [u8],
     numbers: &mut [i64],
-) -> Reading
+) -> Parsed
     requires { ⌜ (from ≤ length (now text)) × Scopes (now tables) counts × (now facts ≡ noFacts) × (now numbers ≡ noNumbers) ⌝ }
     ensures { λ r. ⌜ ((c : Scope) → Scoped (now (tables .entry)) counts c → c .inAction ≡ false
         → Started c r (now (facts .exit)) (now (numbers .exit)) (startAt (now (text .entry)) c from))
@@ -36,34 +36,34 @@ fn init_at(
 {
     let o = domain_sections::begins_at(text, from, b":init");
     let Opened::At(p, inside) = o else {
-        return Reading::Done(from, 0);
+        return Parsed::Done(from, 0);
     };
     let a = premises::sums_at(tables, counts, inside, p);
-    let Reading::Done(_, _) = a else {
+    let Parsed::Done(_, _) = a else {
         return a;
     };
     let b = entries::init_to(text, inside, tables, counts, facts, numbers);
-    let Reading::Done(after, _) = b else {
+    let Parsed::Done(after, _) = b else {
         return b;
     };
-    Reading::Done(after, 1)
+    Parsed::Done(after, 1)
 }
 
 // The goal's condition, to the section's closing bracket: at most 64 single ones.
-fn goal_to(text: &[u8], from: usize, tables: &[u8], counts: Counts, goal: &mut [u8]) -> Reading
+fn goal_to(text: &[u8], from: usize, tables: &[u8], counts: Counts, goal: &mut [u8]) -> Parsed
     requires { ⌜ (1 < from) × (from ≤ length (now text)) × Scopes (now tables) counts ⌝ }
     ensures { λ r. ⌜ ((c : Scope) → Scoped (now (tables .entry)) counts c
         → Reached (length (now (text .entry))) r (now (goal .entry)) (now (goal .exit)) (goalTo (now (text .entry)) c from)) ⌝ }
 {
     let g = trees::condition_at(text, from, 14, tables, counts, goal, 0, 64);
     match g {
-        Progress::Refused(k, p) => Reading::Refused(k, p),
+        Progress::Refused(k, p) => Parsed::Refused(k, p),
         Progress::Done(after, _, _) => {
             let z = domain_due::closing(text, after, 14);
-            let Reading::Done(behind, _) = z else {
+            let Parsed::Done(behind, _) = z else {
                 return z;
             };
-            Reading::Done(behind, 0)
+            Parsed::Done(behind, 0)
         }
     }
 }
@@ -76,20 +76,20 @@ fn goal_at(
     counts: Counts,
     judged: bool,
     goal: &mut [u8],
-) -> Reading
+) -> Parsed
     requires { ⌜ (0 < from) × (from ≤ length (now text)) × Scopes (now tables) counts ⌝ }
     ensures { λ r. ⌜ ((c : Scope) → Scoped (now (tables .entry)) counts c
         → Aimed (length (now (text .entry))) c judged r (now (goal .entry)) (now (goal .exit)) (goalFrom (now (text .entry)) c judged from)) ⌝ }
 {
     let s = premises::section_due(text, from, b":goal");
-    let Reading::Done(inside, p) = s else {
+    let Parsed::Done(inside, p) = s else {
         return s;
     };
     if judged {
         return goal_to(text, inside, tables, counts, goal);
     }
     let a = premises::sums_at(tables, counts, inside, p);
-    let Reading::Done(_, _) = a else {
+    let Parsed::Done(_, _) = a else {
         return a;
     };
     goal_to(text, inside, tables, counts, goal)
@@ -104,25 +104,25 @@ fn rest_at(
     facts: &mut [u8],
     numbers: &mut [i64],
     goal: &mut [u8],
-) -> Reading
+) -> Parsed
     requires { ⌜ (0 < from) × (from ≤ length (now text)) × Scopes (now tables) counts × (now facts ≡ noFacts) × (now numbers ≡ noNumbers) ⌝ }
     ensures { λ r. ⌜ ((c : Scope) → Scoped (now (tables .entry)) counts c → c .inAction ≡ false
         → Settled (now (text .entry)) c r (now (facts .exit)) (now (numbers .exit)) (now (goal .entry)) (now (goal .exit))
         (restOf (now (text .entry)) c from)) ⌝ }
 {
     let i = init_at(text, from, tables, counts, facts, numbers);
-    let Reading::Done(a, given) = i else {
+    let Parsed::Done(a, given) = i else {
         return i;
     };
     let g = goal_at(text, a, tables, counts, given == 1, goal);
-    let Reading::Done(b, _) = g else {
+    let Parsed::Done(b, _) = g else {
         return g;
     };
     let z = domain_sections::ending_at(text, b);
-    let Reading::Done(end, _) = z else {
+    let Parsed::Done(end, _) = z else {
         return z;
     };
-    Reading::Done(end, counts.objects)
+    Parsed::Done(end, counts.objects)
 }
 
 // The text of a problem, NAME being its domain's: where it ends, and how many objects there are. They replace the objects' rows of `tables`.
@@ -134,7 +134,7 @@ pub fn problem_at(
     facts: &mut [u8],
     numbers: &mut [i64],
     goal: &mut [u8],
-) -> Reading
+) -> Parsed
     requires { ⌜ Scopes (now tables) counts × (length (now tables) ≡ 5054) × (now facts ≡ noFacts)
         × (now numbers ≡ noNumbers) × (counts .variables ≡ 0) × (counts .in_action ≡ false) ⌝ }
     ensures { λ r. ⌜ ((d : Domain) → Scoped (now (tables .entry)) counts (scopeOf d (d .constants)) → now (name .entry) ≡ d .name
@@ -142,7 +142,7 @@ pub fn problem_at(
         (readProblem (now (text .entry)) d)) ⌝ }
 {
     let p = premises::premises_at(text, tables, counts, name);
-    let Reading::Done(from, objects) = p else {
+    let Parsed::Done(from, objects) = p else {
         return p;
     };
     let all = Counts {

@@ -1,5 +1,5 @@
 // What a problem has before init: its heading, its domain's name, its objects; and the sums that are judged at `:init` or `:goal`.
-use domain_due::Reading;
+use domain_due::Parsed;
 use domain_indexes::sum_of;
 use domain_rows::layout;
 use domain_rows::layout::FUNCTIONS_AT;
@@ -40,50 +40,50 @@ pub fn sums_fit(tables: &[u8], counts: Counts) -> bool
 }
 
 // The sums are judged at p: where they fit, reading goes on at `from`.
-pub fn sums_at(tables: &[u8], counts: Counts, from: usize, p: usize) -> Reading
+pub fn sums_at(tables: &[u8], counts: Counts, from: usize, p: usize) -> Parsed
     requires { ⌜ Scopes (now tables) counts ⌝ }
     ensures { λ r. ⌜ ((c : Scope) → Scoped (now (tables .entry)) counts c → r ≡ answerOf (sumsAt c p from)) ⌝ }
 {
     if sums_fit(tables, counts) {
-        return Reading::Done(from, p);
+        return Parsed::Done(from, p);
     }
-    Reading::Refused(12, p)
+    Parsed::Refused(12, p)
 }
 
 // The section w is due: its bracket, then its word.
-pub fn section_due(text: &[u8], from: usize, w: &[u8]) -> Reading
+pub fn section_due(text: &[u8], from: usize, w: &[u8]) -> Parsed
     requires { ⌜ from ≤ length (now text) ⌝ }
     ensures { λ r. ⌜ (r ≡ answerOf (sectionDueOf (now (text .entry)) (now (w .entry)) from)) × Ahead (length (now (text .entry))) from r ⌝ }
 {
     let a = domain_due::opening(text, from, 15);
-    let Reading::Done(inside, _) = a else {
+    let Parsed::Done(inside, _) = a else {
         return a;
     };
     domain_due::word_due(text, inside, 14, w)
 }
 
 // `(:domain NAME)`, NAME being that of the domain.
-pub fn of_domain(text: &[u8], from: usize, name: &[u8]) -> Reading
+pub fn of_domain(text: &[u8], from: usize, name: &[u8]) -> Parsed
     requires { ⌜ from ≤ length (now text) ⌝ }
     ensures { λ r. ⌜ ((d : Domain) → now (name .entry) ≡ d .name → r ≡ answerOf (ofDomain (now (text .entry)) d from))
         × Ahead (length (now (text .entry))) from r ⌝ }
 {
     let s = section_due(text, from, b":domain");
-    let Reading::Done(inside, _) = s else {
+    let Parsed::Done(inside, _) = s else {
         return s;
     };
     let n = domain_due::any_name(text, inside, 14);
-    let Reading::Done(e, p) = n else {
+    let Parsed::Done(e, p) = n else {
         return n;
     };
     if spelling::same_word(runs::part_of(text, p, e), name) {
         return domain_due::closing(text, e, 14);
     }
-    Reading::Refused(13, p)
+    Parsed::Refused(13, p)
 }
 
 // The objects, behind the domain's constants in the rows of `tables`: the place after them, and how many there are.
-fn objects_section(text: &[u8], from: usize, tables: &mut [u8], counts: Counts) -> Reading
+fn objects_section(text: &[u8], from: usize, tables: &mut [u8], counts: Counts) -> Parsed
     requires { ⌜ (from ≤ length (now text)) × Scopes (now tables) counts × (length (now tables) ≡ 5054) ⌝ }
     ensures { λ r. ⌜ ((d : Domain) → Scoped (now (tables .entry)) counts (scopeOf d (d .constants))
         → Grounded counts r (now (tables .exit)) d
@@ -92,7 +92,7 @@ fn objects_section(text: &[u8], from: usize, tables: &mut [u8], counts: Counts) 
 {
     let o = domain_sections::begins_at(text, from, b":objects");
     let Opened::At(_, inside) = o else {
-        return Reading::Done(from, counts.objects);
+        return Parsed::Done(from, counts.objects);
     };
     let mut types = [0u8; layout::TYPES_LENGTH];
     domain_rows::copy(
@@ -113,7 +113,7 @@ fn objects_section(text: &[u8], from: usize, tables: &mut [u8], counts: Counts) 
 }
 
 // What a problem has before init: the place after it, and how many objects there are. They replace the objects' rows of `tables`.
-pub fn premises_at(text: &[u8], tables: &mut [u8], counts: Counts, name: &[u8]) -> Reading
+pub fn premises_at(text: &[u8], tables: &mut [u8], counts: Counts, name: &[u8]) -> Parsed
     requires { ⌜ Scopes (now tables) counts × (length (now tables) ≡ 5054) ⌝ }
     ensures { λ r. ⌜ ((d : Domain) → Scoped (now (tables .entry)) counts (scopeOf d (d .constants)) → now (name .entry) ≡ d .name
         → Grounded counts r (now (tables .exit)) d (premises (now (text .entry)) d 0))
@@ -123,11 +123,11 @@ pub fn premises_at(text: &[u8], tables: &mut [u8], counts: Counts, name: &[u8]) 
     match h {
         Titled::At(a, _, _) => {
             let n = of_domain(text, a, name);
-            let Reading::Done(b, _) = n else {
+            let Parsed::Done(b, _) = n else {
                 return n;
             };
             objects_section(text, b, tables, counts)
         }
-        Titled::Refused(k, p) => Reading::Refused(k, p),
+        Titled::Refused(k, p) => Parsed::Refused(k, p),
     }
 }

@@ -24,8 +24,8 @@ use Rattle.domain_meaning.specs.Read.{Read, got, refused, give, refuse}
 use Rattle.domain_meaning.specs.Due.{afterOf, numberOf, placeOf, Name, opening, closing, wordDue, fixed, anyName}
 use Rattle.domain_meaning.specs.Domain.{beginsWith, ending, headingOf, flagWord, flagOf, flagsTo}
 use Rattle.domain_due.specs.Answers.{answerOf}
-use Rattle.domain_due.specs.declared.Reading.{Reading}
-use Rattle.domain_due.specs.declared.Reading.the-variants.{Done, Refused}
+use Rattle.domain_due.specs.declared.Parsed.{Parsed}
+use Rattle.domain_due.specs.declared.Parsed.the-variants.{Done, Refused}
 use Rattle.domain_due.proofs.Dues.{not-refusal, not-word, not-open, not-close, not-end, open-in, word-in, answer-done, answer-refused, never-done}
 use Rattle.domain_sections.specs.Openings.{openedOf, Further, titledOf, TitledIn}
 use Rattle.domain_sections.specs.declared.Opened.the-variants.{At, Other}
@@ -64,7 +64,7 @@ module _ (s w : List ℕ) (at : ℕ) where
           let b = word-in s n (a .1) k v e r in
           (rw (q, ← open-next s at p n h q, r, m), (omega arith, b .2))
 
-module _ (s : List ℕ) (at : ℕ) (r : Reading) where
+module _ (s : List ℕ) (at : ℕ) (r : Parsed) where
   pub ending-section : (p n : ℕ) (u : Token) → tokenAt s at ≡ T.Open p n → u ≡ tokenAt s n → r ≡ Refused (numberOf 14 u) (placeOf u) → r ≡ answerOf (ending s at)
   unfolding ending
   ending-section p n u e f q = simp (e, ← f) q
@@ -144,7 +144,7 @@ module _ (s : List ℕ) (t : Token) where
   pub flag-refused : (k p : ℕ) → t ≡ T.Refusal k p → (k ≡ 5 → ⊥) → Refused k p ≡ answerOf (flagOf s t (afterOf t))
   flag-refused k p e h = rw (e, ne-eqb k 5 h)
 
-  pub flag-else : (r : Reading) → OneOf (0 ∷ 1 ∷ 2 ∷ 3 ∷ 4 ∷ 6 ∷ []) (tagOf token-type.the-type t) → OneOf (1 ∷ 2 ∷ 3 ∷ 4 ∷ 5 ∷ 6 ∷ []) (tagOf token-type.the-type t)
+  pub flag-else : (r : Parsed) → OneOf (0 ∷ 1 ∷ 2 ∷ 3 ∷ 4 ∷ 6 ∷ []) (tagOf token-type.the-type t) → OneOf (1 ∷ 2 ∷ 3 ∷ 4 ∷ 5 ∷ 6 ∷ []) (tagOf token-type.the-type t)
       → r ≡ Refused (numberOf 14 t) (placeOf t) → r ≡ answerOf (flagOf s t (afterOf t))
   flag-else r o n q = rw (not-word t _ _ n, not-refusal t _ _ o) q
 
@@ -208,7 +208,7 @@ module _ (s : List ℕ) (from at : ℕ) (o : Going s from at) where
   unfolding flagsTo
   going-close p n e k h = sym (ap answerOf (whole (got p n) (λ j. rw e) k h))
 
-  module _ (no : OneOf (0 ∷ 1 ∷ 2 ∷ 4 ∷ 5 ∷ 6 ∷ []) (tagOf token-type.the-type (tokenAt s at))) (r : Reading) (q : r ≡ answerOf (flagOf s (tokenAt s at) (afterOf (tokenAt s at)))) where
+  module _ (no : OneOf (0 ∷ 1 ∷ 2 ∷ 4 ∷ 5 ∷ 6 ∷ []) (tagOf token-type.the-type (tokenAt s at))) (r : Parsed) (q : r ≡ answerOf (flagOf s (tokenAt s at) (afterOf (tokenAt s at)))) where
     pub going-refused : (i p : ℕ) → r ≡ Refused i p → (k : ℕ) → length s - from < k → r ≡ answerOf (flagsTo k s from)
     unfolding flagsTo
     going-refused i p e k h =

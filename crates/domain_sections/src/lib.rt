@@ -1,5 +1,5 @@
 // What frames the sections of domain and problem: their first words, the end of the text, and the requirement flags.
-use domain_due::Reading;
+use domain_due::Parsed;
 use text_tokens::tokens;
 use text_tokens::tokens::Token;
 use text_tokens::tokens::Word;
@@ -40,7 +40,7 @@ pub fn begins_at(text: &[u8], from: usize, w: &[u8]) -> Opened
 }
 
 // The bracket that closes the text's first one, and behind it the end.
-pub fn ending_at(text: &[u8], from: usize) -> Reading
+pub fn ending_at(text: &[u8], from: usize) -> Parsed
     ensures { λ r. ⌜ r ≡ answerOf (ending (now (text .entry)) from) ⌝ }
 {
     let t = tokens::token_at(text, from);
@@ -54,7 +54,7 @@ pub fn ending_at(text: &[u8], from: usize) -> Reading
     let Token::End(p) = u else {
         return domain_due::refusal(u, 16);
     };
-    Reading::Done(p, p)
+    Parsed::Done(p, p)
 }
 
 // A heading: the place after it, and its name from, to.
@@ -69,26 +69,26 @@ pub fn heading_at(text: &[u8], from: usize, w: &[u8]) -> Titled
     ensures { λ r. ⌜ (r ≡ titledOf (headingOf (now (text .entry)) (now (w .entry)) from)) × TitledIn (length (now (text .entry))) r ⌝ }
 {
     let a = match domain_due::opening(text, from, 16) {
-        Reading::Done(a, _) => a,
-        Reading::Refused(k, p) => return Titled::Refused(k, p),
+        Parsed::Done(a, _) => a,
+        Parsed::Refused(k, p) => return Titled::Refused(k, p),
     };
     let b = match domain_due::word_due(text, a, 15, b"define") {
-        Reading::Done(b, _) => b,
-        Reading::Refused(k, p) => return Titled::Refused(k, p),
+        Parsed::Done(b, _) => b,
+        Parsed::Refused(k, p) => return Titled::Refused(k, p),
     };
     let c = match domain_due::opening(text, b, 15) {
-        Reading::Done(c, _) => c,
-        Reading::Refused(k, p) => return Titled::Refused(k, p),
+        Parsed::Done(c, _) => c,
+        Parsed::Refused(k, p) => return Titled::Refused(k, p),
     };
     let d = match domain_due::word_due(text, c, 14, w) {
-        Reading::Done(d, _) => d,
-        Reading::Refused(k, p) => return Titled::Refused(k, p),
+        Parsed::Done(d, _) => d,
+        Parsed::Refused(k, p) => return Titled::Refused(k, p),
     };
     match domain_due::any_name(text, d, 14) {
-        Reading::Refused(k, p) => Titled::Refused(k, p),
-        Reading::Done(e, place) => match domain_due::closing(text, e, 14) {
-            Reading::Refused(k, p) => Titled::Refused(k, p),
-            Reading::Done(next, _) => Titled::At(next, place, e),
+        Parsed::Refused(k, p) => Titled::Refused(k, p),
+        Parsed::Done(e, place) => match domain_due::closing(text, e, 14) {
+            Parsed::Refused(k, p) => Titled::Refused(k, p),
+            Parsed::Done(next, _) => Titled::At(next, place, e),
         },
     }
 }
@@ -104,31 +104,31 @@ fn is_colon(text: &[u8], p: usize) -> bool
 }
 
 // A requirement flag: 11 if it is not carried, however long.
-fn flag_of(text: &[u8], t: Token) -> Reading
+fn flag_of(text: &[u8], t: Token) -> Parsed
     ensures { λ r. ⌜ r ≡ answerOf (flagOf (now (text .entry)) t (afterOf t)) ⌝ }
 {
     if let Token::Refusal(k, p) = t {
         if k == 5 {
             if is_colon(text, p) {
-                return Reading::Refused(11, p);
+                return Parsed::Refused(11, p);
             }
         }
-        return Reading::Refused(k, p);
+        return Parsed::Refused(k, p);
     }
     let Token::Word(kind, p, e) = t else {
         return domain_due::refusal(t, 14);
     };
     let Word::Keyword = kind else {
-        return Reading::Refused(3, p);
+        return Parsed::Refused(3, p);
     };
     if fixed::is_flag(tokens::word_of(text, t)) {
-        return Reading::Done(e, p);
+        return Parsed::Done(e, p);
     }
-    Reading::Refused(11, p)
+    Parsed::Refused(11, p)
 }
 
 // The requirement flags, to their closing bracket.
-pub fn flags_to(text: &[u8], from: usize) -> Reading
+pub fn flags_to(text: &[u8], from: usize) -> Parsed
     requires { ⌜ from ≤ length (now text) ⌝ }
     ensures { λ r. ⌜ ((k : ℕ) → length (now (text .entry)) - from < k → r ≡ answerOf (flagsTo k (now (text .entry)) from))
         × Ahead (length (now (text .entry))) from r ⌝ }
@@ -137,10 +137,10 @@ pub fn flags_to(text: &[u8], from: usize) -> Reading
     loop {
         let t = tokens::token_at(text, at);
         if let Token::Close(p, next) = t {
-            return Reading::Done(next, p);
+            return Parsed::Done(next, p);
         }
         let f = flag_of(text, t);
-        let Reading::Done(after, _) = f else {
+        let Parsed::Done(after, _) = f else {
             return f;
         };
         at = after;

@@ -20,8 +20,8 @@ use Rattle.domain_meaning.specs.Tables.{entryAt, typeOf, lookup, onFound, decla
 use Rattle.domain_meaning.specs.Due.{numberOf, placeOf}
 use Rattle.domain_meaning.specs.Terms.{Scope, Given, objectAt, variableAt, givenBy, argument}
 use Rattle.domain_due.specs.Answers.{Ahead}
-use Rattle.domain_due.specs.declared.Reading.{Reading}
-use Rattle.domain_due.specs.declared.Reading.the-variants.{Done, Refused}
+use Rattle.domain_due.specs.declared.Parsed.{Parsed}
+use Rattle.domain_due.specs.declared.Parsed.the-variants.{Done, Refused}
 use Rattle.domain_due.proofs.Dues.{not-word, ahead-refused, ahead-by}
 use Rattle.domain_terms.specs.Cells.{cellAnswer, typeOfCell, Cellular}
 
@@ -29,11 +29,11 @@ pub cell-done : (a v : ℕ) → v < 128 → Cellular (Done a v)
 unfolding Cellular
 cell-done a v h = h
 
-pub cell-refused : (k p : ℕ) (r : Reading) → r ≡ Refused k p → Cellular r
+pub cell-refused : (k p : ℕ) (r : Parsed) → r ≡ Refused k p → Cellular r
 unfolding Cellular
 cell-refused k p r e = rw e tt
 
-pub cell-at : (a v : ℕ) (r : Reading) → r ≡ Done a v → Cellular r → v < 128
+pub cell-at : (a v : ℕ) (r : Parsed) → r ≡ Done a v → Cellular r → v < 128
 unfolding Cellular
 cell-at a v r e h = rw e at h
 
@@ -75,7 +75,7 @@ module _ (s : List ℕ) (c : Scope) (p e : ℕ) where
       go false = ahead-refused n at 3 p _ refl
 
 module _ (s : List ℕ) (d at : ℕ) (c : Scope) where
-  pub argument-else : (t : Token) (r : Reading) → t ≡ tokenAt s at → OneOf (1 ∷ 2 ∷ 3 ∷ 4 ∷ 5 ∷ 6 ∷ []) (tagOf token-type.the-type t)
+  pub argument-else : (t : Token) (r : Parsed) → t ≡ tokenAt s at → OneOf (1 ∷ 2 ∷ 3 ∷ 4 ∷ 5 ∷ 6 ∷ []) (tagOf token-type.the-type t)
       → r ≡ Refused (numberOf d t) (placeOf t) → r ≡ cellAnswer (argument s d c at)
   unfolding argument
   argument-else t r e o q = rw (← e, not-word t _ _ o) q

@@ -6,8 +6,8 @@ use native.Mathlib.Omega.{arith}
 use lib.ListN.{length}
 use lib.Seq.{sets}
 use Rattle.domain_meaning.specs.Read.{Read, Reader, got, refused, andThen}
-use Rattle.domain_due.specs.declared.Reading.{Reading}
-use Rattle.domain_due.specs.declared.Reading.the-variants.{Done, Refused}
+use Rattle.domain_due.specs.declared.Parsed.{Parsed}
+use Rattle.domain_due.specs.declared.Parsed.the-variants.{Done, Refused}
 use Rattle.domain_terms.specs.Cells.{Wrote}
 
 pub record Took {A : Type 0} (cells : A → List ℕ) (code : List ℕ) (u : ℕ) (m : List ℕ) (a v : ℕ) (x : Read A) : Type 0 where
@@ -16,7 +16,7 @@ pub record Took {A : Type 0} (cells : A → List ℕ) (code : List ℕ) (u : ℕ
   pub free : v ≡ u + length (cells tree)
   pub stored : m ≡ sets code u (cells tree)
 
-module _ {A : Type 0} (cells : A → List ℕ) (code : List ℕ) (u : ℕ) (r : Reading) (m : List ℕ) where
+module _ {A : Type 0} (cells : A → List ℕ) (code : List ℕ) (u : ℕ) (r : Parsed) (m : List ℕ) where
   pub wrote-got : (x : Read A) (a v : ℕ) → Wrote cells code u r m x → r ≡ Done a v → Took cells code u m a v x
   unfolding Wrote
   wrote-got (got t n) a v h e =

@@ -24,8 +24,8 @@ use Rattle.domain_meaning.specs.Read.{Read, got, refused, andThen, give, refuse
 use Rattle.domain_meaning.specs.Tables.{infoOf, Table, entryAt, wantedOf, lookup, onFound, declared, isBelow}
 use Rattle.domain_meaning.specs.Due.{afterOf, placeOf, wrong, onWord, closing}
 use Rattle.domain_meaning.specs.Terms.{Scope, Arg, Given, objectAt, variableAt, givenBy, argument, fits, arguments}
-use Rattle.domain_due.specs.declared.Reading.{Reading}
-use Rattle.domain_due.specs.declared.Reading.the-variants.{Done, Refused}
+use Rattle.domain_due.specs.declared.Parsed.{Parsed}
+use Rattle.domain_due.specs.declared.Parsed.the-variants.{Done, Refused}
 use Rattle.domain_due.proofs.Dues.{not-close, never-done}
 use Rattle.domain_terms.specs.Scoped.{Signed, AllSigned}
 use Rattle.domain_terms.specs.Cells.{cellOf, cellAnswer, typeOfCell, argCells, Wrote, Room}
@@ -124,7 +124,7 @@ given-refused (refused j q) k p e = let z : j ≡ k = cc in let y : q ≡ p = cc
 
 -- ---- what was written
 
-pub wrote-refused : {A : Type 0} (cells : A → List ℕ) (code : List ℕ) (u : ℕ) (r : Reading) (m : List ℕ) (x : Read A) (k p : ℕ) → x ≡ refused k p → r ≡ Refused k p → Wrote cells code u r m x
+pub wrote-refused : {A : Type 0} (cells : A → List ℕ) (code : List ℕ) (u : ℕ) (r : Parsed) (m : List ℕ) (x : Read A) (k p : ℕ) → x ≡ refused k p → r ≡ Refused k p → Wrote cells code u r m x
 unfolding Wrote
 wrote-refused cells code u r m x k p e q = rw e q
 
@@ -132,7 +132,7 @@ pub wrote-none : (code : List ℕ) (u n : ℕ) (x : Read (List Arg)) → x ≡ g
 unfolding Wrote
 wrote-none code u n x e = rw (e, add-zero u) (refl, refl)
 
-wrote-cons : (code : List ℕ) (u : ℕ) (r : Reading) (m : List ℕ) (a : Arg) (x : Read (List Arg))
+wrote-cons : (code : List ℕ) (u : ℕ) (r : Parsed) (m : List ℕ) (a : Arg) (x : Read (List Arg))
     → Wrote argCells (set code u (cellOf a)) (u + 1) r m x → Wrote argCells code u r m (andThen x (λ as′ n. got (a ∷ as′) n))
 unfolding Wrote
 wrote-cons code u r m a (got as′ n) h =
@@ -180,7 +180,7 @@ module _ (s : List ℕ) (d at : ℕ) (c : Scope) where
 -- ---- the loop: what the definition says of the rest, it says of the whole
 
 pub record Onward (s : List ℕ) (d from : ℕ) (c : Scope) (ws code₀ : List ℕ) (used : ℕ) (code : List ℕ) (j at u : ℕ) : Type 0 where
-  pub on : (r : Reading) (m : List ℕ) → Wrote argCells code u r m (arguments s d c (drop j ws) at) → Wrote argCells code₀ used r m (arguments s d c ws from)
+  pub on : (r : Parsed) (m : List ℕ) → Wrote argCells code u r m (arguments s d c (drop j ws) at) → Wrote argCells code₀ used r m (arguments s d c ws from)
 
 pub onward-start : (s : List ℕ) (d from : ℕ) (c : Scope) (ws code : List ℕ) (used : ℕ) → Onward s d from c ws code used code 0 from used
 onward-start s d from c ws code used = record { on = λ r m h. h }
@@ -197,7 +197,7 @@ module _ (s : List ℕ) (d from : ℕ) (c : Scope) (ws code₀ : List ℕ) (used
   onward-early p n m e h = o .on (Refused 9 p) m (wrote-refused argCells code u _ m _ 9 p (wanted-early s d at c (drop j ws) p n e (omega (arith, left))) refl)
 
   module _ (no : OneOf (0 ∷ 1 ∷ 2 ∷ 4 ∷ 5 ∷ 6 ∷ []) (tagOf token-type.the-type (tokenAt s at))) where
-    pub onward-refused : (r : Reading) (k p : ℕ) (m : List ℕ) → r ≡ cellAnswer (argument s d c at) → r ≡ Refused k p → Wrote argCells code₀ used r m (arguments s d c ws from)
+    pub onward-refused : (r : Parsed) (k p : ℕ) (m : List ℕ) → r ≡ cellAnswer (argument s d c at) → r ≡ Refused k p → Wrote argCells code₀ used r m (arguments s d c ws from)
     onward-refused r k p m q e = o .on r m (wrote-refused argCells code u r m _ k p (wanted-refused s d at c no (drop j ws) k p (given-refused _ k p (sym q ∙ e))) e)
 
     module _ (few : length (c .objects) ≤ 64) (a v : ℕ) (q : cellAnswer (argument s d c at) ≡ Done a v) where
@@ -231,6 +231,6 @@ pub room-done : (used from a v : ℕ) → used ≤ v → v + from ≤ used + a �
 unfolding Room
 room-done used from a v h k = (h, k)
 
-pub room-refused : (used from k p : ℕ) (r : Reading) → r ≡ Refused k p → Room used from r
+pub room-refused : (used from k p : ℕ) (r : Parsed) → r ≡ Refused k p → Room used from r
 unfolding Room
 room-refused used from k p r e = rw e tt

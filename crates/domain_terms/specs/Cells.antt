@@ -9,8 +9,8 @@ use lib.Dec.{ltb}
 use Rattle.domain_meaning.specs.Read.{Read, got, refused}
 use Rattle.domain_meaning.specs.Tables.{entryAt, typeOf}
 use Rattle.domain_meaning.specs.Terms.{Scope, Arg, object, variable, Given}
-use Rattle.domain_due.specs.declared.Reading.{Reading}
-use Rattle.domain_due.specs.declared.Reading.the-variants.{Done, Refused}
+use Rattle.domain_due.specs.declared.Parsed.{Parsed}
+use Rattle.domain_due.specs.declared.Parsed.the-variants.{Done, Refused}
 
 -- an argument is one cell: an object below 64, or 64 and a parameter's number
 abbrev pub cellOf : Arg → ℕ
@@ -18,7 +18,7 @@ cellOf (object i) = i
 cellOf (variable i) = 64 + i
 
 -- an argument was read: the place after it, and its cell
-abbrev pub cellAnswer : Read Given → Reading
+abbrev pub cellAnswer : Read Given → Parsed
 cellAnswer (got g n) = Done n (cellOf (g .arg))
 cellAnswer (refused k p) = Refused k p
 
@@ -30,16 +30,16 @@ abbrev pub argCells : List Arg → List ℕ
 argCells as′ = map cellOf as′
 
 -- a tree was read, and its cells were stored from `used` on: the answer has the place after, and the first cell that is free
-unfoldable pub Wrote : {A : Type 0} → (A → List ℕ) → List ℕ → ℕ → Reading → List ℕ → Read A → Type 0
+unfoldable pub Wrote : {A : Type 0} → (A → List ℕ) → List ℕ → ℕ → Parsed → List ℕ → Read A → Type 0
 Wrote cells code used r code′ (got a n) = (r ≡ Done n (used + length (cells a))) × (code′ ≡ sets code used (cells a))
 Wrote cells code used r code′ (refused k p) = r ≡ Refused k p
 
 -- a cell that was read is below 256
-unfoldable pub Cellular : Reading → Type 0
+unfoldable pub Cellular : Parsed → Type 0
 Cellular (Done a v) = v < 128
 Cellular (Refused k p) = Unit {0}
 
 -- no more cells were written than bytes were read
-unfoldable pub Room : ℕ → ℕ → Reading → Type 0
+unfoldable pub Room : ℕ → ℕ → Parsed → Type 0
 Room used from (Done a v) = (used ≤ v) × (v + from ≤ used + a)
 Room used from (Refused k p) = Unit {0}

@@ -1,7 +1,7 @@
 // Arguments: each is an object or a parameter, of the wanted type or below it.
 use crate::scope;
 use crate::scope::Counts;
-use domain_due::Reading;
+use domain_due::Parsed;
 use domain_rows::layout;
 use text_tokens::runs;
 use text_tokens::tokens;
@@ -22,7 +22,7 @@ ghost use Rattle.domain_terms.specs.Scoped.{Scoped, Scopes, AllSigned, S
 ghost use Rattle.domain_terms.specs.Cells.{cellAnswer, typeOfCell, argCells, Wrote, Cellular, Room};
 
 // An object's name w, which stands from p to e: its cell.
-fn object_at(w: &[u8], p: usize, e: usize, tables: &[u8], counts: Counts) -> Reading
+fn object_at(w: &[u8], p: usize, e: usize, tables: &[u8], counts: Counts) -> Parsed
     requires { ⌜ Scopes (now tables) counts ⌝ }
     ensures { λ r. ⌜ ((s : List ℕ) (c : Scope) → now (w .entry) ≡ part s p e → Scoped (now (tables .entry)) counts c
         → r ≡ cellAnswer (givenBy s c W.Name p e e)) × Cellular r ⌝ }
@@ -30,20 +30,20 @@ fn object_at(w: &[u8], p: usize, e: usize, tables: &[u8], counts: Counts) -> Rea
     let n = counts.objects;
     let f = scope::find_in(tables, layout::OBJECTS_AT, layout::PREDICATES_AT, n, w);
     let Place::At(i) = f else {
-        return Reading::Refused(8, p);
+        return Parsed::Refused(8, p);
     };
-    Reading::Done(e, i)
+    Parsed::Done(e, i)
 }
 
 // A variable from its mark at p to e: its cell, in an action.
-fn variable_at(text: &[u8], p: usize, e: usize, tables: &[u8], counts: Counts) -> Reading
+fn variable_at(text: &[u8], p: usize, e: usize, tables: &[u8], counts: Counts) -> Parsed
     requires { ⌜ Scopes (now tables) counts × (p < e) ⌝ }
     ensures { λ r. ⌜ ((c : Scope) → Scoped (now (tables .entry)) counts c → r ≡ cellAnswer (givenBy (now (text .entry)) c W.Variable p e e)) × Cellular r ⌝ }
 {
     let n = counts.variables;
     let known = counts.in_action;
     if !known {
-        return Reading::Refused(3, p);
+        return Parsed::Refused(3, p);
     }
     let f = scope::find_in(
         tables,
@@ -53,13 +53,13 @@ fn variable_at(text: &[u8], p: usize, e: usize, tables: &[u8], counts: Counts) -
         runs::part_of(text, p + 1, e),
     );
     let Place::At(i) = f else {
-        return Reading::Refused(8, p);
+        return Parsed::Refused(8, p);
     };
-    Reading::Done(e, 64 + i)
+    Parsed::Done(e, 64 + i)
 }
 
 // An argument: its cell.
-pub fn argument_at(text: &[u8], from: usize, d: usize, tables: &[u8], counts: Counts) -> Reading
+pub fn argument_at(text: &[u8], from: usize, d: usize, tables: &[u8], counts: Counts) -> Parsed
     requires { ⌜ (from ≤ length (now text)) × Scopes (now tables) counts ⌝ }
     ensures { λ r. ⌜ ((c : Scope) → Scoped (now (tables .entry)) counts c → r ≡ cellAnswer (argument (now (text .entry)) d c from))
         × Cellular r × Ahead (length (now (text .entry))) from r ⌝ }
@@ -71,8 +71,8 @@ pub fn argument_at(text: &[u8], from: usize, d: usize, tables: &[u8], counts: Co
     match k {
         Word::Name => object_at(tokens::word_of(text, t), p, e, tables, counts),
         Word::Variable => variable_at(text, p, e, tables, counts),
-        Word::Keyword => Reading::Refused(3, p),
-        Word::Operator => Reading::Refused(3, p),
+        Word::Keyword => Parsed::Refused(3, p),
+        Word::Operator => Parsed::Refused(3, p),
     }
 }
 
@@ -110,7 +110,7 @@ pub fn arguments_at(
     i: usize,
     code: &mut [u8],
     used: usize,
-) -> Reading
+) -> Parsed
     requires { ⌜ (from ≤ length (now text)) × Scopes (now tables) counts × Signatures (now tables) off n
         × (i < n) × (used + (length (now text) - from) ≤ 18446744073709551615) ⌝ }
     ensures { λ r. ⌜ ((c : Scope) (m to : ℕ) (t : Table) → Scoped (now (tables .entry)) counts c → Holds m (part (now (tables .entry)) off to) n t → AllSigned t
@@ -125,19 +125,19 @@ pub fn arguments_at(
         let t = tokens::token_at(text, at);
         if let Token::Close(p, next) = t {
             if j < arity {
-                return Reading::Refused(9, p);
+                return Parsed::Refused(9, p);
             }
-            return Reading::Done(next, u);
+            return Parsed::Done(next, u);
         }
         let a = argument_at(text, at, d, tables, counts);
-        let Reading::Done(after, x) = a else {
+        let Parsed::Done(after, x) = a else {
             return a;
         };
         if arity <= j {
-            return Reading::Refused(9, domain_due::place_of(t));
+            return Parsed::Refused(9, domain_due::place_of(t));
         }
         if !fits_at(tables, counts, x, scope::kept_in(tables, off, n, i, j + 1)) {
-            return Reading::Refused(10, domain_due::place_of(t));
+            return Parsed::Refused(10, domain_due::place_of(t));
         }
         domain_literals::put(code, u, x);
         u += 1;

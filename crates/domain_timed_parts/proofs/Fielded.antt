@@ -17,7 +17,7 @@ use Rattle.domain_meaning.specs.Read.{_>>=_, Read, Reader, got, refused, give, 
 use Rattle.domain_meaning.specs.Due.{token, onWord}
 use Rattle.domain_meaning.specs.Terms.{Scope, Counted, counts}
 use Rattle.domain_meaning.specs.Actions.{Timed, parts, atStart, fieldOf}
-use Rattle.domain_due.specs.declared.Reading.the-variants as A
+use Rattle.domain_due.specs.declared.Parsed.the-variants as A
 use Rattle.domain_terms.specs.Cells.{Wrote}
 use Rattle.domain_expressions.specs.Codes.{Written, Spent}
 use Rattle.domain_expressions.specs.declared.leaves.Progress.{Progress}

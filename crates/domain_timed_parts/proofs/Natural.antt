@@ -18,7 +18,7 @@ use Rattle.domain_meaning.specs.Terms.{Scope, Counted, counts}
 use Rattle.domain_meaning.specs.Conditions.{condition}
 use Rattle.domain_meaning.specs.Effects.{effect}
 use Rattle.domain_meaning.specs.Actions.{Timed, timeOf, partBehind, partAt, partsTo, parts, fieldOf, whenField, treeOf, atStart, oneCondition, oneInstant}
-use Rattle.domain_due.specs.declared.Reading.{Reading}
+use Rattle.domain_due.specs.declared.Parsed.{Parsed}
 use Rattle.domain_terms.specs.Cells.{Wrote}
 use Rattle.domain_stored_meaning.specs.Cells.{condCells, listCells, whenCell, partsCells}
 use Rattle.domain_timed_parts.specs.Bodies.{mapped, bodyOf, timedCells}
@@ -112,7 +112,7 @@ each-cells g [] = refl
 each-cells g (x ∷ xs) =
     ap (λ (t : List ℕ). whenCell (x .when) ∷ t) (append-assoc (g (x .what)) (timedCells (each g xs)) (0 ∷ []) ∙ ap (λ (t : List ℕ). g (x .what) ++ t) (each-cells g xs))
 
-wrote-each : {A : Type 0} (g : A → List ℕ) (code : List ℕ) (u : ℕ) (r : Reading) (m : List ℕ) (x : Read (List (Timed A))) → Wrote endedCells code u r m (image (each g) x)
+wrote-each : {A : Type 0} (g : A → List ℕ) (code : List ℕ) (u : ℕ) (r : Parsed) (m : List ℕ) (x : Read (List (Timed A))) → Wrote endedCells code u r m (image (each g) x)
     → Wrote (partsCells g) code u r m x
 unfolding Wrote
 wrote-each g code u r m (got xs n) h = rw (each-cells g xs) at h
@@ -127,13 +127,13 @@ instant-each g (refused k p) = refl
 
 -- the field w, behind which the trees x are read, or their cells y
 field-each : {A : Type 0} (g : A → List ℕ) (s w : List ℕ) (x : Reader (List (Timed A))) (y : Reader (List (Timed (List ℕ)))) → ((at : ℕ) → y at ≡ image (each g) (x at))
-    → (code : List ℕ) (u : ℕ) (r : Reading) (m : List ℕ) (at : ℕ) → Wrote endedCells code u r m (andThen (fieldOf s w at) (λ b. cond b y (give [])))
+    → (code : List ℕ) (u : ℕ) (r : Parsed) (m : List ℕ) (at : ℕ) → Wrote endedCells code u r m (andThen (fieldOf s w at) (λ b. cond b y (give [])))
     → Wrote (partsCells g) code u r m (andThen (fieldOf s w at) (λ b. cond b x (give [])))
 field-each g s w x y e code u r m at h =
     let q = same-image (each g) (fieldOf s w at) (λ b. cond b x (give [])) (λ b. cond b y (give [])) (λ b n. cond-image (each g) b x (give []) y (give []) n (e n) refl) in
     wrote-each g code u r m _ (rw q at h)
 
-module _ (s : List ℕ) (c : Scope) (code : List ℕ) (u : ℕ) (r : Reading) (m : List ℕ) (at : ℕ) where
+module _ (s : List ℕ) (c : Scope) (code : List ℕ) (u : ℕ) (r : Parsed) (m : List ℕ) (at : ℕ) where
   pub simple-condition : Wrote endedCells code u r m (fieldParts false true s c (bytes ":precondition") 32 at)
       → Wrote (partsCells condCells) code u r m (whenField s ":precondition" (oneCondition s c) at)
   unfolding fieldParts partsOf bodyOf

@@ -11,8 +11,8 @@ use Rattle.domain_meaning.specs.Read.{Read, Reader, got, refused}
 use Rattle.domain_meaning.specs.Due.{closing}
 use Rattle.domain_meaning.specs.Terms.{Counted}
 use Rattle.domain_meaning.specs.Actions.{When, start, whole, end, timed, timeOf, partBehind}
-use Rattle.domain_due.specs.declared.Reading.{Reading}
-use Rattle.domain_due.specs.declared.Reading.the-variants as A
+use Rattle.domain_due.specs.declared.Parsed.{Parsed}
+use Rattle.domain_due.specs.declared.Parsed.the-variants as A
 use Rattle.domain_due.proofs.Dues.{never-done}
 use Rattle.domain_expressions.specs.Codes.{Written, passed}
 use Rattle.domain_expressions.specs.declared.leaves.Progress.{Progress}
@@ -53,7 +53,7 @@ wrote-timed code u w y b x v l m₁ m cell q free left stored =
 -- ---- behind a part's first word, from p to e; f reads what stands in it
 
 module _ (s : List ℕ) (over : Bool) (f : ℕ → ℕ → Reader (Counted (List ℕ))) (d n p e : ℕ) (code : List ℕ) (u : ℕ) where
-  pub behind-untimed : (r : Reading) (b : Progress) (k q : ℕ) → r ≡ whenAnswer (timeOf s d over p e e) → r ≡ A.Refused k q → b ≡ passed n r
+  pub behind-untimed : (r : Parsed) (b : Progress) (k q : ℕ) → r ≡ whenAnswer (timeOf s d over p e e) → r ≡ A.Refused k q → b ≡ passed n r
       → Written timedCells code u b code (partBehind s over f d n p e e)
   unfolding partBehind
   behind-untimed r b k q h i j =

@@ -19,8 +19,8 @@ use Rattle.domain_meaning.specs.Read.{Reader, give, refuse}
 use Rattle.domain_meaning.specs.Due.{numberOf, placeOf, afterOf, wordDue}
 use Rattle.domain_meaning.specs.Actions.{When, start, end, timeOf, fieldOf}
 use Rattle.domain_due.specs.Answers.{answerOf}
-use Rattle.domain_due.specs.declared.Reading.{Reading}
-use Rattle.domain_due.specs.declared.Reading.the-variants.{Done, Refused}
+use Rattle.domain_due.specs.declared.Parsed.{Parsed}
+use Rattle.domain_due.specs.declared.Parsed.the-variants.{Done, Refused}
 use Rattle.domain_due.proofs.Dues.{not-word, answer-done, answer-refused}
 use Rattle.domain_timed_parts.specs.Times.{whenAnswer, behindAt, behindOver}
 use Rattle.domain_timed_parts.specs.Fields.{fieldFound, Farther}
@@ -28,7 +28,7 @@ use Rattle.domain_timed_parts.specs.Fields.{fieldFound, Farther}
 -- ---- behind `at`
 
 module _ (s : List ℕ) (d at : ℕ) where
-  pub behind-else : (t : Token) (r : Reading) → t ≡ tokenAt s at → OneOf (1 ∷ 2 ∷ 3 ∷ 4 ∷ 5 ∷ 6 ∷ []) (tagOf token-type.the-type t)
+  pub behind-else : (t : Token) (r : Parsed) → t ≡ tokenAt s at → OneOf (1 ∷ 2 ∷ 3 ∷ 4 ∷ 5 ∷ 6 ∷ []) (tagOf token-type.the-type t)
       → r ≡ Refused (numberOf d t) (placeOf t) → r ≡ whenAnswer (behindAt s d at)
   unfolding behindAt
   behind-else t r e h q = q ∙ rw (← e) (ap (λ (x : Reader When). whenAnswer (x (afterOf t))) (sym (not-word t _ (refuse (numberOf d t) (placeOf t)) h)))
@@ -48,23 +48,23 @@ module _ (s : List ℕ) (d at : ℕ) where
 
   -- ---- behind `over`
 
-  pub over-refused : (r : Reading) (k p : ℕ) → r ≡ answerOf (wordDue s d (bytes "all") at) → r ≡ Refused k p → r ≡ whenAnswer (behindOver s d at)
+  pub over-refused : (r : Parsed) (k p : ℕ) → r ≡ answerOf (wordDue s d (bytes "all") at) → r ≡ Refused k p → r ≡ whenAnswer (behindOver s d at)
   unfolding behindOver
   over-refused r k p e h = h ∙ rw (answer-refused (wordDue s d (bytes "all") at) k p (sym e ∙ h))
 
-  pub over-read : (r : Reading) (a v : ℕ) → r ≡ answerOf (wordDue s d (bytes "all") at) → r ≡ Done a v → Done a 2 ≡ whenAnswer (behindOver s d at)
+  pub over-read : (r : Parsed) (a v : ℕ) → r ≡ answerOf (wordDue s d (bytes "all") at) → r ≡ Done a v → Done a 2 ≡ whenAnswer (behindOver s d at)
   unfolding behindOver
   over-read r a v e h = rw (answer-done (wordDue s d (bytes "all") at) a v (sym e ∙ h))
 
 -- ---- the time, by a part's first word
 
 module _ (s : List ℕ) (d : ℕ) (over : Bool) (p e : ℕ) where
-  pub time-at : (r : Reading) → sameWord (part s p e) (bytes "at") ≡ true → r ≡ whenAnswer (behindAt s d e) → r ≡ whenAnswer (timeOf s d over p e e)
+  pub time-at : (r : Parsed) → sameWord (part s p e) (bytes "at") ≡ true → r ≡ whenAnswer (behindAt s d e) → r ≡ whenAnswer (timeOf s d over p e e)
   unfolding timeOf behindAt
   time-at r h q = rw h q
 
   module _ (n : sameWord (part s p e) (bytes "at") ≡ false) where
-    pub time-over : (r : Reading) → over ≡ true → sameWord (part s p e) (bytes "over") ≡ true → r ≡ whenAnswer (behindOver s d e) → r ≡ whenAnswer (timeOf s d over p e e)
+    pub time-over : (r : Parsed) → over ≡ true → sameWord (part s p e) (bytes "over") ≡ true → r ≡ whenAnswer (behindOver s d e) → r ≡ whenAnswer (timeOf s d over p e e)
     unfolding timeOf behindOver
     time-over r o h q = rw (n, o, h) q
 

@@ -4,8 +4,8 @@ use mathlib.Core.List.{List, [], _∷_, _++_}
 use mathlib.Core.Bool.{Bool, true, false, cond}
 use Rattle.text_words.specs.declared.spelling.Place.{Place}
 use Rattle.text_words.specs.declared.spelling.Place.the-variants.{At, Nothing}
-use Rattle.domain_due.specs.declared.Reading.{Reading}
-use Rattle.domain_due.specs.declared.Reading.the-variants.{Done, Refused}
+use Rattle.domain_due.specs.declared.Parsed.{Parsed}
+use Rattle.domain_due.specs.declared.Parsed.the-variants.{Done, Refused}
 use Rattle.domain_meaning.specs.Read.{_>>=_, Read, Reader, got, refused, give}
 use Rattle.domain_meaning.specs.Terms.{Scope, Counted, counts}
 use Rattle.domain_meaning.specs.Actions.{Timed, parts, atStart, fieldOf, treeOf}
@@ -39,6 +39,6 @@ abbrev pub endedCells : List (Timed (List ℕ)) → List ℕ
 endedCells xs = timedCells xs ++ 0 ∷ []
 
 -- the place after is within the text's n bytes and not before `at`; at most two cells more were written than bytes were read
-unfoldable pub Onwards : ℕ → ℕ → ℕ → Reading → Type 0
+unfoldable pub Onwards : ℕ → ℕ → ℕ → Parsed → Type 0
 Onwards n used at (Done a v) = (at ≤ a) × (a ≤ n) × (used ≤ v) × (v + at ≤ used + a + 2)
 Onwards n used at (Refused k p) = Unit {0}

@@ -4,12 +4,12 @@ use mathlib.Core.List.{List}
 use Rattle.domain_meaning.specs.Read.{_>>=_, Read, Reader, got, refused, give}
 use Rattle.domain_meaning.specs.Due.{token, fixed}
 use Rattle.domain_meaning.specs.Actions.{When, whole, startOrEnd}
-use Rattle.domain_due.specs.declared.Reading.{Reading}
-use Rattle.domain_due.specs.declared.Reading.the-variants.{Done, Refused}
+use Rattle.domain_due.specs.declared.Parsed.{Parsed}
+use Rattle.domain_due.specs.declared.Parsed.the-variants.{Done, Refused}
 use Rattle.domain_stored_meaning.specs.Cells.{whenCell}
 
 -- a time was read: the place after it, and its cell
-abbrev pub whenAnswer : Read When → Reading
+abbrev pub whenAnswer : Read When → Parsed
 whenAnswer (got w n) = Done n (whenCell w)
 whenAnswer (refused k p) = Refused k p
 

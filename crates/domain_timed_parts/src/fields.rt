@@ -1,7 +1,7 @@
 // The fields of an action that hold its condition and its effect, each optional.
 use crate::bodies;
 use crate::timed;
-use domain_due::Reading;
+use domain_due::Parsed;
 use domain_expressions::leaves::Progress;
 use domain_terms::scope::Counts;
 use text_tokens::tokens;
@@ -70,7 +70,7 @@ pub fn field_parts(
     left: usize,
     durative: bool,
     over: bool,
-) -> Reading
+) -> Parsed
     requires { ⌜ (from ≤ length (now text)) × Scopes (now tables) counts × (used + (length (now text) - from) + 3 ≤ 18446744073709551615) ⌝ }
     ensures { λ r. ⌜ ((c : Scope) → Scoped (now (tables .entry)) counts c
         → Wrote endedCells (now (code .entry)) used r (now (code .exit)) (fieldParts durative over (now (text .entry)) c (now (w .entry)) left from))
@@ -79,7 +79,7 @@ pub fn field_parts(
     let f = field_at(text, from, w);
     let Place::At(inside) = f else {
         domain_literals::put(code, used, 0);
-        return Reading::Done(from, used + 1);
+        return Parsed::Done(from, used + 1);
     };
     let x = held_at(
         text,
@@ -95,8 +95,8 @@ pub fn field_parts(
     match x {
         Progress::Done(after, free, _) => {
             domain_literals::put(code, free, 0);
-            Reading::Done(after, free + 1)
+            Parsed::Done(after, free + 1)
         }
-        Progress::Refused(k, p) => Reading::Refused(k, p),
+        Progress::Refused(k, p) => Parsed::Refused(k, p),
     }
 }

@@ -1,7 +1,7 @@
 // "In a durative action each part, under at most one outer `and`, is `at start`, `over all` (conditions only) or `at end` around a condition or effect."
 use crate::bodies;
 use crate::times;
-use domain_due::Reading;
+use domain_due::Parsed;
 use domain_expressions::leaves;
 use domain_expressions::leaves::Progress;
 use domain_terms::scope::Counts;
@@ -36,7 +36,7 @@ fn part_behind(
         × Spent 0 (length (now (text .entry))) used e r ⌝ }
 {
     let w = times::time_of(text, p, e, d, over);
-    let Reading::Done(at, when) = w else {
+    let Parsed::Done(at, when) = w else {
         return leaves::progress_of(w, left);
     };
     domain_literals::put(code, used, when);
@@ -45,7 +45,7 @@ fn part_behind(
         return x;
     };
     let c = domain_due::closing(text, after, d);
-    let Reading::Done(end, _) = c else {
+    let Parsed::Done(end, _) = c else {
         return leaves::progress_of(c, more);
     };
     Progress::Done(end, free, more)
@@ -69,7 +69,7 @@ fn part_at(
         × Spent 0 (length (now (text .entry))) used from r ⌝ }
 {
     let o = domain_due::opening(text, from, d);
-    let Reading::Done(inside, _) = o else {
+    let Parsed::Done(inside, _) = o else {
         return leaves::progress_of(o, left);
     };
     let t = tokens::token_at(text, inside);
@@ -132,7 +132,7 @@ pub fn parts_at(
         × Spent 0 (length (now (text .entry))) used from r ⌝ }
 {
     let o = domain_due::opening(text, from, d);
-    let Reading::Done(inside, _) = o else {
+    let Parsed::Done(inside, _) = o else {
         return leaves::progress_of(o, left);
     };
     let t = tokens::token_at(text, inside);

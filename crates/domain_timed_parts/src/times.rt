@@ -1,5 +1,5 @@
 // When a part holds or happens: "`at start`, `over all` (conditions only) or `at end`".
-use domain_due::Reading;
+use domain_due::Parsed;
 use text_tokens::runs;
 use text_tokens::tokens;
 use text_tokens::tokens::Token;
@@ -12,7 +12,7 @@ ghost use Rattle.domain_meaning.specs.Actions.{timeOf};
 ghost use Rattle.domain_timed_parts.specs.Times.{whenAnswer, behindAt, behindOver};
 
 // Behind `at`: the cell of `start` or `end`.
-fn behind_at(text: &[u8], from: usize, d: usize) -> Reading
+fn behind_at(text: &[u8], from: usize, d: usize) -> Parsed
     requires { ⌜ from ≤ length (now text) ⌝ }
     ensures { λ r. ⌜ (r ≡ whenAnswer (behindAt (now (text .entry)) d from)) × Ahead (length (now (text .entry))) from r ⌝ }
 {
@@ -21,28 +21,28 @@ fn behind_at(text: &[u8], from: usize, d: usize) -> Reading
         return domain_due::refusal(t, d);
     };
     if spelling::same_word(tokens::word_of(text, t), b"start") {
-        return Reading::Done(e, 1);
+        return Parsed::Done(e, 1);
     }
     if spelling::same_word(tokens::word_of(text, t), b"end") {
-        return Reading::Done(e, 3);
+        return Parsed::Done(e, 3);
     }
-    Reading::Refused(3, p)
+    Parsed::Refused(3, p)
 }
 
 // Behind `over`: the cell of `all`.
-fn behind_over(text: &[u8], from: usize, d: usize) -> Reading
+fn behind_over(text: &[u8], from: usize, d: usize) -> Parsed
     requires { ⌜ from ≤ length (now text) ⌝ }
     ensures { λ r. ⌜ (r ≡ whenAnswer (behindOver (now (text .entry)) d from)) × Ahead (length (now (text .entry))) from r ⌝ }
 {
     let a = domain_due::word_due(text, from, d, b"all");
-    let Reading::Done(after, _) = a else {
+    let Parsed::Done(after, _) = a else {
         return a;
     };
-    Reading::Done(after, 2)
+    Parsed::Done(after, 2)
 }
 
 // The cell of the time of a part whose first word stands from p to e.
-pub fn time_of(text: &[u8], p: usize, e: usize, d: usize, over: bool) -> Reading
+pub fn time_of(text: &[u8], p: usize, e: usize, d: usize, over: bool) -> Parsed
     requires { ⌜ e ≤ length (now text) ⌝ }
     ensures { λ r. ⌜ (r ≡ whenAnswer (timeOf (now (text .entry)) d over p e e)) × Ahead (length (now (text .entry))) e r ⌝ }
 {
@@ -54,5 +54,5 @@ pub fn time_of(text: &[u8], p: usize, e: usize, d: usize, over: bool) -> Reading
             return behind_over(text, e, d);
         }
     }
-    Reading::Refused(3, p)
+    Parsed::Refused(3, p)
 }

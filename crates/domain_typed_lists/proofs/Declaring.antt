@@ -21,8 +21,8 @@ use Rattle.domain_meaning.specs.Due.{afterOf, wrong, onWord, opening, closing, 
 use Rattle.domain_meaning.specs.Tables.{Table, typeOf, fresh}
 use Rattle.domain_meaning.specs.Lists.{variablesTo, signature, declaration, declarations}
 use Rattle.domain_due.specs.Answers.{answerOf, nameOf}
-use Rattle.domain_due.specs.declared.Reading.{Reading}
-use Rattle.domain_due.specs.declared.Reading.the-variants.{Done, Refused}
+use Rattle.domain_due.specs.declared.Parsed.{Parsed}
+use Rattle.domain_due.specs.declared.Parsed.the-variants.{Done, Refused}
 use Rattle.domain_due.proofs.Dues.{not-close, word-in, name-in, Named, any-named, answer-done, answer-refused}
 use Rattle.domain_rows.specs.Held.{rowsOf, Holds}
 use Rattle.domain_meaning.specs.Indexes.{padded}
@@ -103,7 +103,7 @@ pub record Signs (m : ℕ) (now : List ℕ) (a v : ℕ) (x : Read Table) : Type 
   pub numbers : take (v + 1) now ≡ length table ∷ map typeOf table
   pub long : length (take (v + 1) now) ≡ v + 1
 
-pub signed-done : (x : Read Table) (m : ℕ) (r : Reading) (was now : List ℕ) (a v : ℕ) → Signed m r was now x → r ≡ Done a v → m < length was → Signs m now a v x
+pub signed-done : (x : Read Table) (m : ℕ) (r : Parsed) (was now : List ℕ) (a v : ℕ) → Signed m r was now x → r ≡ Done a v → m < length was → Signs m now a v x
 unfolding Signed
 signed-done (got t n) m r was now a v h e l =
     let q = h .0 in
@@ -122,12 +122,12 @@ signed-done (got t n) m r was now a v h e l =
     }
 signed-done (refused k p) m r was now a v h e l = absurd (let z : _≡_ {A = ℕ} 0 1 = cc in let y : ⊥ = omega arith in y)
 
-pub signed-refused : (x : Read Table) (m : ℕ) (r : Reading) (was now : List ℕ) (k p : ℕ) → Signed m r was now x → r ≡ Refused k p → x ≡ refused k p
+pub signed-refused : (x : Read Table) (m : ℕ) (r : Parsed) (was now : List ℕ) (k p : ℕ) → Signed m r was now x → r ≡ Refused k p → x ≡ refused k p
 unfolding Signed
 signed-refused (got t n) m r was now k p h e = absurd (let q = h .0 in let z : _≡_ {A = ℕ} 0 1 = cc q in let y : ⊥ = omega arith in y)
 signed-refused (refused j q) m r was now k p h e = cc
 
-pub signs-refused : (m : ℕ) (r : Reading) (was now : List ℕ) (k p : ℕ) (x : Read Table) → x ≡ refused k p → r ≡ Refused k p → Signed m r was now x
+pub signs-refused : (m : ℕ) (r : Parsed) (was now : List ℕ) (k p : ℕ) (x : Read Table) → x ≡ refused k p → r ≡ Refused k p → Signed m r was now x
 unfolding Signed
 signs-refused m r was now k p x e h = rw e h
 
@@ -205,12 +205,12 @@ module _ (s : List ℕ) (ts : Table) (max most : ℕ) (t₀ : Table) (from : ℕ
   pub declaring-close : (p e : ℕ) → tokenAt s at ≡ T.Close p e → (k : ℕ) → length s - from < k → Outcome max (Done e n) rows (declarations k s ts max most t₀ from)
   declaring-close p e q k h = reads max rows n e (o .table) _ (whole (got (o .table) e) (λ j. declarations-close j s ts max most (o .table) at p e q) k h) (o .holds)
 
-  module _ (c : Token) (z : c ≡ tokenAt s at) (w : OneOf (0 ∷ 1 ∷ 2 ∷ 4 ∷ 5 ∷ 6 ∷ []) (tagOf token-type.the-type c)) (d : Reading) (y : d ≡ answerOf (opening s 14 at)) where
+  module _ (c : Token) (z : c ≡ tokenAt s at) (w : OneOf (0 ∷ 1 ∷ 2 ∷ 4 ∷ 5 ∷ 6 ∷ []) (tagOf token-type.the-type c)) (d : Parsed) (y : d ≡ answerOf (opening s 14 at)) where
     pub declaring-no-open : (r : List ℕ) (i p : ℕ) → d ≡ Refused i p → (k : ℕ) → length s - from < k → Outcome max d r (declarations k s ts max most t₀ from)
     declaring-no-open r i p e k h =
         refuses max d r i p _ (whole (refused i p) (λ j. declarations-open j s ts max most (o .table) at c z w ∙ simp (answer-refused (opening s 14 at) i p (sym y ∙ e))) k h) e
 
-    module _ (b p : ℕ) (q : d ≡ Done b p) (r : Reading) (rows′ : List ℕ) (out : Outcome max r rows′ (declaration s ts max most (o .table) b)) where
+    module _ (b p : ℕ) (q : d ≡ Done b p) (r : Parsed) (rows′ : List ℕ) (out : Outcome max r rows′ (declaration s ts max most (o .table) b)) where
       way : (j : ℕ) → declarations (suc j) s ts max most (o .table) at ≡ andThen (declaration s ts max most (o .table) b) (λ u a. declarations j s ts max most u a)
       way j = declarations-open j s ts max most (o .table) at c z w ∙ simp (answer-done (opening s 14 at) b p (sym y ∙ q))
 

@@ -14,8 +14,8 @@ use Rattle.domain_meaning.specs.Read.{Read, Reader, got, refused, andThen, give
 use Rattle.domain_meaning.specs.Tables.{entry, Table, lookup, onFound, fresh, retype}
 use Rattle.domain_meaning.specs.Lists.{typeDue, group, item, declare, waiting, typed, namesTo}
 use Rattle.domain_meaning.specs.Lists as G
-use Rattle.domain_due.specs.declared.Reading.{Reading}
-use Rattle.domain_due.specs.declared.Reading.the-variants.{Done, Refused}
+use Rattle.domain_due.specs.declared.Parsed.{Parsed}
+use Rattle.domain_due.specs.declared.Parsed.the-variants.{Done, Refused}
 use Rattle.domain_rows.specs.Held.{Holds}
 use Rattle.domain_typed_lists.specs.Outcome.{Outcome}
 use Rattle.domain_typed_lists.proofs.Outcomes.{outcome-done, outcome-refused, refuses, reads}
@@ -137,7 +137,7 @@ module _ (s : List ℕ) (var own : Bool) (ts : Table) (max : ℕ) (t₀ : Table)
   pub going-refused : (i p : ℕ) (r : List ℕ) → item s var at ≡ refused i p → (k : ℕ) → length s - from < k → Outcome max (Refused i p) r (typed k s var own ts max t₀ g₀ from)
   going-refused i p r q k h = refuses max (Refused i p) r i p _ (whole (refused i p) (λ j _. typed-refused j s var own ts max (o .table) g at i p q) k h) refl
 
-  module _ (p e : ℕ) (q : item s var at ≡ got (G.dash p) e) (r : Reading) (rows′ : List ℕ) (out : Outcome max r rows′ (andThen (waiting (o .table) g p e) (λ _. group s own ts (o .table) g))) where
+  module _ (p e : ℕ) (q : item s var at ≡ got (G.dash p) e) (r : Parsed) (rows′ : List ℕ) (out : Outcome max r rows′ (andThen (waiting (o .table) g p e) (λ _. group s own ts (o .table) g))) where
     way : (j : ℕ) → typed (suc j) s var own ts max (o .table) g at ≡ andThen (andThen (waiting (o .table) g p e) (λ _. group s own ts (o .table) g)) (λ u a. typed j s var own ts max u (length u) a)
     way j = typed-dash j s var own ts max (o .table) g at p e q
 
@@ -149,7 +149,7 @@ module _ (s : List ℕ) (var own : Bool) (ts : Table) (max : ℕ) (t₀ : Table)
     pub going-group-refused : (i c : ℕ) → r ≡ Refused i c → (k : ℕ) → length s - from < k → Outcome max r rows′ (typed k s var own ts max t₀ g₀ from)
     going-group-refused i c d k h = refuses max r rows′ i c _ (whole (refused i c) (λ j _. way j ∙ simp (outcome-refused _ max r rows′ i c out d)) k h) d
 
-  module _ (p b e : ℕ) (q : item s var at ≡ got (G.names p (part s b e)) e) (r : Reading) (rows′ : List ℕ) (out : Outcome max r rows′ (declare max (o .table) p (part s b e) e)) where
+  module _ (p b e : ℕ) (q : item s var at ≡ got (G.names p (part s b e)) e) (r : Parsed) (rows′ : List ℕ) (out : Outcome max r rows′ (declare max (o .table) p (part s b e) e)) where
     pub going-name : (a m : ℕ) → r ≡ Done a m → at < e → e ≤ length s → Going s var own ts max t₀ g₀ from rows′ m g e
     going-name a m d lo hi =
         let x = outcome-done _ max r rows′ a m out d in

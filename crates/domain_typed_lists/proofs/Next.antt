@@ -21,8 +21,8 @@ use Rattle.domain_meaning.specs.Read.{Read, got, refused, give, refuse}
 use Rattle.domain_meaning.specs.Due.{afterOf, numberOf, placeOf, wrong, onWord, onClose}
 use Rattle.domain_meaning.specs.Lists.{itemOf, item}
 use Rattle.domain_meaning.specs.Lists as G
-use Rattle.domain_due.specs.declared.Reading.{Reading}
-use Rattle.domain_due.specs.declared.Reading.the-variants.{Done, Refused}
+use Rattle.domain_due.specs.declared.Parsed.{Parsed}
+use Rattle.domain_due.specs.declared.Parsed.the-variants.{Done, Refused}
 use Rattle.domain_due.proofs.Dues.{not-word, not-close}
 use Rattle.domain_typed_lists.specs.Items.{itemFor}
 use Rattle.domain_typed_lists.specs.declared.items.Item.{Item}
@@ -83,13 +83,13 @@ module _ (s : List ℕ) (var : Bool) (at : ℕ) (h : at ≤ length s) (r : Item)
   unfolding Lies
   item-name p a e d = lies-as (Name p a e) d
 
-  pub item-other : (a : Reading) → r ≡ Other a → (i : ℕ) × (p : ℕ) × (a ≡ Refused i p) × (item s var at ≡ refused i p)
+  pub item-other : (a : Parsed) → r ≡ Other a → (i : ℕ) × (p : ℕ) × (a ≡ Refused i p) × (item s var at ≡ refused i p)
   unfolding Lies
   item-other (Done n v) e = absurd (lies-as (Other (Done n v)) e)
   item-other (Refused i p) e = (i, p, refl, lies-as (Other (Refused i p)) e)
 
 -- a token that is no bracket that closes and no word is refused
-pub item-else : (s : List ℕ) (var : Bool) (at : ℕ) (t : Token) (r : Reading) → t ≡ tokenAt s at → OneOf (0 ∷ 1 ∷ 2 ∷ 4 ∷ 5 ∷ 6 ∷ []) (tagOf token-type.the-type t)
+pub item-else : (s : List ℕ) (var : Bool) (at : ℕ) (t : Token) (r : Parsed) → t ≡ tokenAt s at → OneOf (0 ∷ 1 ∷ 2 ∷ 4 ∷ 5 ∷ 6 ∷ []) (tagOf token-type.the-type t)
     → OneOf (1 ∷ 2 ∷ 3 ∷ 4 ∷ 5 ∷ 6 ∷ []) (tagOf token-type.the-type t) → r ≡ Refused (numberOf 13 t) (placeOf t) → Other r ≡ itemFor var (item s var at)
 unfolding item
 item-else s var at t r e o w q = rw (← e, not-close t _ _ o, not-word t _ _ w, q)

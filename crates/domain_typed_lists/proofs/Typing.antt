@@ -24,8 +24,8 @@ use Rattle.domain_meaning.specs.Due.{afterOf, numberOf, placeOf, wrong, onOpen}
 use Rattle.domain_meaning.specs.Tables.{Table, lookup}
 use Rattle.domain_meaning.specs.Lists.{typeNamed, typeOfWord, typeOfOther, typeDue}
 use Rattle.domain_due.specs.Answers.{answerOf, Ahead}
-use Rattle.domain_due.specs.declared.Reading.{Reading}
-use Rattle.domain_due.specs.declared.Reading.the-variants.{Done, Refused}
+use Rattle.domain_due.specs.declared.Parsed.{Parsed}
+use Rattle.domain_due.specs.declared.Parsed.the-variants.{Done, Refused}
 use Rattle.domain_due.proofs.Dues.{not-word, not-open}
 use Rattle.domain_typed_lists.specs.Outcome.{Below}
 
@@ -36,7 +36,7 @@ unfolding Within
 bracket-in s at p n h e = let w = rw e at (token-within s at h) in omega (arith, w .1, w .2)
 
 module _ (s : List ℕ) (from at : ℕ) where
-  pub other-else : (t : Token) (r : Reading) → t ≡ tokenAt s from → OneOf (0 ∷ 1 ∷ 3 ∷ 4 ∷ 5 ∷ 6 ∷ []) (tagOf token-type.the-type t) → r ≡ Refused (numberOf 13 t) (placeOf t)
+  pub other-else : (t : Token) (r : Parsed) → t ≡ tokenAt s from → OneOf (0 ∷ 1 ∷ 3 ∷ 4 ∷ 5 ∷ 6 ∷ []) (tagOf token-type.the-type t) → r ≡ Refused (numberOf 13 t) (placeOf t)
       → r ≡ answerOf (onOpen (tokenAt s from) (typeOfOther s) (wrong 13 (tokenAt s from)) at)
   other-else t r e o q = rw (← e, not-open t _ _ o) q
 
@@ -48,7 +48,7 @@ module _ (s : List ℕ) (from at : ℕ) where
     other-either a z o = rw (e, o)
 
 -- an answer with no number is a refusal
-pub never-ahead : (r : Reading) (n at : ℕ) → Below 0 r → Ahead n at r
+pub never-ahead : (r : Parsed) (n at : ℕ) → Below 0 r → Ahead n at r
 unfolding Below Ahead
 never-ahead (Done a v) n at h = absurd (let z : ⊥ = omega arith in z)
 never-ahead (Refused k p) n at h = tt
@@ -62,7 +62,7 @@ no-type s ts b W.Keyword p e at h = refl
 no-type s ts b W.Operator p e at h = refl
 
 module _ (s : List ℕ) (ts : Table) (b at : ℕ) where
-  pub type-else : (t : Token) (r : Reading) → t ≡ tokenAt s at → OneOf (1 ∷ 2 ∷ 3 ∷ 4 ∷ 5 ∷ 6 ∷ []) (tagOf token-type.the-type t)
+  pub type-else : (t : Token) (r : Parsed) → t ≡ tokenAt s at → OneOf (1 ∷ 2 ∷ 3 ∷ 4 ∷ 5 ∷ 6 ∷ []) (tagOf token-type.the-type t)
       → ((j : ℕ) → r ≡ answerOf (onOpen (tokenAt s at) (typeOfOther s) (wrong 13 (tokenAt s at)) j)) → r ≡ answerOf (typeDue s ts b at)
   unfolding typeDue
   type-else t r e o f = rw (← e, not-word t _ _ o) (rw (← e) at (f (afterOf t)))

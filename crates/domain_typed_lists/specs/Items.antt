@@ -3,7 +3,7 @@ use Prim.Native.Nat.{_+_}
 use mathlib.Core.Bool.{Bool, cond}
 use Rattle.domain_meaning.specs.Read.{Read, got, refused}
 use Rattle.domain_meaning.specs.Lists as G
-use Rattle.domain_due.specs.declared.Reading.the-variants.{Refused}
+use Rattle.domain_due.specs.declared.Parsed.the-variants.{Refused}
 use Rattle.domain_typed_lists.specs.declared.items.Item.{Item}
 use Rattle.domain_typed_lists.specs.declared.items.Item.the-variants.{Close, Dash, Name, Other}
 

@@ -1,5 +1,5 @@
 // The next thing of a typed list: its end, a dash, or a name to declare.
-use domain_due::Reading;
+use domain_due::Parsed;
 use text_tokens::tokens;
 use text_tokens::tokens::Token;
 use text_tokens::tokens::Word;
@@ -21,7 +21,7 @@ pub enum Item {
     // where it stands, where the name begins (behind a variable's mark) and ends
     Name(usize, usize, usize),
     // anything else: its refusal
-    Other(Reading),
+    Other(Parsed),
 }
 
 // A word w of a list, which stands from p to e; of a list of variables: `var`.
@@ -32,10 +32,10 @@ fn item_of(w: &[u8], var: bool, k: Word, p: usize, e: usize) -> Item
     match k {
         Word::Name => {
             if var {
-                return Item::Other(Reading::Refused(3, p));
+                return Item::Other(Parsed::Refused(3, p));
             }
             if fixed::is_reserved(w) {
-                return Item::Other(Reading::Refused(3, p));
+                return Item::Other(Parsed::Refused(3, p));
             }
             Item::Name(p, p, e)
         }
@@ -43,14 +43,14 @@ fn item_of(w: &[u8], var: bool, k: Word, p: usize, e: usize) -> Item
             if var {
                 return Item::Name(p, p + 1, e);
             }
-            Item::Other(Reading::Refused(3, p))
+            Item::Other(Parsed::Refused(3, p))
         }
-        Word::Keyword => Item::Other(Reading::Refused(3, p)),
+        Word::Keyword => Item::Other(Parsed::Refused(3, p)),
         Word::Operator => {
             if spelling::same_word(w, b"-") {
                 return Item::Dash(p, e);
             }
-            Item::Other(Reading::Refused(3, p))
+            Item::Other(Parsed::Refused(3, p))
         }
     }
 }

@@ -2,7 +2,7 @@
 use crate::items;
 use crate::items::Item;
 use crate::types;
-use domain_due::Reading;
+use domain_due::Parsed;
 use domain_rows::layout;
 use text_tokens::runs;
 use text_words::names;
@@ -29,18 +29,18 @@ pub fn fresh_at(
     rows: &[u8],
     max: usize,
     n: usize,
-) -> Reading
+) -> Parsed
     ensures { λ r. ⌜ ((m : ℕ) (t : Table) → Holds m (now (rows .entry)) n t → r ≡ answerOf (fresh max t place (part (now (text .entry)) start end) end))
         × Room max n r ⌝ }
 {
     let f = names::find(rows, n, runs::part_of(text, start, end));
     let Place::Nothing = f else {
-        return Reading::Refused(7, place);
+        return Parsed::Refused(7, place);
     };
     if max <= n {
-        return Reading::Refused(12, place);
+        return Parsed::Refused(12, place);
     }
-    Reading::Done(end, place)
+    Parsed::Done(end, place)
 }
 
 // A name more in the table, an object.
@@ -52,18 +52,18 @@ fn declare_name(
     rows: &mut [u8],
     max: usize,
     n: usize,
-) -> Reading
+) -> Parsed
     requires { ⌜ (length (part (now text) start end) ≤ 32) × Stands max (now rows) n ⌝ }
     ensures { λ r. ⌜ ((t : Table) → Holds max (now (rows .entry)) n t
         → Outcome max r (now (rows .exit)) (declare max t place (part (now (text .entry)) start end) end)) ⌝ }
 {
     let f = fresh_at(text, place, start, end, rows, max, n);
-    let Reading::Done(after, _) = f else {
+    let Parsed::Done(after, _) = f else {
         return f;
     };
     let object = [0u8; 1];
     domain_rows::enter(rows, max, n, runs::part_of(text, start, end), &object);
-    Reading::Done(after, n + 1)
+    Parsed::Done(after, n + 1)
 }
 
 // Behind a dash: a type's parent stands before the group, any other type is in `types`.
@@ -76,7 +76,7 @@ fn type_of_group(
     rows: &[u8],
     g: usize,
     n: usize,
-) -> Reading
+) -> Parsed
     requires { ⌜ (from ≤ length (now text)) × (tn ≤ 255) × (g ≤ 255) ⌝ }
     ensures { λ r. ⌜ ((m : ℕ) (ts t : Table) → Holds 17 (now (types .entry)) tn ts → Holds m (now (rows .entry)) n t
         → r ≡ answerOf (typeDue (now (text .entry)) (cond own t ts) (cond own g (length ts)) from))
@@ -100,21 +100,21 @@ fn group_at(
     max: usize,
     g: usize,
     n: usize,
-) -> Reading
+) -> Parsed
     requires { ⌜ (from ≤ length (now text)) × Stands 17 (now types) tn × Stands max (now rows) n × (n ≤ 255) ⌝ }
     ensures { λ r. ⌜ ((ts t : Table) → Holds 17 (now (types .entry)) tn ts → Holds max (now (rows .entry)) n t
         → Outcome max r (now (rows .exit)) (andThen (waiting t g p from) (λ _. group (now (text .entry)) own ts t g)))
         × Ahead (length (now (text .entry))) from r ⌝ }
 {
     if n <= g {
-        return Reading::Refused(3, p);
+        return Parsed::Refused(3, p);
     }
     let a = type_of_group(text, from, own, types, tn, rows, g, n);
-    let Reading::Done(after, k) = a else {
+    let Parsed::Done(after, k) = a else {
         return a;
     };
     domain_rows::fill(rows, max, g, n, k as u8);
-    Reading::Done(after, n)
+    Parsed::Done(after, n)
 }
 
 // The list's rest, to its closing bracket: of names or of variables (`var`), of types (`own`) or of what has a type of `types`.
@@ -128,7 +128,7 @@ pub fn typed_list(
     rows: &mut [u8],
     max: usize,
     mut n: usize,
-) -> Reading
+) -> Parsed
     requires { ⌜ (at ≤ length (now text)) × Stands 17 (now types) tn × Stands max (now rows) n × (max ≤ 255) ⌝ }
     ensures { λ r. ⌜ ((ts t : Table) (k : ℕ) → Holds 17 (now (types .entry)) tn ts → Holds max (now (rows .entry)) n t → length (now (text .entry)) - at < k
         → Outcome max r (now (rows .exit)) (typed k (now (text .entry)) var own ts max t n at))
@@ -137,10 +137,10 @@ pub fn typed_list(
     let mut g = n;
     loop {
         match items::item_at(text, at, var) {
-            Item::Close(next) => return Reading::Done(next, n),
+            Item::Close(next) => return Parsed::Done(next, n),
             Item::Dash(p, next) => {
                 let a = group_at(text, p, next, own, types, tn, rows, max, g, n);
-                let Reading::Done(after, m) = a else {
+                let Parsed::Done(after, m) = a else {
                     return a;
                 };
                 at = after;
@@ -149,7 +149,7 @@ pub fn typed_list(
             }
             Item::Name(place, start, end) => {
                 let a = declare_name(text, place, start, end, rows, max, n);
-                let Reading::Done(_, m) = a else {
+                let Parsed::Done(_, m) = a else {
                     return a;
                 };
                 at = end;
@@ -168,7 +168,7 @@ pub fn names_to(
     tn: usize,
     rows: &mut [u8],
     count: usize,
-) -> Reading
+) -> Parsed
     requires { ⌜ (from ≤ length (now text)) × Stands 17 (now types) tn × Stands 64 (now rows) count ⌝ }
     ensures { λ r. ⌜ ((ts t : Table) → Holds 17 (now (types .entry)) tn ts → Holds 64 (now (rows .entry)) count t
         → Outcome 64 r (now (rows .exit)) (namesTo (now (text .entry)) ts 64 t from))
@@ -185,7 +185,7 @@ pub fn variables_to(
     tn: usize,
     rows: &mut [u8],
     most: usize,
-) -> Reading
+) -> Parsed
     requires { ⌜ (from ≤ length (now text)) × Stands 17 (now types) tn × (now rows ≡ rowsOf most []) × (most ≤ 255) ⌝ }
     ensures { λ r. ⌜ ((ts : Table) → Holds 17 (now (types .entry)) tn ts → Outcome most r (now (rows .exit)) (variablesTo (now (text .entry)) ts most from))
         × Ahead (length (now (text .entry))) from r ⌝ }
@@ -194,7 +194,7 @@ pub fn variables_to(
 }
 
 // The types of a domain, behind `object`.
-pub fn types_to(text: &[u8], from: usize, rows: &mut [u8]) -> Reading
+pub fn types_to(text: &[u8], from: usize, rows: &mut [u8]) -> Parsed
     requires { ⌜ (from ≤ length (now text)) × (now rows ≡ rowsOf 17 []) ⌝ }
     ensures { λ r. ⌜ Outcome 17 r (now (rows .exit)) (typesTo (now (text .entry)) from) × Ahead (length (now (text .entry))) from r ⌝ }
 {

@@ -1,5 +1,5 @@
 // A type, where one is due: its number in a table of types.
-use domain_due::Reading;
+use domain_due::Parsed;
 use text_tokens::tokens;
 use text_tokens::tokens::Spot;
 use text_tokens::tokens::Token;
@@ -18,7 +18,7 @@ ghost use Rattle.domain_rows.specs.Held.{Holds};
 ghost use Rattle.domain_typed_lists.specs.Outcome.{Below};
 
 // The token at `from`, which is no word, is refused: there is no number to answer.
-fn no_word(text: &[u8], from: usize) -> Reading
+fn no_word(text: &[u8], from: usize) -> Parsed
     requires { ⌜ from ≤ length (now text) ⌝ }
     ensures { λ r. ⌜ ((at : ℕ)
         → r ≡ answerOf (onOpen (tokenAt (now (text .entry)) from) (typeOfOther (now (text .entry))) (wrong 13 (tokenAt (now (text .entry)) from)) at))
@@ -30,13 +30,13 @@ fn no_word(text: &[u8], from: usize) -> Reading
     };
     let o = tokens::spot_at(text, p + 1, b"either");
     let Spot::At(q, _) = o else {
-        return Reading::Refused(3, p);
+        return Parsed::Refused(3, p);
     };
-    Reading::Refused(11, q)
+    Parsed::Refused(11, q)
 }
 
 // The number of the type that is named next, one of the first b of the n in the table.
-pub fn type_due(text: &[u8], from: usize, rows: &[u8], n: usize, b: usize) -> Reading
+pub fn type_due(text: &[u8], from: usize, rows: &[u8], n: usize, b: usize) -> Parsed
     requires { ⌜ from ≤ length (now text) ⌝ }
     ensures { λ r. ⌜ ((m : ℕ) (t : Table) → Holds m (now (rows .entry)) n t → r ≡ answerOf (typeDue (now (text .entry)) t b from))
         × Ahead (length (now (text .entry))) from r × Below b r ⌝ }
@@ -46,14 +46,14 @@ pub fn type_due(text: &[u8], from: usize, rows: &[u8], n: usize, b: usize) -> Re
         return no_word(text, from);
     };
     let Word::Name = k else {
-        return Reading::Refused(3, p);
+        return Parsed::Refused(3, p);
     };
     let f = names::find(rows, n, tokens::word_of(text, t));
     let Place::At(i) = f else {
-        return Reading::Refused(8, p);
+        return Parsed::Refused(8, p);
     };
     if b <= i {
-        return Reading::Refused(8, p);
+        return Parsed::Refused(8, p);
     }
-    Reading::Done(e, i)
+    Parsed::Done(e, i)
 }

@@ -23,8 +23,8 @@ use Rattle.domain_meaning.specs.Due.{afterOf}
 use Rattle.domain_meaning.specs.Tables.{Table, entryAt, wantedOf}
 use Rattle.domain_meaning.specs.Actions.{Action}
 use Rattle.domain_due.specs.Answers.{answerOf}
-use Rattle.domain_due.specs.declared.Reading.{Reading}
-use Rattle.domain_due.specs.declared.Reading.the-variants.{Done, Refused}
+use Rattle.domain_due.specs.declared.Parsed.{Parsed}
+use Rattle.domain_due.specs.declared.Parsed.the-variants.{Done, Refused}
 use Rattle.domain_due.proofs.Dues.{not-end, answer-done, answer-refused, never-done}
 use Rattle.domain_stored_meaning.specs.Decode.{actionFrom, actionAt, lastingAt}
 use Rattle.domain_stored_meaning.proofs.Actions.{numbered}
@@ -52,7 +52,7 @@ use Rattle.plan_lines.proofs.Objects.{named-then, known-named, action-b
 
 -- ---- a refusal on the way
 
-module _ (n : ℕ) (r : Line) (a : Reading) (c p : ℕ) (e : a ≡ Refused c p) (q : r ≡ refusedLine a) where
+module _ (n : ℕ) (r : Line) (a : Parsed) (c p : ℕ) (e : a ≡ Refused c p) (q : r ≡ refusedLine a) where
   pub stepped-refused : (x : Read (Step Act)) → x ≡ refused c p → Stepped n r x
   unfolding Stepped
   stepped-refused x h = rw h (q ∙ ap refusedLine e)
@@ -64,12 +64,12 @@ module _ (n : ℕ) (r : Line) (a : Reading) (c p : ℕ) (e : a ≡ Refused c p) 
 same-refused : {A : Type 0} (j b c p : ℕ) → Refused j b ≡ Refused c p → _≡_ {A = Read A} (refused j b) (refused c p)
 same-refused j b c p e = let x : j ≡ c = cc in let y : b ≡ p = cc in rw (x, y)
 
-listed-refused : (r : Reading) (out m : List ℕ) (c p : ℕ) (x : Read (List ℕ)) → Listed r out m x → r ≡ Refused c p → x ≡ refused c p
+listed-refused : (r : Parsed) (out m : List ℕ) (c p : ℕ) (x : Read (List ℕ)) → Listed r out m x → r ≡ Refused c p → x ≡ refused c p
 unfolding Listed
 listed-refused r out m c p (got os n) h e = never-done c p n (length os) (sym e ∙ h .0)
 listed-refused r out m c p (refused j b) h e = same-refused j b c p (sym h ∙ e)
 
-pub amount-done : (r : Reading) (a v : ℕ) → r ≡ Done a v → amountAnswer r → v < 1000000000000
+pub amount-done : (r : Parsed) (a v : ℕ) → r ≡ Done a v → amountAnswer r → v < 1000000000000
 amount-done r a v e h = rw e at h
 
 -- ---- how long a step lasts lies in a number
@@ -126,7 +126,7 @@ record Taken (x : Read (List ℕ)) (out m : List ℕ) (at : ℕ) : Type 0 where
   is : x ≡ got objects at
   stored : m ≡ sets out 0 objects
 
-listed-done : (r : Reading) (out m : List ℕ) (a u : ℕ) (x : Read (List ℕ)) → Listed r out m x → r ≡ Done a u → Taken x out m a
+listed-done : (r : Parsed) (out m : List ℕ) (a u : ℕ) (x : Read (List ℕ)) → Listed r out m x → r ≡ Done a u → Taken x out m a
 unfolding Listed
 listed-done r out m a u (got os n) h e = let z : n ≡ a = cc in record { objects = os; is = rw z; stored = h .1 }
 listed-done r out m a u (refused c p) h e = never-done c p a u (sym h ∙ e)
@@ -227,7 +227,7 @@ module _ (s tables : List ℕ) (c : Counts) (heads : List ℕ) (acting : ℕ) (c
         ∙ rw (answer-done (namedAction s (signedIn heads acting) b) e i f, known-declared tables c heads acting code starts i below, known-lasting tables c heads acting code starts i below)
         (ap (λ (h : Reader Span). behind s known n start i wants h e) (λ j g. sym (span-lasting s (lastingAt code (byteAt starts (3 * i)) .tree) g) j))
 
-    module _ (r : Reading) (out t : List ℕ) (l : Listed r out t (objectsTo s known wants e)) where
+    module _ (r : Parsed) (out t : List ℕ) (l : Listed r out t (objectsTo s known wants e)) where
       pub objects-refused : (q p : ℕ) → r ≡ Refused q p → actAt s known n start at ≡ refused q p
       objects-refused q p h = act-behind ∙ rw (listed-refused r out t q p _ l h)
 

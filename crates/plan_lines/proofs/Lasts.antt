@@ -13,8 +13,8 @@ use Rattle.text_tokens.specs.declared.tokens.Token.the-variants as T
 use Rattle.text_tokens.proofs.tokens.Token as token-type
 use Rattle.domain_meaning.specs.Due.{numberOf, placeOf}
 use Rattle.domain_due.specs.Answers.{answerOf}
-use Rattle.domain_due.specs.declared.Reading.{Reading}
-use Rattle.domain_due.specs.declared.Reading.the-variants.{Done, Refused}
+use Rattle.domain_due.specs.declared.Parsed.{Parsed}
+use Rattle.domain_due.specs.declared.Parsed.the-variants.{Done, Refused}
 use Rattle.domain_due.proofs.Dues.{not-number, not-end, answer-done, answer-refused}
 use Rattle.domain_meaning.specs.Actions.{Lasting}
 use Rattle.domain_meaning.specs.Actions as A
@@ -23,13 +23,13 @@ use Rattle.plan_lines.specs.Knowing.{lastsOf}
 use Rattle.plan_lines.specs.Reading.{amountAnswer, spanAnswer, lastingRead}
 use Rattle.plan_lines.proofs.Marks.{not-mark}
 
-pub amount-refused : (r : Reading) (k p : ℕ) → r ≡ Refused k p → amountAnswer r
+pub amount-refused : (r : Parsed) (k p : ℕ) → r ≡ Refused k p → amountAnswer r
 amount-refused r k p e = rw e tt
 
 -- ---- behind the bracket
 
 module _ (s : List ℕ) (at : ℕ) where
-  pub duration-else : (t : Token) (r : Reading) → t ≡ planTokenAt s at → OneOf (0 ∷ 2 ∷ 3 ∷ 4 ∷ 5 ∷ 6 ∷ []) (tagOf token-type.the-type t)
+  pub duration-else : (t : Token) (r : Parsed) → t ≡ planTokenAt s at → OneOf (0 ∷ 2 ∷ 3 ∷ 4 ∷ 5 ∷ 6 ∷ []) (tagOf token-type.the-type t)
       → r ≡ Refused (numberOf 1 t) (placeOf t) → (r ≡ spanAnswer (durationIn s at)) × amountAnswer r
   unfolding durationIn
   duration-else t r e o q = (rw (← e, not-number t _ _ o) q, amount-refused r _ _ q)
@@ -40,12 +40,12 @@ module _ (s : List ℕ) (at : ℕ) where
     duration-zero h = (rw (q, ← v, eq-eqb d 0 h), tt)
 
     module _ (some : d ≡ 0 → ⊥) where
-      pub duration-open : (r : Reading) (k b : ℕ) → r ≡ answerOf (mark s 93 e) → r ≡ Refused k b → (r ≡ spanAnswer (durationIn s at)) × amountAnswer r
+      pub duration-open : (r : Parsed) (k b : ℕ) → r ≡ answerOf (mark s 93 e) → r ≡ Refused k b → (r ≡ spanAnswer (durationIn s at)) × amountAnswer r
       unfolding durationIn
       duration-open r k b m h = (rw (q, ← v, ne-eqb d 0 some, answer-refused (mark s 93 e) k b (sym m ∙ h)) h, amount-refused r k b h)
 
       module _ (a w : ℕ) (m : answerOf (mark s 93 e) ≡ Done a w) where
-        pub duration-on : (r : Reading) (k b : ℕ) → r ≡ answerOf (lineEnd s a) → r ≡ Refused k b → (r ≡ spanAnswer (durationIn s at)) × amountAnswer r
+        pub duration-on : (r : Parsed) (k b : ℕ) → r ≡ answerOf (lineEnd s a) → r ≡ Refused k b → (r ≡ spanAnswer (durationIn s at)) × amountAnswer r
         unfolding durationIn
         duration-on r k b l h = (rw (q, ← v, ne-eqb d 0 some, answer-done (mark s 93 e) a w m, answer-refused (lineEnd s a) k b (sym l ∙ h)) h, amount-refused r k b h)
 
@@ -64,7 +64,7 @@ module _ (s : List ℕ) (at : ℕ) where
   unfolding lastingRead
   lasting-none b p e h = rw (e, h)
 
-  pub lasting-else : (b : Bool) (t : Token) (r : Reading) → t ≡ planTokenAt s at → OneOf (0 ∷ 1 ∷ 2 ∷ 3 ∷ 4 ∷ 5 ∷ []) (tagOf token-type.the-type t)
+  pub lasting-else : (b : Bool) (t : Token) (r : Parsed) → t ≡ planTokenAt s at → OneOf (0 ∷ 1 ∷ 2 ∷ 3 ∷ 4 ∷ 5 ∷ []) (tagOf token-type.the-type t)
       → OneOf (0 ∷ 1 ∷ 2 ∷ 3 ∷ 5 ∷ 6 ∷ []) (tagOf token-type.the-type t)
       → r ≡ Refused (numberOf 1 t) (placeOf t) → (r ≡ spanAnswer (lastingRead s b at)) × amountAnswer r
   unfolding lastingRead

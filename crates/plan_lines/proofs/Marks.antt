@@ -16,8 +16,8 @@ use Rattle.text_tokens.proofs.tokens.Token as token-type
 use Rattle.domain_meaning.specs.Tables.{Table, lookup, declared}
 use Rattle.domain_meaning.specs.Due.{afterOf, numberOf, placeOf}
 use Rattle.domain_due.specs.Answers.{answerOf}
-use Rattle.domain_due.specs.declared.Reading.{Reading}
-use Rattle.domain_due.specs.declared.Reading.the-variants.{Done, Refused}
+use Rattle.domain_due.specs.declared.Parsed.{Parsed}
+use Rattle.domain_due.specs.declared.Parsed.the-variants.{Done, Refused}
 use Rattle.domain_due.proofs.Dues.{not-word, not-number, not-open, not-end}
 use Rattle.plan_meaning.specs.Lines.{onMark, mark, opening, name, lineEnd, startAt}
 use Rattle.plan_lines.specs.Reading.{amountAnswer, namedAction, namedBy}
@@ -34,7 +34,7 @@ not-mark (T.End p) f a h = refl
 -- ---- marks and brackets
 
 module _ (s : List ℕ) (at : ℕ) where
-  pub mark-else : (b : ℕ) (t : Token) (r : Reading) → t ≡ planTokenAt s at → OneOf (0 ∷ 1 ∷ 2 ∷ 3 ∷ 5 ∷ 6 ∷ []) (tagOf token-type.the-type t)
+  pub mark-else : (b : ℕ) (t : Token) (r : Parsed) → t ≡ planTokenAt s at → OneOf (0 ∷ 1 ∷ 2 ∷ 3 ∷ 5 ∷ 6 ∷ []) (tagOf token-type.the-type t)
       → r ≡ Refused (numberOf 1 t) (placeOf t) → r ≡ answerOf (mark s b at)
   unfolding mark
   mark-else b t r e o q = rw (← e, not-mark t _ _ o) q
@@ -47,7 +47,7 @@ module _ (s : List ℕ) (at : ℕ) where
   unfolding mark
   mark-other b c p n e h = rw (e, ne-eqb c b h)
 
-  pub opening-else : (t : Token) (r : Reading) → t ≡ planTokenAt s at → OneOf (0 ∷ 1 ∷ 3 ∷ 4 ∷ 5 ∷ 6 ∷ []) (tagOf token-type.the-type t)
+  pub opening-else : (t : Token) (r : Parsed) → t ≡ planTokenAt s at → OneOf (0 ∷ 1 ∷ 3 ∷ 4 ∷ 5 ∷ 6 ∷ []) (tagOf token-type.the-type t)
       → r ≡ Refused (numberOf 1 t) (placeOf t) → r ≡ answerOf (opening s at)
   unfolding opening
   opening-else t r e o q = rw (← e, not-open t _ _ o) q
@@ -56,7 +56,7 @@ module _ (s : List ℕ) (at : ℕ) where
   unfolding opening
   opening-read p n e = rw e
 
-  pub end-else : (t : Token) (r : Reading) → t ≡ planTokenAt s at → OneOf (0 ∷ 1 ∷ 2 ∷ 3 ∷ 4 ∷ 5 ∷ []) (tagOf token-type.the-type t)
+  pub end-else : (t : Token) (r : Parsed) → t ≡ planTokenAt s at → OneOf (0 ∷ 1 ∷ 2 ∷ 3 ∷ 4 ∷ 5 ∷ []) (tagOf token-type.the-type t)
       → r ≡ Refused (numberOf 1 t) (placeOf t) → r ≡ answerOf (lineEnd s at)
   unfolding lineEnd
   end-else t r e o q = rw (← e, not-end t _ _ o) q
@@ -73,7 +73,7 @@ module _ (s : List ℕ) (names : Table) (t : Token) where
   unfolding namedBy namedAction name
   named-at at e = rw e
 
-  pub named-else : (r : Reading) → OneOf (1 ∷ 2 ∷ 3 ∷ 4 ∷ 5 ∷ 6 ∷ []) (tagOf token-type.the-type t)
+  pub named-else : (r : Parsed) → OneOf (1 ∷ 2 ∷ 3 ∷ 4 ∷ 5 ∷ 6 ∷ []) (tagOf token-type.the-type t)
       → r ≡ Refused (numberOf 1 t) (placeOf t) → r ≡ answerOf (namedBy s names t (afterOf t))
   unfolding namedBy
   named-else r o q = rw (not-word t _ _ o) q
@@ -89,7 +89,7 @@ module _ (s : List ℕ) (names : Table) (t : Token) where
 -- ---- the start
 
 module _ (before : ℕ) (t : Token) where
-  pub start-else : (r : Reading) → OneOf (0 ∷ 2 ∷ 3 ∷ 4 ∷ 5 ∷ 6 ∷ []) (tagOf token-type.the-type t) → r ≡ Refused (numberOf 1 t) (placeOf t)
+  pub start-else : (r : Parsed) → OneOf (0 ∷ 2 ∷ 3 ∷ 4 ∷ 5 ∷ 6 ∷ []) (tagOf token-type.the-type t) → r ≡ Refused (numberOf 1 t) (placeOf t)
       → (r ≡ answerOf (startAt before t (afterOf t))) × amountAnswer r
   unfolding startAt
   start-else r o q = (rw (not-number t _ _ o) q, rw q tt)

@@ -21,8 +21,8 @@ use Rattle.domain_meaning.specs.Read.{Read, Reader, got, refused, andThen, give
 use Rattle.domain_meaning.specs.Tables.{Table, entryAt, typeOf, lookup, onFound, declared, isBelow}
 use Rattle.domain_meaning.specs.Due.{Name, afterOf, placeOf}
 use Rattle.domain_due.specs.Answers.{answerOf}
-use Rattle.domain_due.specs.declared.Reading.{Reading}
-use Rattle.domain_due.specs.declared.Reading.the-variants.{Done, Refused}
+use Rattle.domain_due.specs.declared.Parsed.{Parsed}
+use Rattle.domain_due.specs.declared.Parsed.the-variants.{Done, Refused}
 use Rattle.domain_due.proofs.Dues.{not-close, never-done, answer-refused}
 use Rattle.domain_meaning.specs.Indexes.{padded}
 use Rattle.domain_rows.proofs.Rows.{sets-padded}
@@ -110,7 +110,7 @@ wrote-none : (out : List ℕ) (u n : ℕ) (x : Read (List ℕ)) → x ≡ got []
 unfolding Wrote
 wrote-none out u n x e = rw (e, add-zero u) (refl, refl)
 
-wrote-cons : (out : List ℕ) (u : ℕ) (r : Reading) (m : List ℕ) (i : ℕ) (x : Read (List ℕ))
+wrote-cons : (out : List ℕ) (u : ℕ) (r : Parsed) (m : List ℕ) (i : ℕ) (x : Read (List ℕ))
     → Wrote objectCells (set out u i) (u + 1) r m x → Wrote objectCells out u r m (andThen x (λ is n. got (i ∷ is) n))
 unfolding Wrote
 wrote-cons out u r m i (got is n) h =
@@ -118,7 +118,7 @@ wrote-cons out u r m i (got is n) h =
     (rw e at (h .0), rw (add-one u) at (h .1))
 wrote-cons out u r m i (refused k p) h = h
 
-wrote-listed : (r : Reading) (out m : List ℕ) (x : Read (List ℕ)) → Wrote objectCells out 0 r m x → Listed r out m x
+wrote-listed : (r : Parsed) (out m : List ℕ) (x : Read (List ℕ)) → Wrote objectCells out 0 r m x → Listed r out m x
 unfolding Wrote Listed
 wrote-listed r out m (got os n) h = (rw (zero-add (length os)) at (h .0), h .1)
 wrote-listed r out m (refused k p) h = h
@@ -171,7 +171,7 @@ objects-count s k (w ∷ ws) at =
 -- ---- the loop: what the definition says of the rest, it says of the whole
 
 pub record Onward (s : List ℕ) (k : Known) (ws : List ℕ) (from : ℕ) (out₀ out : List ℕ) (j at : ℕ) : Type 0 where
-  pub on : (r : Reading) (m : List ℕ) → Wrote objectCells out j r m (objectsTo s k (drop j ws) at) → Listed r out₀ m (objectsTo s k ws from)
+  pub on : (r : Parsed) (m : List ℕ) → Wrote objectCells out j r m (objectsTo s k (drop j ws) at) → Listed r out₀ m (objectsTo s k ws from)
 
 pub onward-start : (s : List ℕ) (k : Known) (ws : List ℕ) (from : ℕ) (out : List ℕ) → Onward s k ws from out out 0 from
 onward-start s k ws from out = record { on = λ r m h. wrote-listed r out m (objectsTo s k ws from) h }
@@ -180,7 +180,7 @@ module _ (s : List ℕ) (k : Known) (ws : List ℕ) (from : ℕ) (out₀ out : L
   left : length (drop j ws) ≡ length ws - j
   left = length-drop j ws
 
-  stops : (r : Reading) (c p : ℕ) (m : List ℕ) → objectsTo s k (drop j ws) at ≡ refused c p → r ≡ Refused c p → Listed r out₀ m (objectsTo s k ws from)
+  stops : (r : Parsed) (c p : ℕ) (m : List ℕ) → objectsTo s k (drop j ws) at ≡ refused c p → r ≡ Refused c p → Listed r out₀ m (objectsTo s k ws from)
   stops r c p m e q = o .on r m (wrote-refused objectCells out j r m _ c p e q)
 
   pub onward-done : (p n : ℕ) → planTokenAt s at ≡ T.Close p n → length ws ≤ j → Listed (Done n j) out₀ out (objectsTo s k ws from)
@@ -190,7 +190,7 @@ module _ (s : List ℕ) (k : Known) (ws : List ℕ) (from : ℕ) (out₀ out : L
   onward-early p n m e h = stops (Refused 9 p) 9 p m (objects-early s k at (drop j ws) p n e (omega (arith, left))) refl
 
   module _ (no : OneOf (0 ∷ 1 ∷ 2 ∷ 4 ∷ 5 ∷ 6 ∷ []) (tagOf token-type.the-type (planTokenAt s at))) where
-    pub onward-refused : (r : Reading) (c p : ℕ) (m : List ℕ) → r ≡ answerOf (namedAction s (k .objects) at) → r ≡ Refused c p → Listed r out₀ m (objectsTo s k ws from)
+    pub onward-refused : (r : Parsed) (c p : ℕ) (m : List ℕ) → r ≡ answerOf (namedAction s (k .objects) at) → r ≡ Refused c p → Listed r out₀ m (objectsTo s k ws from)
     onward-refused r c p m q e = stops r c p m (objects-refused s k at no (drop j ws) c p (argument-refused s k at c p (sym q ∙ e))) e
 
     module _ (a v : ℕ) (q : answerOf (namedAction s (k .objects) at) ≡ Done a v) where

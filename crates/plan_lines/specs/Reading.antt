@@ -14,8 +14,8 @@ use Rattle.text_tokens.specs.declared.tokens.Token.the-variants as T
 use Rattle.domain_meaning.specs.Read.{_>>=_, Read, Reader, got, refused, give, refuse}
 use Rattle.domain_meaning.specs.Tables.{Table, declared}
 use Rattle.domain_meaning.specs.Due.{Name, onWord, onEnd}
-use Rattle.domain_due.specs.declared.Reading.{Reading}
-use Rattle.domain_due.specs.declared.Reading.the-variants.{Done, Refused}
+use Rattle.domain_due.specs.declared.Parsed.{Parsed}
+use Rattle.domain_due.specs.declared.Parsed.the-variants.{Done, Refused}
 use Rattle.plan_meaning.specs.Plan.{Span, moment}
 use Rattle.plan_meaning.specs.Lines.{token, misplaced, onMark, name, durationIn}
 use Rattle.plan_meaning.specs.Promised.{durationOf}
@@ -34,12 +34,12 @@ Small (T.Refusal k p) = Unit {0}
 Small (T.End p) = Unit {0}
 
 -- a number that was read is one of a plan line
-abbrev pub amountAnswer : Reading → Type 0
+abbrev pub amountAnswer : Parsed → Type 0
 amountAnswer (Done n a) = a < 1000000000000
 amountAnswer (Refused k p) = Unit {0}
 
 -- how long a step lasts was read: 0 for a simple action
-abbrev pub spanAnswer : Read Span → Reading
+abbrev pub spanAnswer : Read Span → Parsed
 spanAnswer (got d n) = Done n (durationOf d)
 spanAnswer (refused k p) = Refused k p
 
@@ -73,6 +73,6 @@ lastingRead s lasts = do
   onEnd t (endRead lasts) (onMark t (bracketRead s lasts) (misplaced t))
 
 -- objects were read: how many, and they are stored from the first place on
-unfoldable pub Listed : Reading → List ℕ → List ℕ → Read (List ℕ) → Type 0
+unfoldable pub Listed : Parsed → List ℕ → List ℕ → Read (List ℕ) → Type 0
 Listed r before after (got os n) = (r ≡ Done n (length os)) × (after ≡ sets before 0 os)
 Listed r before after (refused k p) = r ≡ Refused k p

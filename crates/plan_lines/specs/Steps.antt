@@ -3,8 +3,8 @@ use mathlib.Core.Path.{_≡_}
 use Prim.Native.Nat.{ℕ, _<_}
 use mathlib.Core.Option.{Option, some, none}
 use Rattle.domain_meaning.specs.Read.{Read, got, refused}
-use Rattle.domain_due.specs.declared.Reading.{Reading}
-use Rattle.domain_due.specs.declared.Reading.the-variants as A
+use Rattle.domain_due.specs.declared.Parsed.{Parsed}
+use Rattle.domain_due.specs.declared.Parsed.the-variants as A
 use Rattle.plan_meaning.specs.Plan.{Step}
 use Rattle.plan_meaning.specs.Promised.{Act}
 use Rattle.plan_meaning.specs.Stored.{stepIn}
@@ -12,7 +12,7 @@ use Rattle.plan_meaning.specs.declared.Step as D
 use Rattle.plan_meaning.specs.declared.Line.{Line}
 use Rattle.plan_meaning.specs.declared.Line.the-variants as L
 
-abbrev pub refusedLine : Reading → Line
+abbrev pub refusedLine : Parsed → Line
 refusedLine (A.Done n a) = L.Blank
 refusedLine (A.Refused k p) = L.Refused k p
 

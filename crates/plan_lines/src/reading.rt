@@ -1,6 +1,6 @@
 // What is due in a plan line, token by token.
 use crate::known;
-use domain_due::Reading;
+use domain_due::Parsed;
 use domain_terms::scope::Counts;
 use text_tokens::tokens;
 use text_tokens::tokens::Token;
@@ -17,7 +17,7 @@ ghost use Rattle.plan_lines.specs.Knowing.{Tabled, Headed, objectsIn, kn
 ghost use Rattle.plan_lines.specs.Reading.{Plain, amountAnswer, spanAnswer, namedAction, namedBy, lastingRead, Listed, Small};
 
 // A colon or a square bracket.
-pub fn mark_due(text: &[u8], from: usize, b: u8) -> Reading
+pub fn mark_due(text: &[u8], from: usize, b: u8) -> Parsed
     ensures { λ r. ⌜ r ≡ answerOf (mark (now (text .entry)) b from) ⌝ }
 {
     let t = tokens::plan_token_at(text, from);
@@ -25,35 +25,35 @@ pub fn mark_due(text: &[u8], from: usize, b: u8) -> Reading
         return domain_due::refusal(t, 1);
     };
     if c == b {
-        return Reading::Done(next, p);
+        return Parsed::Done(next, p);
     }
-    Reading::Refused(3, p)
+    Parsed::Refused(3, p)
 }
 
 // An opening bracket.
-pub fn opening_due(text: &[u8], from: usize) -> Reading
+pub fn opening_due(text: &[u8], from: usize) -> Parsed
     ensures { λ r. ⌜ r ≡ answerOf (opening (now (text .entry)) from) ⌝ }
 {
     let t = tokens::plan_token_at(text, from);
     let Token::Open(p, next) = t else {
         return domain_due::refusal(t, 1);
     };
-    Reading::Done(next, p)
+    Parsed::Done(next, p)
 }
 
 // The line's end.
-fn end_due(text: &[u8], from: usize) -> Reading
+fn end_due(text: &[u8], from: usize) -> Parsed
     ensures { λ r. ⌜ r ≡ answerOf (lineEnd (now (text .entry)) from) ⌝ }
 {
     let t = tokens::plan_token_at(text, from);
     let Token::End(p) = t else {
         return domain_due::refusal(t, 1);
     };
-    Reading::Done(p, p)
+    Parsed::Done(p, p)
 }
 
 // An action's name: its number.
-pub fn action_at<'a>(text: &'a [u8], from: usize, heads: &'a [u8], acting: usize) -> Reading
+pub fn action_at<'a>(text: &'a [u8], from: usize, heads: &'a [u8], acting: usize) -> Parsed
     requires { ⌜ Headed (now heads) acting ⌝ }
     ensures { λ r. ⌜ r ≡ answerOf (namedAction (now (text .entry)) (signedIn (now (heads .entry)) acting) from) ⌝ }
 {
@@ -63,13 +63,13 @@ pub fn action_at<'a>(text: &'a [u8], from: usize, heads: &'a [u8], acting: usize
     };
     let f = known::action_of(heads, acting, tokens::word_of(text, t));
     let Place::At(i) = f else {
-        return Reading::Refused(8, p);
+        return Parsed::Refused(8, p);
     };
-    Reading::Done(e, i)
+    Parsed::Done(e, i)
 }
 
 // The number of the object that a token names.
-fn object_at<'a>(text: &'a [u8], t: Token, tables: &'a [u8], counts: Counts) -> Reading
+fn object_at<'a>(text: &'a [u8], t: Token, tables: &'a [u8], counts: Counts) -> Parsed
     requires { ⌜ Tabled (now tables) counts ⌝ }
     ensures { λ r. ⌜ r ≡ answerOf (namedBy (now (text .entry)) (objectsIn (now (tables .entry)) counts) t (afterOf t)) ⌝ }
 {
@@ -78,9 +78,9 @@ fn object_at<'a>(text: &'a [u8], t: Token, tables: &'a [u8], counts: Counts) -> 
     };
     let f = known::object_of(tables, counts, tokens::word_of(text, t));
     let Place::At(i) = f else {
-        return Reading::Refused(8, p);
+        return Parsed::Refused(8, p);
     };
-    Reading::Done(e, i)
+    Parsed::Done(e, i)
 }
 
 // The objects of action i, to the closing bracket: how many, stored in `out`.
@@ -95,7 +95,7 @@ pub fn objects_at<'a>(
     starts: &'a [usize],
     i: usize,
     out: &mut [u8],
-) -> Reading
+) -> Parsed
     requires { ⌜ Tabled (now tables) counts × Headed (now heads) acting ⌝ }
     ensures { λ r. ⌜ Listed r (now (out .entry)) (now (out .exit)) (objectsTo (now (text .entry)) (knownIn (now (tables .entry)) counts (now (heads .entry)) acting (now (code .entry)) (now (starts .entry))) (wantedOf (entryAt (signedIn (now (heads .entry)) acting) i)) from) ⌝ }
 {
@@ -106,19 +106,19 @@ pub fn objects_at<'a>(
         let t = tokens::plan_token_at(text, at);
         if let Token::Close(p, next) = t {
             if j < arity {
-                return Reading::Refused(9, p);
+                return Parsed::Refused(9, p);
             }
-            return Reading::Done(next, j);
+            return Parsed::Done(next, j);
         }
         let a = object_at(text, t, tables, counts);
-        let Reading::Done(after, x) = a else {
+        let Parsed::Done(after, x) = a else {
             return a;
         };
         if arity <= j {
-            return Reading::Refused(9, domain_due::place_of(t));
+            return Parsed::Refused(9, domain_due::place_of(t));
         }
         if !known::is_fit(tables, counts, x, known::wanted(heads, acting, i, j)) {
-            return Reading::Refused(10, domain_due::place_of(t));
+            return Parsed::Refused(10, domain_due::place_of(t));
         }
         domain_literals::put(out, j, x);
         at = after;
@@ -135,7 +135,7 @@ fn amount_of(z: i64) -> usize
 }
 
 // The start, from the line's first token. "16 start below the previous step's start"
-pub fn start_at(t: Token, before: usize) -> Reading
+pub fn start_at(t: Token, before: usize) -> Parsed
     requires { ⌜ Small t ⌝ }
     ensures { λ r. ⌜ (r ≡ answerOf (startAt before t (afterOf t))) × amountAnswer r ⌝ }
 {
@@ -144,13 +144,13 @@ pub fn start_at(t: Token, before: usize) -> Reading
     };
     let n = amount_of(z);
     if n < before {
-        return Reading::Refused(16, p);
+        return Parsed::Refused(16, p);
     }
-    Reading::Done(next, n)
+    Parsed::Done(next, n)
 }
 
 // A duration behind its opening bracket, to the line's end. "17 bracket .. holding 0: .. the number"
-fn duration_at(text: &[u8], from: usize) -> Reading
+fn duration_at(text: &[u8], from: usize) -> Parsed
     ensures { λ r. ⌜ (r ≡ spanAnswer (durationIn (now (text .entry)) from)) × amountAnswer r ⌝ }
 {
     let t = tokens::plan_token_at(text, from);
@@ -159,38 +159,38 @@ fn duration_at(text: &[u8], from: usize) -> Reading
     };
     let d = amount_of(z);
     if d == 0 {
-        return Reading::Refused(17, p);
+        return Parsed::Refused(17, p);
     }
     let m = mark_due(text, next, 93);
-    let Reading::Done(after, _) = m else {
+    let Parsed::Done(after, _) = m else {
         return m;
     };
     let e = end_due(text, after);
-    let Reading::Done(end, _) = e else {
+    let Parsed::Done(end, _) = e else {
         return e;
     };
-    Reading::Done(end, d)
+    Parsed::Done(end, d)
 }
 
 // The bracket, or the line's end: 0 if there is none. "17 bracket missing, not wanted"
-pub fn span_at(text: &[u8], from: usize, lasting: bool) -> Reading
+pub fn span_at(text: &[u8], from: usize, lasting: bool) -> Parsed
     ensures { λ r. ⌜ (r ≡ spanAnswer (lastingRead (now (text .entry)) lasting from)) × amountAnswer r ⌝ }
 {
     let t = tokens::plan_token_at(text, from);
     if let Token::End(p) = t {
         if lasting {
-            return Reading::Refused(17, p);
+            return Parsed::Refused(17, p);
         }
-        return Reading::Done(p, 0);
+        return Parsed::Done(p, 0);
     }
     let Token::Mark(b, p, next) = t else {
         return domain_due::refusal(t, 1);
     };
     if b != 91 {
-        return Reading::Refused(3, p);
+        return Parsed::Refused(3, p);
     }
     if lasting {
         return duration_at(text, next);
     }
-    Reading::Refused(17, p)
+    Parsed::Refused(17, p)
 }

@@ -1,7 +1,7 @@
 // A plan line, whole: "One step a line: `start: (action objects) [duration]`, the bracket for durative actions only."
 use crate::known;
 use crate::reading;
-use domain_due::Reading;
+use domain_due::Parsed;
 use domain_terms::scope::Counts;
 use plan_meaning::Line;
 use plan_meaning::Step;
@@ -14,12 +14,12 @@ ghost use Rattle.plan_lines.specs.Knowing.{Tabled, Headed, knownIn};
 ghost use Rattle.plan_lines.specs.Steps.{refusedLine, Stepped, Lined};
 
 // What was refused on the way is the line's refusal.
-fn refused(a: Reading) -> Line
+fn refused(a: Parsed) -> Line
     ensures { λ r. ⌜ r ≡ refusedLine a ⌝ }
 {
     match a {
-        Reading::Done(_, _) => Line::Blank,
-        Reading::Refused(k, p) => Line::Refused(k, p),
+        Parsed::Done(_, _) => Line::Blank,
+        Parsed::Refused(k, p) => Line::Refused(k, p),
     }
 }
 
@@ -40,15 +40,15 @@ fn act_at<'a>(
     ensures { λ r. ⌜ Stepped acting r (actAt (now (text .entry)) (knownIn (now (tables .entry)) counts (now (heads .entry)) acting (now (code .entry)) (now (starts .entry))) number start from) ⌝ }
 {
     let m = reading::mark_due(text, from, 58);
-    let Reading::Done(colon, _) = m else {
+    let Parsed::Done(colon, _) = m else {
         return refused(m);
     };
     let o = reading::opening_due(text, colon);
-    let Reading::Done(open, _) = o else {
+    let Parsed::Done(open, _) = o else {
         return refused(o);
     };
     let a = reading::action_at(text, open, heads, acting);
-    let Reading::Done(named, action) = a else {
+    let Parsed::Done(named, action) = a else {
         return refused(a);
     };
     let mut objects = [0u8; 4];
@@ -64,11 +64,11 @@ fn act_at<'a>(
         action,
         &mut objects,
     );
-    let Reading::Done(given, _) = g else {
+    let Parsed::Done(given, _) = g else {
         return refused(g);
     };
     let s = reading::span_at(text, given, known::is_lasting(code, starts, action));
-    let Reading::Done(_, duration) = s else {
+    let Parsed::Done(_, duration) = s else {
         return refused(s);
     };
     Line::Read(Step {
@@ -104,7 +104,7 @@ pub fn line_at<'a>(
         return Line::Blank;
     }
     let s = reading::start_at(t, before);
-    let Reading::Done(next, start) = s else {
+    let Parsed::Done(next, start) = s else {
         return refused(s);
     };
     act_at(
