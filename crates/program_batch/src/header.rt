@@ -29,7 +29,7 @@ pub fn read_line(line: &mut [u8; 96]) -> usize {
     while n < 96 && read_byte(line, n) {
         let byte = line[n];
         n += 1;
-        if byte == 10 {
+        if byte == b'\n' {
             return n;
         }
     }
@@ -75,11 +75,11 @@ pub fn head_of(line: &[u8; 96]) -> Head {
     let c = digits_end(line, after(b));
     let d = digits_end(line, after(c));
     let mut part = 0;
-    if is_field(line, 0, a, 32) && is_field(line, after(a), b, 32) {
-        if is_field(line, after(b), c, 10) {
+    if is_field(line, 0, a, b' ') && is_field(line, after(a), b, b' ') {
+        if is_field(line, after(b), c, b'\n') {
             part = 4096;
         }
-        if is_field(line, after(b), c, 32) && is_field(line, after(c), d, 10) {
+        if is_field(line, after(b), c, b' ') && is_field(line, after(c), d, b'\n') {
             part = input::decimal(line, after(c), d);
         }
     }

@@ -1,18 +1,15 @@
 // The program for a technician: checks one plan from files, answers with document 01's line and says on standard error what that means.
-mod arguments;
-mod files;
-mod location;
-mod meanings;
-mod message;
 mod plan;
-mod quotes;
 mod reply;
-mod stderr;
 mod texts;
 
-use arguments::Options;
 use check_calls::Check;
 use domain_load::Verdict;
+use program_arguments::arguments;
+use program_arguments::arguments::Options;
+use program_arguments::files;
+use program_messages::message;
+use program_quotes::quotes;
 use text_tokens::runs;
 
 // Feeds the plan to the check of two texts that are not refused, and answers.

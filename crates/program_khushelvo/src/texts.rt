@@ -1,6 +1,6 @@
 // Domain and problem, of any length: what is held of each answers as the whole would.
-use crate::files;
-use crate::files::Got;
+use program_arguments::files;
+use program_arguments::files::Got;
 use text_tokens::runs;
 
 // Reads a text to its end: how many bytes of it are held.

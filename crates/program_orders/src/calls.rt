@@ -1,11 +1,11 @@
 // Each call on a check, with what it answers, what it wrote, and whether the output past that and the check stayed as they were.
 // Outputs are lent as the first places of a block that is filled with a mark.
-use crate::compare;
-use crate::report;
 use check_calls::Answer;
 use check_calls::Check;
 use check_calls::Fed;
 use domain_load::Verdict;
+use program_script::compare;
+use program_script::report;
 use text_tokens::runs;
 
 // A part as a script writes it: `|` stands for LF.
@@ -18,17 +18,10 @@ fn unescape(part: &[u8], out: &mut [u8]) {
 }
 
 fn plain(b: u8) -> u8 {
-    if b == 124 {
-        return 10;
+    if b == b'|' {
+        return b'\n';
     }
     b
-}
-
-// How a call left the check.
-fn say(before: Check, after: Check, answer: Answer) {
-    report::say_answer(answer);
-    report::say_check(compare::same_check(before, after));
-    io::write_all(1, b"\n");
 }
 
 pub fn feed(check: Check, part: &[u8]) -> Check {
@@ -37,7 +30,7 @@ pub fn feed(check: Check, part: &[u8]) -> Check {
     let fed = check.feed(runs::part_of(&bytes, 0, part.len()));
     let after = fed.check;
     let answer = fed.answer;
-    say(check, after, answer);
+    report::say(check, after, answer);
     after
 }
 
@@ -64,7 +57,7 @@ pub fn feed_bytes(check: Check, part: &[u8]) -> Check {
     let fed = feed_each(check, runs::part_of(&bytes, 0, part.len()));
     let after = fed.check;
     let answer = fed.answer;
-    say(check, after, answer);
+    report::say(check, after, answer);
     after
 }
 
@@ -72,25 +65,8 @@ pub fn finish(check: Check) -> Check {
     let fed = check.finish();
     let after = fed.check;
     let answer = fed.answer;
-    say(check, after, answer);
+    report::say(check, after, answer);
     after
-}
-
-// A call that writes: its answer, and how it left the output and the check.
-fn say_asked(before: Check, after: Check, answer: Answer, same: bool) {
-    report::say_answer(answer);
-    report::say_output(answer, same);
-    report::say_check(compare::same_check(before, after));
-}
-
-// The line that a call wrote, which ends in LF; or only the end of what is said.
-fn say_line(answer: Answer, out: &[u8]) {
-    if let Answer::Done(n) = answer {
-        io::write_all(1, b", written: ");
-        io::write_all(1, runs::part_of(out, 0, n));
-        return;
-    }
-    io::write_all(1, b"\n");
 }
 
 // Each call on the first n places of a block, or on all of it if it has no more.
@@ -127,13 +103,13 @@ pub fn result(check: Check, places: usize) -> Check {
     let fed = ask_line(check, &mut out, places);
     let after = fed.check;
     let answer = fed.answer;
-    say_asked(
+    report::say_asked(
         check,
         after,
         answer,
         compare::is_marked(&out, report::written(answer)),
     );
-    say_line(answer, &out);
+    report::say_line(answer, &out);
     after
 }
 
@@ -143,23 +119,7 @@ pub fn refused(load: Verdict, places: usize) {
     let answer = ask_refused(load, &mut out, places);
     report::say_answer(answer);
     report::say_output(answer, compare::is_marked(&out, report::written(answer)));
-    say_line(answer, &out);
-}
-
-fn say_fact(b: u8) {
-    report::say_number(b as usize);
-}
-
-fn say_facts(answer: Answer, out: &[u8]) {
-    if let Answer::Done(n) = answer {
-        io::write_all(1, b", written:");
-        let mut i = 0;
-        while i < n && i < out.len() {
-            say_fact(out[i]);
-            i += 1;
-        }
-    }
-    io::write_all(1, b"\n");
+    report::say_line(answer, &out);
 }
 
 pub fn facts(check: Check, places: usize) -> Check {
@@ -167,26 +127,14 @@ pub fn facts(check: Check, places: usize) -> Check {
     let fed = ask_facts(check, &mut out, places);
     let after = fed.check;
     let answer = fed.answer;
-    say_asked(
+    report::say_asked(
         check,
         after,
         answer,
         compare::is_marked(&out, report::written(answer)),
     );
-    say_facts(answer, &out);
+    report::say_facts(answer, &out);
     after
-}
-
-fn say_numbers(answer: Answer, out: &[i64]) {
-    if let Answer::Done(n) = answer {
-        io::write_all(1, b", written:");
-        let mut i = 0;
-        while i < n && i < out.len() {
-            report::say_value(out[i]);
-            i += 1;
-        }
-    }
-    io::write_all(1, b"\n");
 }
 
 pub fn numbers(check: Check, places: usize) -> Check {
@@ -195,7 +143,7 @@ pub fn numbers(check: Check, places: usize) -> Check {
     let after = fed.check;
     let answer = fed.answer;
     let same = compare::are_marked(&out, report::written(answer));
-    say_asked(check, after, answer, same);
-    say_numbers(answer, &out);
+    report::say_asked(check, after, answer, same);
+    report::say_numbers(answer, &out);
     after
 }

@@ -1,9 +1,6 @@
 // Makes the calls on a check in the orders that a script on standard input names, and writes what each answers and leaves as it was.
 mod calls;
-mod compare;
-mod report;
 mod script;
-mod spoil;
 
 use program_records::input;
 use text_tokens::runs;

@@ -1,16 +1,14 @@
 // The script: a command to a line, which is written out again with what came of it; other lines are headings.
 use crate::calls;
-use crate::compare;
-use crate::report;
-use crate::spoil;
 use check_calls::Check;
 use domain_load::Verdict;
-use program_records::input;
+use program_script::compare;
+use program_script::lines;
+use program_script::report;
+use program_script::spoil;
 use text_tokens::runs;
 use text_words::spelling;
 use text_words::spelling::Place;
-ghost use Prim.Native.Nat.{_≤_, _<_};
-ghost use lib.ListN.{length};
 
 // The check that the calls are made on, one put aside, and the answer of the last load.
 struct Bench {
@@ -19,57 +17,10 @@ struct Bench {
     answer: Verdict,
 }
 
-// Where a byte stands from a place on, else the end.
-fn find(text: &[u8], byte: u8, from: usize) -> usize
-    requires { ⌜ from ≤ length (now text) ⌝ }
-    ensures { λ r. ⌜ (from ≤ r) × (r ≤ length (now (text .entry))) ⌝ }
-{
-    let mut i = from;
-    while i < text.len() {
-        if text[i] == byte {
-            return i;
-        }
-        i += 1;
-    }
-    i
-}
-
-// Where the line behind the one at a place begins.
-fn behind(text: &[u8], at: usize) -> usize
-    requires { ⌜ at < length (now text) ⌝ }
-    ensures { λ r. ⌜ at < r ⌝ }
-{
-    let end = find(text, 10, at);
-    if end < text.len() {
-        return end + 1;
-    }
-    end
-}
-
-// A line's first word.
-fn first(line: &[u8]) -> &[u8] {
-    runs::part_of(line, 0, find(line, 32, 0))
-}
-
-// What stands behind a line's first space.
-fn rest(line: &[u8]) -> &[u8] {
-    let end = find(line, 32, 0);
-    let n = line.len();
-    if end < n {
-        return runs::part_of(line, end + 1, n);
-    }
-    runs::part_of(line, n, n)
-}
-
-// The number that a line begins with.
-fn number(line: &[u8]) -> usize {
-    input::decimal(line, 0, find(line, 32, 0))
-}
-
 fn load<'a>(domain: &'a [u8], problem: &'a [u8], sizes: &'a [u8], kept: Check) -> Bench {
     let opened = check_calls::load(
-        runs::part_of(domain, 0, number(sizes)),
-        runs::part_of(problem, 0, number(rest(sizes))),
+        runs::part_of(domain, 0, lines::number(sizes)),
+        runs::part_of(problem, 0, lines::number(lines::rest(sizes))),
     );
     let check = opened.check;
     let answer = opened.answer;
@@ -92,9 +43,9 @@ fn call(word: &[u8], given: &[u8], check: Check) -> Check {
         0 => calls::feed(check, given),
         1 => calls::feed_bytes(check, given),
         2 => calls::finish(check),
-        3 => calls::result(check, number(given)),
-        4 => calls::facts(check, number(given)),
-        _ => calls::numbers(check, number(given)),
+        3 => calls::result(check, lines::number(given)),
+        4 => calls::facts(check, lines::number(given)),
+        _ => calls::numbers(check, lines::number(given)),
     }
 }
 
@@ -120,7 +71,11 @@ fn aside(i: usize, given: &[u8], bench: Bench) -> Bench {
             answer,
         },
         _ => {
-            let check = spoil::spoil(check, first(given), number(rest(given)));
+            let check = spoil::spoil(
+                check,
+                lines::first(given),
+                lines::number(lines::rest(given)),
+            );
             Bench {
                 check,
                 kept,
@@ -132,8 +87,8 @@ fn aside(i: usize, given: &[u8], bench: Bench) -> Bench {
 
 fn step<'a>(domain: &'a [u8], problem: &'a [u8], line: &'a [u8], bench: Bench) -> Bench {
     io::write_all(1, line);
-    let word = first(line);
-    let given = rest(line);
+    let word = lines::first(line);
+    let given = lines::rest(line);
     let check = bench.check;
     let kept = bench.kept;
     let answer = bench.answer;
@@ -150,7 +105,7 @@ fn step<'a>(domain: &'a [u8], problem: &'a [u8], line: &'a [u8], bench: Bench) -
         return load(domain, problem, given, kept);
     }
     if i == 1 {
-        calls::refused(answer, number(given));
+        calls::refused(answer, lines::number(given));
         return bench;
     }
     aside(i, given, bench)
@@ -168,8 +123,8 @@ pub fn run<'a>(domain: &'a [u8], problem: &'a [u8], text: &'a [u8]) {
     };
     let mut at = 0;
     while at < text.len() {
-        let end = find(text, 10, at);
+        let end = lines::find(text, b'\n', at);
         bench = step(domain, problem, runs::part_of(text, at, end), bench);
-        at = behind(text, at);
+        at = lines::behind(text, at);
     }
 }

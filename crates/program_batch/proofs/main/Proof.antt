@@ -1,4 +1,4 @@
--- `batch::main` is safe and ends: the measure is how many records may still come. Assumes nothing.
+-- `program_batch::main` is safe and ends: the measure is how many records may still come. Assumes nothing.
 use borrow.Author.Needs.{needs}
 use Rattle.program_batch.proofs.main.Statement.{statement}
 use Rattle.program_batch.proofs.main.Tie as tie

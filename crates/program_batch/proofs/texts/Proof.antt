@@ -1,4 +1,4 @@
--- `batch::texts` is safe and ends. Assumes nothing.
+-- `program_batch::texts` is safe and ends. Assumes nothing.
 use native.Mathlib.Omega.{arith}
 use borrow.Author.Needs.{needs}
 use Rattle.program_batch.proofs.texts.Statement.{statement}

@@ -1,4 +1,4 @@
--- `batch::header::digits_end` is safe and ends. Assumes nothing.
+-- `program_batch::header::digits_end` is safe and ends. Assumes nothing.
 use Prim.Native.Nat.{_-_, _≤_}
 use borrow.Author.Needs.{needs}
 use Rattle.program_batch.proofs.header.digits_end.Statement.{statement}

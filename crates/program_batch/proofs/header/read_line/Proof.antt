@@ -1,4 +1,4 @@
--- `batch::header::read_line` is safe and ends. Assumes nothing.
+-- `program_batch::header::read_line` is safe and ends. Assumes nothing.
 use Prim.Native.Nat.{_-_}
 use borrow.Author.Needs.{needs}
 use Rattle.program_batch.proofs.header.read_line.Statement.{statement}

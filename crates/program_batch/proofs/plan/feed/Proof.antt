@@ -1,4 +1,4 @@
--- `batch::plan::feed` is safe and ends: the measure is how many bytes of the plan are left. Assumes nothing.
+-- `program_batch::plan::feed` is safe and ends: the measure is how many bytes of the plan are left. Assumes nothing.
 use mathlib.Core.Path.{_≡_}
 use lib.ListN.{length}
 use borrow.Author.Needs.{needs}

@@ -1,4 +1,4 @@
--- `batch::reading::read` is safe and ends: the measure is how many bytes of the text are left. Assumes nothing.
+-- `program_batch::reading::read` is safe and ends: the measure is how many bytes of the text are left. Assumes nothing.
 use mathlib.Core.Path.{_≡_}
 use lib.ListN.{length}
 use borrow.Author.Needs.{needs}

@@ -1,4 +1,4 @@
--- `khushelvo::plan::feed` is safe and ends. Assumes nothing.
+-- `program_khushelvo::plan::feed` is safe and ends. Assumes nothing.
 use mathlib.Core.Path.{_≡_}
 use lib.ListN.{length}
 use borrow.Author.Needs.{needs}

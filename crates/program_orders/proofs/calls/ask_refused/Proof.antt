@@ -1,4 +1,4 @@
--- `orders::calls::ask_refused` is safe. Assumes nothing.
+-- `program_orders::calls::ask_refused` is safe. Assumes nothing.
 use borrow.Author.Needs.{needs}
 use mathlib.Core.Path.{sym}
 use native.Mathlib.Omega.{arith}

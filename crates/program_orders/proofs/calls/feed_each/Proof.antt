@@ -1,4 +1,4 @@
--- `orders::calls::feed_each` is safe and ends. Assumes nothing.
+-- `program_orders::calls::feed_each` is safe and ends. Assumes nothing.
 use borrow.Author.Needs.{needs}
 use Prim.Native.Nat.{_-_}
 use lib.ListN.{length}

@@ -1,4 +1,4 @@
--- `orders::calls::unescape` is safe and ends. Assumes nothing.
+-- `program_orders::calls::unescape` is safe and ends. Assumes nothing.
 use borrow.Author.Needs.{needs}
 use mathlib.Core.Path.{_≡_}
 use Prim.Native.Nat.{_-_}

@@ -1,4 +1,4 @@
--- `orders::script::run` is safe and ends. Assumes nothing.
+-- `program_orders::script::run` is safe and ends. Assumes nothing.
 use borrow.Author.Needs.{needs}
 use Prim.Native.Nat.{_-_}
 use lib.ListN.{length}

@@ -1,0 +1,3 @@
+-- Laws for the proofs, and worked examples.
+mod Digits
+mod Examples

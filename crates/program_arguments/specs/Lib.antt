@@ -1,0 +1,2 @@
+-- What the arguments mean.
+pub mod Arguments

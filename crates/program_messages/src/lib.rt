@@ -1,0 +1,3 @@
+// What an answer means, in sentences for a technician, on standard error.
+mod meanings;
+pub mod message;

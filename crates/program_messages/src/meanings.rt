@@ -1,0 +1,41 @@
+// What each refusal number means, in a technician's words, true to document 01's table.
+use program_quotes::stderr;
+
+// In all texts.
+fn say_common(number: u8) {
+    match number {
+        1 => stderr::say(b"the text is longer than 32,768 bytes"),
+        2 => stderr::say(b"a byte that is not allowed"),
+        3 => stderr::say(b"a word or sign that is not allowed here"),
+        4 => stderr::say(b"the text, or the plan line, ends in the middle"),
+        5 => stderr::say(b"a name longer than 32 bytes"),
+        6 => stderr::say(b"a number that is malformed, too large or too fine"),
+        7 => stderr::say(b"a name, or a number in init, that is given twice"),
+        8 => stderr::say(b"a name that is not declared"),
+        9 => stderr::say(b"too many or too few arguments"),
+        10 => stderr::say(b"an argument of the wrong type"),
+        11 => stderr::say(b"a form of PDDL that this checker does not carry"),
+        12 => stderr::say(b"one more, or one deeper, than the limits allow"),
+        _ => stderr::say(b"the problem is for another domain"),
+    }
+}
+
+// In plans only.
+fn say_in_plan(number: u8) {
+    match number {
+        14 => stderr::say(b"a plan line longer than 256 bytes"),
+        15 => stderr::say(b"a plan goes on after its 1,000,000th line"),
+        16 => stderr::say(b"a step that starts before the step above it"),
+        17 => stderr::say(b"the duration in brackets is missing, not wanted or 0"),
+        18 => stderr::say(b"more than 64 starts and ends wait for their time"),
+        _ => stderr::say(b"a call out of turn"),
+    }
+}
+
+pub fn say(number: u8) {
+    if number <= 13 {
+        say_common(number);
+    } else {
+        say_in_plan(number);
+    }
+}

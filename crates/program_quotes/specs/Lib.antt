@@ -1,0 +1,2 @@
+-- What is said of places in a text.
+pub mod Location
