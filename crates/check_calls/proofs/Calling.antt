@@ -28,7 +28,8 @@ use Rattle.check_calls.specs.declared.Check.{Check}
 use Rattle.check_calls.specs.declared.Fed.{Fed}
 use Rattle.check_calls.specs.declared.Answer.{Answer}
 use Rattle.check_calls.specs.declared.Answer.the-variants as A
-use Rattle.check_calls.specs.Calls.{wellFormed, anyState, rulesOn, knownOn, heldBy, refusedFrom, settled, endedFrom, emptyLine, stored, ended, fed, standing, answering, withFinish, whileOpen, feedOf, finishOf}
+use Rattle.check_calls.specs.Calls.{wellFormed, anyState, rulesOn, knownOn, heldBy, refusedFrom, settled, endedFrom, emptyLine, stored, ended}
+use Rattle.check_calls.specs.Calls.{fed, standing, answering, withFinish, whileOpen, feedOf, finishOf}
 use Rattle.check_calls.proofs.Formed.{formed-parts, formed-sound}
 use Rattle.check_calls.proofs.Storing.{stored-held, stored-refused, ended-refused, ended-run}
 
@@ -73,7 +74,8 @@ ready-for c good h free =
 
 abbrev pub rulesBy : Check → Rules State Act Outcome
 rulesBy c =
-    rulesIn (c .model .code) (c .model .starts) (c .ground .firsts) (conditionAt (c .model .goal) 0 .tree) (signedIn (c .model .actions) (c .model .acting)) anyState
+    rulesIn (c .model .code) (c .model .starts) (c .ground .firsts) (conditionAt (c .model .goal) 0 .tree)
+    (signedIn (c .model .actions) (c .model .acting)) anyState
 
 abbrev pub knownBy : Check → Known
 knownBy c = knownIn (c .model .tables) (c .model .counts) (c .model .actions) (c .model .acting) (c .model .code) (c .model .starts)
@@ -90,7 +92,8 @@ known-on c =
 
 -- ---- a refusal that stood before the call
 
-module _ (c : Check) (good : wellFormed c ≡ true) (going : c .finished ≡ false) (stands : c .progress .refused ≡ true) (a : Answer) (e : a ≡ standing (c .progress)) where
+module _ (c : Check) (good : wellFormed c ≡ true) (going : c .finished ≡ false)
+    (stands : c .progress .refused ≡ true) (a : Answer) (e : a ≡ standing (c .progress)) where
   pub feed-stands : (part : List ℕ) → fed c a ≡ feedOf c part
   unfolding feedOf
   feed-stands part = ap (fed c) e ∙ rw (good, going, stands)
@@ -138,7 +141,16 @@ module _ (c : Check) (good : wellFormed c ≡ true) (going : c .finished ≡ fal
       → heldIn s line q p ≡ feed (rulesBy c) limits (reader (knownBy c)) (heldBy c) part → p .refused ≡ false → p .used ≤ 256 → length line ≡ 257
       → (queue : Queue) (tidied : List ℕ) (after : Progress) → queue ≡ queueOf (used q) → tidied ≡ padded 257 (take (p .used) line) → after ≡ settled p
       → fed
-      (record { model = c .model; ground = c .ground; facts = s .facts; numbers = s .numbers; queue = queue; line = tidied; progress = after; finished = c .finished })
+      (record {
+        model = c .model;
+        ground = c .ground;
+        facts = s .facts;
+        numbers = s .numbers;
+        queue = queue;
+        line = tidied;
+        progress = after;
+        finished = c .finished;
+      })
       (A.Done 0)
       ≡ feedOf c part
   feed-goes part s line q p h goes few long queue tidied after eq el ep =

@@ -34,7 +34,8 @@ module _ (s t : List ℕ) where
       → g ≡ groundFor (l .model .counts .objects) (l .model .facts) (l .model .numbers) (decode (l .model) .predicates) (decode (l .model) .functions)
       → (x : Check) → x ≡ checkFor l g 1 → record { check = x; answer = l .answer } ≡ openOf s t
   unfolding groundOf
-  opened-loaded l e h g i x j = opened-by l e Is.Loaded h x (ap (λ (y : Check). record { check = y; answer = Is.Loaded }) (j ∙ ap (λ (k : Ground). checkFor l k 1) i))
+  opened-loaded l e h g i x j =
+      opened-by l e Is.Loaded h x (ap (λ (y : Check). record { check = y; answer = Is.Loaded }) (j ∙ ap (λ (k : Ground). checkFor l k 1) i))
 
   pub opened-refused : (l : Loaded) → l ≡ loadOf s t → Refusing (l .answer) → (g : Ground) → g ≡ noGround → (x : Check) → x ≡ checkFor l g 0
       → record { check = x; answer = l .answer } ≡ openOf s t

@@ -57,7 +57,8 @@ module _ (c : Check) (good : wellFormed c ≡ true) where
 mapped-length : {X Y : Type 0} (f : X → Y) (n : ℕ) (xs : List X) → n ≤ length xs → n ≡ length (map f (take n xs))
 mapped-length f n xs h = sym (length-map (take n xs) f ∙ length-take-le n xs h)
 
-module _ {X : Type 0} (c : Check) (out : List X) (least : ℕ) (w : List X) (good : wellFormed c ≡ true) (f : c .finished ≡ true) (r : c .progress .refused ≡ false) where
+module _ {X : Type 0} (c : Check) (out : List X) (least : ℕ) (w : List X)
+    (good : wellFormed c ≡ true) (f : c .finished ≡ true) (r : c .progress .refused ≡ false) where
   kept-short : length out < least → (fed c A.Short, out) ≡ whenDone c out (unlessRefused c out (writing c out least w))
   kept-short h = short c out least w h ∙ stated c out _ r ∙ done c out _ good f
 

@@ -109,7 +109,16 @@ module _ (c : Check) (s : State) (p : Progress) where
 
   pub ended-run : p .refused ≡ false
       → ended c (closedIn s p)
-      ≡ record { model = c .model; ground = c .ground; facts = s .facts; numbers = s .numbers; queue = queueOf []; line = emptyLine; progress = endedFrom (p .past); finished = true }
+      ≡ record {
+        model = c .model;
+        ground = c .ground;
+        facts = s .facts;
+        numbers = s .numbers;
+        queue = queueOf [];
+        line = emptyLine;
+        progress = endedFrom (p .past);
+        finished = true;
+      }
   unfolding ended
   ended-run free = rw (free) (λ i. record {
     model = c .model;

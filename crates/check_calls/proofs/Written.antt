@@ -24,7 +24,8 @@ module _ {A : Type 0} where
     map-snoc (x ∷ l) a = ap (λ (r : List A). f x ∷ r) (map-snoc l a)
 
     -- one place more
-    pub written-more : (out l : List A) (i : ℕ) (d : A) → i < length l → set (sets out 0 (map f (take i l))) i (f (getD l i d)) ≡ sets out 0 (map f (take (i + 1) l))
+    pub written-more : (out l : List A) (i : ℕ) (d : A) → i < length l
+        → set (sets out 0 (map f (take i l))) i (f (getD l i d)) ≡ sets out 0 (map f (take (i + 1) l))
     written-more out l i d h =
         let e : i ≡ 0 + length (map f (take i l)) = omega (arith, length-map (take i l) f, length-take-le i l (omega arith)) in
         ap (λ (k : ℕ). set (sets out 0 (map f (take i l))) k (f (getD l i d))) e

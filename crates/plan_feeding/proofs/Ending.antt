@@ -19,7 +19,7 @@ use Rattle.plan_running.specs.Running.{runIn}
 use Rattle.plan_running.specs.declared.Past.{Past}
 use Rattle.plan_feeding.specs.declared.Progress.{Progress}
 use Rattle.plan_feeding.specs.Feeding.{checkIn, closedIn, going}
-use Rattle.plan_feeding.proofs.Turning.{check-going, check-halted}
+use Rattle.plan_feeding.proofs.Keeping.{check-going, check-halted}
 
 module _ (R : Rules State Act Outcome) (s t : State) (q : Queue) (p : Progress) where
   -- the points are drained below b, then the run is judged

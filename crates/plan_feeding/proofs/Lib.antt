@@ -1,6 +1,6 @@
 -- Laws that the proofs cite.
 pub mod Taking
 pub mod Answering
-pub mod Turning
+pub mod Keeping
 pub mod Ending
 pub mod Alike

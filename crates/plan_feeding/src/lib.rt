@@ -1,9 +1,7 @@
-// A plan that is fed: its lines, as they end, and its bytes.
-pub mod bytes;
+// A plan that is fed: its lines, as they end, and its end.
 pub mod stepping;
 
 use plan_running::Past;
-use plan_waiting::Queue;
 
 // What is kept of a plan beside the state, the points that wait and the bytes of the line.
 pub struct Progress {
@@ -23,10 +21,5 @@ pub struct Progress {
 // How many points wait, in lent numbers, and what else is kept.
 pub struct Went {
     pub count: usize,
-    pub progress: Progress,
-}
-
-pub struct Taken {
-    pub queue: Queue,
     pub progress: Progress,
 }

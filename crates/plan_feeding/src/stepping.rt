@@ -1,4 +1,5 @@
-// A line that has ended, and the plan's end. The points that wait are the first `count` in `words` and `objects`; points, whos, lines and others are lent to be written in.
+// A line that has ended, and the plan's end. The points that wait are the first `count` in `words` and `objects`; points, whos, lines and others are
+// lent to be written in.
 use crate::Progress;
 use crate::Went;
 use domain_terms::scope::Counts;
@@ -82,8 +83,23 @@ fn take_step<'a>(
     lines: &mut [usize; 256],
     others: &mut [u8; 256],
 ) -> Went
-    requires { ⌜ Timed (queueIn (now words) (now objects) count) × (p .refused ≡ false) × (x .line ≡ p .number) × (x .start < 1000000000000) × (x .width ≤ 257) × (length (now code) ≤ 32768) × (now fresh ≡ now numbers) ⌝ }
-    ensures { λ r. ⌜ ((c : Cond) (es : Table) (s : State) → Sound (length es) (queueIn (now (words .entry)) (now (objects .entry)) count) → length es ≤ 32 → checkIn (stateIn (now (facts .exit)) (now (numbers .exit))) (queueIn (now (words .exit)) (now (objects .exit)) (r .count)) (r .progress) ≡ drained (rulesIn (now (code .entry)) (now (starts .entry)) (now (firsts .entry)) c es s) limits (stepIn x) (drain (rulesIn (now (code .entry)) (now (starts .entry)) (now (firsts .entry)) c es s) (length (waiting (queueIn (now (words .entry)) (now (objects .entry)) count))) (x .start) (runIn (p .past) (stateIn (now (facts .entry)) (now (numbers .entry)))) (waiting (queueIn (now (words .entry)) (now (objects .entry)) count)))) × ((n : ℕ) → Sound n (queueIn (now (words .entry)) (now (objects .entry)) count) → soundStep n x ≡ true → Sound n (queueIn (now (words .exit)) (now (objects .exit)) (r .count))) × (r .progress .used ≡ p .used) × (r .progress .number ≡ p .number) × ((m : ℕ) → p .start < m → x .start < m → r .progress .start < m) × (now (fresh .exit) ≡ now (numbers .exit)) ⌝ }
+    requires { ⌜
+        Timed (queueIn (now words) (now objects) count) × (p .refused ≡ false) × (x .line ≡ p .number) × (x .start < 1000000000000) × (x .width ≤ 257)
+        × (length (now code) ≤ 32768) × (now fresh ≡ now numbers)
+        ⌝ }
+    ensures { λ r. ⌜
+        ((c : Cond) (es : Table) (s : State) → Sound (length es) (queueIn (now (words .entry)) (now (objects .entry)) count) → length es ≤ 32
+        → checkIn (stateIn (now (facts .exit)) (now (numbers .exit))) (queueIn (now (words .exit)) (now (objects .exit)) (r .count)) (r .progress)
+        ≡ drained (rulesIn (now (code .entry)) (now (starts .entry)) (now (firsts .entry)) c es s) limits (stepIn x)
+        (drain (rulesIn (now (code .entry)) (now (starts .entry)) (now (firsts .entry)) c es s)
+        (length (waiting (queueIn (now (words .entry)) (now (objects .entry)) count))) (x .start)
+        (runIn (p .past) (stateIn (now (facts .entry)) (now (numbers .entry))))
+        (waiting (queueIn (now (words .entry)) (now (objects .entry)) count))))
+        × ((n : ℕ) → Sound n (queueIn (now (words .entry)) (now (objects .entry)) count) → soundStep n x ≡ true
+        → Sound n (queueIn (now (words .exit)) (now (objects .exit)) (r .count)))
+        × (r .progress .used ≡ p .used) × (r .progress .number ≡ p .number) × ((m : ℕ) → p .start < m → x .start < m → r .progress .start < m)
+        × (now (fresh .exit) ≡ now (numbers .exit))
+        ⌝ }
 {
     let d = plan_running::drain_below(
         code,
@@ -137,8 +153,20 @@ pub fn take_line<'a>(
     lines: &mut [usize; 256],
     others: &mut [u8; 256],
 ) -> Went
-    requires { ⌜ Tabled (now tables) counts × Headed (now heads) acting × Fit acting (queueIn (now words) (now objects) count) p × (p .refused ≡ false) × (length (now line) ≡ 257) × (length (now code) ≤ 32768) × (now fresh ≡ now numbers) ⌝ }
-    ensures { λ r. ⌜ ((c : Cond) (s : State) → checkIn (stateIn (now (facts .exit)) (now (numbers .exit))) (queueIn (now (words .exit)) (now (objects .exit)) (r .count)) (r .progress) ≡ M.take (rulesIn (now (code .entry)) (now (starts .entry)) (now (firsts .entry)) c (signedIn (now (heads .entry)) acting) s) limits (checkIn (stateIn (now (facts .entry)) (now (numbers .entry))) (queueIn (now (words .entry)) (now (objects .entry)) count) p) (reader (knownIn (now (tables .entry)) counts (now (heads .entry)) acting (now (code .entry)) (now (starts .entry))) .line (p .number) (p .start) (take (p .used) (now (line .entry))))) × Fit acting (queueIn (now (words .exit)) (now (objects .exit)) (r .count)) (r .progress) × (r .progress .number ≡ p .number) × (now (fresh .exit) ≡ now (numbers .exit)) ⌝ }
+    requires { ⌜
+        Tabled (now tables) counts × Headed (now heads) acting × Fit acting (queueIn (now words) (now objects) count) p × (p .refused ≡ false)
+        × (length (now line) ≡ 257) × (length (now code) ≤ 32768) × (now fresh ≡ now numbers)
+        ⌝ }
+    ensures { λ r. ⌜
+        ((c : Cond) (s : State)
+        → checkIn (stateIn (now (facts .exit)) (now (numbers .exit))) (queueIn (now (words .exit)) (now (objects .exit)) (r .count)) (r .progress)
+        ≡ M.take (rulesIn (now (code .entry)) (now (starts .entry)) (now (firsts .entry)) c (signedIn (now (heads .entry)) acting) s) limits
+        (checkIn (stateIn (now (facts .entry)) (now (numbers .entry))) (queueIn (now (words .entry)) (now (objects .entry)) count) p)
+        (reader (knownIn (now (tables .entry)) counts (now (heads .entry)) acting (now (code .entry)) (now (starts .entry))) .line (p .number)
+        (p .start) (take (p .used) (now (line .entry)))))
+        × Fit acting (queueIn (now (words .exit)) (now (objects .exit)) (r .count)) (r .progress) × (r .progress .number ≡ p .number)
+        × (now (fresh .exit) ≡ now (numbers .exit))
+        ⌝ }
 {
     let text = runs::part_of(line, 0, p.used);
     let l = steps::line_at(
@@ -190,7 +218,12 @@ pub fn refuse_long<'a>(
     p: Progress,
 ) -> Progress
     requires { ⌜ Tabled (now tables) counts × Headed (now heads) acting × (length (now text) ≡ 257) ⌝ }
-    ensures { λ r. ⌜ (refusedIn r ≡ reader (knownIn (now (tables .entry)) counts (now (heads .entry)) acting (now (code .entry)) (now (starts .entry))) .long (p .number) (p .start) (now (text .entry))) × (r ≡ refusing p (r .refusal) (r .column)) ⌝ }
+    ensures { λ r. ⌜
+        (refusedIn r
+        ≡ reader (knownIn (now (tables .entry)) counts (now (heads .entry)) acting (now (code .entry)) (now (starts .entry))) .long (p .number)
+        (p .start) (now (text .entry)))
+        × (r ≡ refusing p (r .refusal) (r .column))
+        ⌝ }
 {
     let l = steps::line_at(
         text,
@@ -238,7 +271,13 @@ fn end_run<'a>(
     others: &mut [u8; 256],
 ) -> Past
     requires { ⌜ Timed (queueIn (now words) (now objects) count) × (p .start < 1000000000000) × (length (now code) ≤ 32768) × (now fresh ≡ now numbers) ⌝ }
-    ensures { λ r. ⌜ ((es : Table) (s : State) → Sound (length es) (queueIn (now (words .entry)) (now (objects .entry)) count) → length es ≤ 32 → P.ended (runIn r (stateIn (now (facts .exit)) (now (numbers .exit)))) ≡ finish (rulesIn (now (code .entry)) (now (starts .entry)) (now (firsts .entry)) (conditionAt (now (goal .entry)) 0 .tree) es s) limits (waits (runIn (p .past) (stateIn (now (facts .entry)) (now (numbers .entry)))) (p .start) (waiting (queueIn (now (words .entry)) (now (objects .entry)) count)))) ⌝ }
+    ensures { λ r. ⌜
+        ((es : Table) (s : State) → Sound (length es) (queueIn (now (words .entry)) (now (objects .entry)) count) → length es ≤ 32
+        → P.ended (runIn r (stateIn (now (facts .exit)) (now (numbers .exit))))
+        ≡ finish (rulesIn (now (code .entry)) (now (starts .entry)) (now (firsts .entry)) (conditionAt (now (goal .entry)) 0 .tree) es s) limits
+        (waits (runIn (p .past) (stateIn (now (facts .entry)) (now (numbers .entry)))) (p .start)
+        (waiting (queueIn (now (words .entry)) (now (objects .entry)) count))))
+        ⌝ }
 {
     let b = 1 + higher(p.start, lent::last(words, count));
     let d = plan_running::drain_below(
@@ -278,8 +317,19 @@ pub fn end_plan<'a>(
     queue: Queue,
     p: Progress,
 ) -> Progress
-    requires { ⌜ Tabled (now tables) counts × Headed (now heads) acting × Fit acting queue p × (p .refused ≡ false) × (length (now line) ≡ 257) × (length (now code) ≤ 32768) × (now fresh ≡ now numbers) ⌝ }
-    ensures { λ r. ⌜ ((s : State) → closedIn (stateIn (now (facts .exit)) (now (numbers .exit))) r ≡ close (rulesIn (now (code .entry)) (now (starts .entry)) (now (firsts .entry)) (conditionAt (now (goal .entry)) 0 .tree) (signedIn (now (heads .entry)) acting) s) limits (reader (knownIn (now (tables .entry)) counts (now (heads .entry)) acting (now (code .entry)) (now (starts .entry)))) (reading (checkIn (stateIn (now (facts .entry)) (now (numbers .entry))) queue p) (p .number) (take (p .used) (now (line .entry))))) ⌝ }
+    requires { ⌜
+        Tabled (now tables) counts × Headed (now heads) acting × Fit acting queue p × (p .refused ≡ false) × (length (now line) ≡ 257)
+        × (length (now code) ≤ 32768) × (now fresh ≡ now numbers)
+        ⌝ }
+    ensures { λ r. ⌜
+        ((s : State)
+        → closedIn (stateIn (now (facts .exit)) (now (numbers .exit))) r
+        ≡ close
+        (rulesIn (now (code .entry)) (now (starts .entry)) (now (firsts .entry)) (conditionAt (now (goal .entry)) 0 .tree)
+        (signedIn (now (heads .entry)) acting) s)
+        limits (reader (knownIn (now (tables .entry)) counts (now (heads .entry)) acting (now (code .entry)) (now (starts .entry))))
+        (reading (checkIn (stateIn (now (facts .entry)) (now (numbers .entry))) queue p) (p .number) (take (p .used) (now (line .entry)))))
+        ⌝ }
 {
     let mut words = [0usize; 384];
     let mut objects = [0u8; 256];

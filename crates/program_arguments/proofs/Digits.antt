@@ -15,7 +15,8 @@ pub size-high : (n : ℕ) (w : List ℕ) (i : ℕ) → i < length w → 48 ≤ g
 unfolding sizeFrom
 size-high n w i h l m = rw (at-cons w i h, le-ltb (getD w i 0) 48 l, lt-ltb 57 (getD w i 0) m)
 
-pub size-large : (n : ℕ) (w : List ℕ) (i : ℕ) → i < length w → 48 ≤ getD w i 0 → getD w i 0 ≤ 57 → 65536 < n * 10 + (getD w i 0 - 48) → sizeFrom n (drop i w) ≡ 0
+pub size-large : (n : ℕ) (w : List ℕ) (i : ℕ) → i < length w → 48 ≤ getD w i 0 → getD w i 0 ≤ 57
+    → 65536 < n * 10 + (getD w i 0 - 48) → sizeFrom n (drop i w) ≡ 0
 unfolding sizeFrom
 size-large n w i h l m k = rw (at-cons w i h, le-ltb (getD w i 0) 48 l, le-ltb 57 (getD w i 0) m, lt-ltb 65536 (n * 10 + (getD w i 0 - 48)) k)
 

@@ -6,12 +6,14 @@ use Rattle.text_words.specs.Spelling.{sameWord}
 use Rattle.program_arguments.specs.Arguments.{argumentOf, sizeFrom}
 use Rattle.program_arguments.specs.declared.arguments.Argument.the-variants.{State, Quiet, Part, File, Unknown}
 
-arguments : argumentOf (bytes "--state") ∷ argumentOf (bytes "--quiet") ∷ argumentOf (bytes "--part") ∷ argumentOf (bytes "a.plan") ∷ argumentOf (bytes "-") ∷ argumentOf [] ∷ argumentOf (bytes "--stat") ∷ argumentOf (bytes "-q") ∷ []
+arguments : argumentOf (bytes "--state") ∷ argumentOf (bytes "--quiet") ∷ argumentOf (bytes "--part") ∷ argumentOf (bytes "a.plan")
+    ∷ argumentOf (bytes "-") ∷ argumentOf [] ∷ argumentOf (bytes "--stat") ∷ argumentOf (bytes "-q") ∷ []
     ≡ State ∷ Quiet ∷ Part ∷ File ∷ File ∷ File ∷ Unknown ∷ Unknown ∷ []
 unfolding bytes lowerOf sameWord argumentOf
 arguments = refl
 
-sizes : sizeFrom 0 (bytes "1") ∷ sizeFrom 0 (bytes "64") ∷ sizeFrom 0 (bytes "65536") ∷ sizeFrom 0 (bytes "65537") ∷ sizeFrom 0 (bytes "0") ∷ sizeFrom 0 (bytes "12x") ∷ sizeFrom 0 (bytes "-1") ∷ sizeFrom 0 [] ∷ []
+sizes : sizeFrom 0 (bytes "1") ∷ sizeFrom 0 (bytes "64") ∷ sizeFrom 0 (bytes "65536") ∷ sizeFrom 0 (bytes "65537")
+    ∷ sizeFrom 0 (bytes "0") ∷ sizeFrom 0 (bytes "12x") ∷ sizeFrom 0 (bytes "-1") ∷ sizeFrom 0 [] ∷ []
     ≡ 1 ∷ 64 ∷ 65536 ∷ 0 ∷ 0 ∷ 0 ∷ 0 ∷ 0 ∷ []
 unfolding bytes sizeFrom
 sizes = refl

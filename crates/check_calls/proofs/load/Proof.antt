@@ -1,4 +1,4 @@
--- `checker::load` meets its contract. Assumes nothing.
+-- `check_calls::load` meets its contract. Assumes nothing.
 use mathlib.Core.Path.{_≡_}
 use lib.ListN.{length}
 use denote.Ref.{now}

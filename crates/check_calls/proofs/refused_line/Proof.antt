@@ -1,4 +1,4 @@
--- `checker::refused_line` meets its contract. Assumes nothing.
+-- `check_calls::refused_line` meets its contract. Assumes nothing.
 use denote.Ref.{now}
 use borrow.Author.Needs.{needs}
 use Rattle.text_words.specs.Bytes.{bytes}

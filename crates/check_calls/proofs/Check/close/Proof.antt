@@ -1,4 +1,4 @@
--- `checker::Check::close` meets its contract. Assumes nothing.
+-- `check_calls::Check::close` meets its contract. Assumes nothing.
 use mathlib.Core.Path.{_∙_}
 use lib.ListN.{replicate}
 use Rattle.happening_truths.specs.Judged.{stateIn}

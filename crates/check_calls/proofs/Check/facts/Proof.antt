@@ -1,4 +1,4 @@
--- `checker::Check::facts` meets its contract. Assumes nothing.
+-- `check_calls::Check::facts` meets its contract. Assumes nothing.
 use mathlib.Core.Bool.{true}
 use mathlib.Core.Path.{_≡_, sym, _∙_}
 use lib.ListN.{length}

@@ -1,4 +1,4 @@
--- `checker::Check::finish` meets its contract. Assumes nothing.
+-- `check_calls::Check::finish` meets its contract. Assumes nothing.
 use mathlib.Core.Bool.{true}
 use mathlib.Core.Path.{_≡_, sym, _∙_}
 use borrow.Author.Tests.{not-true, not-false}

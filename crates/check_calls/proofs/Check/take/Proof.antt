@@ -1,4 +1,4 @@
--- `checker::Check::take` meets its contract. Assumes nothing.
+-- `check_calls::Check::take` meets its contract. Assumes nothing.
 use mathlib.Core.Path.{sym, _∙_}
 use denote.Ref.{now}
 use Rattle.domain_stored_meaning.specs.Decode.{conditionAt}

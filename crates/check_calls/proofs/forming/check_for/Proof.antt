@@ -1,4 +1,4 @@
--- `checker::forming::check_for` meets its contract. Assumes nothing.
+-- `check_calls::forming::check_for` meets its contract. Assumes nothing.
 use mathlib.Core.Bool.{false}
 use borrow.Author.Needs.{needs}
 use Rattle.check_calls.proofs.Padding.{zeros-padded}

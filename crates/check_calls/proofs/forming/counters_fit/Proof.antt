@@ -1,4 +1,4 @@
--- `checker::forming::counters_fit` meets its contract. Assumes nothing.
+-- `check_calls::forming::counters_fit` meets its contract. Assumes nothing.
 use Prim.Native.Nat.{ℕ}
 use mathlib.Core.Bool.{cond}
 use native.Mathlib.Omega.{arith}

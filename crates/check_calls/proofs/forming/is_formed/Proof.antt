@@ -1,4 +1,4 @@
--- `checker::forming::is_formed` meets its contract. Assumes nothing.
+-- `check_calls::forming::is_formed` meets its contract. Assumes nothing.
 use mathlib.Core.Path.{sym, _∙_}
 use borrow.Author.Tests.{le-leb, lt-leb}
 use borrow.Author.Needs.{needs}

@@ -1,4 +1,4 @@
--- `checker::forming::most_lines` meets its contract. Assumes nothing.
+-- `check_calls::forming::most_lines` meets its contract. Assumes nothing.
 use borrow.Author.Tests.{ne-eqb}
 use Rattle.check_calls.proofs.forming.most_lines.Statement.{statement}
 use Rattle.check_calls.proofs.forming.most_lines.Tie as tie

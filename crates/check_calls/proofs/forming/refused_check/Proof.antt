@@ -1,4 +1,4 @@
--- `checker::forming::refused_check` meets its contract. Assumes nothing.
+-- `check_calls::forming::refused_check` meets its contract. Assumes nothing.
 use borrow.Author.Needs.{needs}
 use Rattle.domain_meaning.specs.First.{noFacts, noNumbers}
 use Rattle.plan_feeding.specs.Feeding.{refusedIn}

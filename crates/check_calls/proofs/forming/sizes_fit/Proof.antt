@@ -1,4 +1,4 @@
--- `checker::forming::sizes_fit` meets its contract. Assumes nothing.
+-- `check_calls::forming::sizes_fit` meets its contract. Assumes nothing.
 use borrow.Author.Tests.{le-leb, lt-leb}
 use Rattle.check_calls.specs.Calls.{sizesFit}
 use Rattle.check_calls.proofs.forming.sizes_fit.Statement.{statement}

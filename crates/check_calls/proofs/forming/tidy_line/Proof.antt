@@ -1,4 +1,4 @@
--- `checker::forming::tidy_line` meets its contract. Assumes nothing.
+-- `check_calls::forming::tidy_line` meets its contract. Assumes nothing.
 use Prim.Native.Nat.{_≤_, _-_, zero-le}
 use mathlib.Core.Path.{_≡_}
 use native.Mathlib.Omega.{arith}

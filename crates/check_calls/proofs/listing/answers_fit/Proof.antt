@@ -1,4 +1,4 @@
--- `checker::listing::answers_fit` meets its contract. Assumes nothing.
+-- `check_calls::listing::answers_fit` meets its contract. Assumes nothing.
 use mathlib.Core.Path.{sym, _∙_}
 use borrow.Author.Needs.{needs}
 use Rattle.check_meaning.specs.Listed.{listedTime}

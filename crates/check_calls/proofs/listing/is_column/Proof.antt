@@ -1,4 +1,4 @@
--- `checker::listing::is_column` meets its contract. Assumes nothing.
+-- `check_calls::listing::is_column` meets its contract. Assumes nothing.
 use borrow.Author.Tests.{le-leb, lt-leb}
 use Rattle.plan_meaning.specs.Listed.{listedColumn}
 use Rattle.check_calls.proofs.listing.is_column.Statement.{statement}

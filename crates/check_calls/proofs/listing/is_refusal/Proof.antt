@@ -1,4 +1,4 @@
--- `checker::listing::is_refusal` meets its contract. Assumes nothing.
+-- `check_calls::listing::is_refusal` meets its contract. Assumes nothing.
 use mathlib.Core.Path.{sym, _∙_}
 use borrow.Author.Tests.{ne-eqb}
 use borrow.Author.Needs.{needs}

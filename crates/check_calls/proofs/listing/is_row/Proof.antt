@@ -1,4 +1,4 @@
--- `checker::listing::is_row` meets its contract. Assumes nothing.
+-- `check_calls::listing::is_row` meets its contract. Assumes nothing.
 use mathlib.Core.Path.{refl, _∙_}
 use native.Mathlib.Omega.{arith}
 use native.Mathlib.Decide.{decLe}

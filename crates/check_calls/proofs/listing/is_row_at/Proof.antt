@@ -1,4 +1,4 @@
--- `checker::listing::is_row_at` meets its contract. Assumes nothing.
+-- `check_calls::listing::is_row_at` meets its contract. Assumes nothing.
 use borrow.Author.Tests.{ne-eqb}
 use borrow.Author.Needs.{needs}
 use Rattle.plan_meaning.specs.Listed.{listedRow}

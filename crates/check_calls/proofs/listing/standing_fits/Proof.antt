@@ -1,4 +1,4 @@
--- `checker::listing::standing_fits` meets its contract. Assumes nothing.
+-- `check_calls::listing::standing_fits` meets its contract. Assumes nothing.
 use borrow.Author.Needs.{needs}
 use Rattle.check_calls.proofs.listing.standing_fits.Statement.{statement}
 use Rattle.check_calls.proofs.listing.standing_fits.Tie as tie

@@ -1,4 +1,4 @@
--- `checker::outputs::bit_of` meets its contract. Assumes nothing.
+-- `check_calls::outputs::bit_of` meets its contract. Assumes nothing.
 use borrow.Author.Tests.{eq-eqb, ne-eqb}
 use Rattle.check_calls.proofs.outputs.bit_of.Statement.{statement}
 use Rattle.check_calls.proofs.outputs.bit_of.Tie as tie

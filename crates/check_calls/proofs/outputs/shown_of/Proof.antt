@@ -1,4 +1,4 @@
--- `checker::outputs::shown_of` meets its contract. Assumes nothing.
+-- `check_calls::outputs::shown_of` meets its contract. Assumes nothing.
 use mir.Syntax.{w64}
 use mir.ValLaws.{toZ-ofZ}
 use borrow.Author.Needs.{needs}

@@ -1,4 +1,4 @@
--- `checker::outputs::standing_answer` meets its contract. Assumes nothing.
+-- `check_calls::outputs::standing_answer` meets its contract. Assumes nothing.
 use Rattle.check_calls.proofs.outputs.standing_answer.Statement.{statement}
 use Rattle.check_calls.proofs.outputs.standing_answer.Tie as tie
 

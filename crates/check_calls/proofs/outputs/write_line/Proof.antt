@@ -1,4 +1,4 @@
--- `checker::outputs::write_line` meets its contract. Assumes nothing.
+-- `check_calls::outputs::write_line` meets its contract. Assumes nothing.
 use borrow.Author.Needs.{needs}
 use Rattle.text_words.specs.Bytes.{bytes}
 use Rattle.check_calls.proofs.outputs.write_line.Statement.{statement}

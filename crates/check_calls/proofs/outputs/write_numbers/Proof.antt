@@ -1,4 +1,4 @@
--- `checker::outputs::write_numbers` meets its contract. Assumes nothing.
+-- `check_calls::outputs::write_numbers` meets its contract. Assumes nothing.
 use Prim.Native.Nat.{_≤_, _-_, zero-le}
 use mathlib.Core.List.{map}
 use mathlib.Core.Path.{_≡_, refl}

@@ -1,4 +1,4 @@
--- `checker::outputs::write_refusal` meets its contract. Assumes nothing.
+-- `check_calls::outputs::write_refusal` meets its contract. Assumes nothing.
 use denote.Ref.{now}
 use lib.ListN.{length}
 use borrow.Author.Tests.{lt-ltb, le-ltb}

@@ -1,4 +1,4 @@
--- `feeding::stepping::end_plan` meets its contract. Assumes nothing.
+-- `plan_feeding::stepping::end_plan` meets its contract. Assumes nothing.
 use mathlib.Core.Path.{_≡_, refl, _∙_}
 use denote.Ref.{now}
 use lib.ListN.{take}

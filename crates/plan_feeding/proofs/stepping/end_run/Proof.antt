@@ -1,4 +1,4 @@
--- `feeding::stepping::end_run` meets its contract. Assumes nothing.
+-- `plan_feeding::stepping::end_run` meets its contract. Assumes nothing.
 use mathlib.Core.Path.{_≡_}
 use Prim.Native.Nat.{_+_, suc, max}
 use native.Mathlib.Omega.{arith}

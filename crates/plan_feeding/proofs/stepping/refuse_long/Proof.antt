@@ -1,4 +1,4 @@
--- `feeding::stepping::refuse_long` meets its contract. Assumes nothing.
+-- `plan_feeding::stepping::refuse_long` meets its contract. Assumes nothing.
 use native.Mathlib.Omega.{arith}
 use denote.Ref.{now}
 use mathlib.Core.Option.{Option}

@@ -1,4 +1,4 @@
--- `feeding::stepping::take_line` meets its contract. Assumes nothing.
+-- `plan_feeding::stepping::take_line` meets its contract. Assumes nothing.
 use mathlib.Core.Path.{refl, ap}
 use Prim.Native.Nat.{ℕ, _≤_}
 use mathlib.Core.List.{List}

@@ -1,4 +1,4 @@
--- `feeding::stepping::take_step` meets its contract. Assumes nothing.
+-- `plan_feeding::stepping::take_step` meets its contract. Assumes nothing.
 use mathlib.Core.Path.{_≡_, ap}
 use Prim.Native.Nat.{_≤_}
 use native.Mathlib.Omega.{arith}

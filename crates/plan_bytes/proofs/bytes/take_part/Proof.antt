@@ -1,13 +1,13 @@
--- `feeding::bytes::take_part` meets its contract. Assumes nothing.
+-- `plan_bytes::bytes::take_part` meets its contract. Assumes nothing.
 use denote.Ref.{now}
 use mathlib.Core.Path.{refl}
 use borrow.Author.Needs.{needs}
 use Rattle.happening_truths.specs.Judged.{stateIn}
 use Rattle.plan_waiting.specs.Lent.{queueIn}
 use Rattle.plan_waiting.specs.declared.Queue.{Queue}
 use Rattle.plan_feeding.proofs.Alike.{check-alike, fit-alike, made-alike, made-fit}
-use Rattle.plan_feeding.proofs.bytes.take_part.Statement.{statement}
-use Rattle.plan_feeding.proofs.bytes.take_part.Tie as tie
+use Rattle.plan_bytes.proofs.bytes.take_part.Statement.{statement}
+use Rattle.plan_bytes.proofs.bytes.take_part.Tie as tie
 
 abbrev start : tie.After-lend → tie.Start
 start c = c .before .before .before .before .before .before .before .before .before .before .before

@@ -1,4 +1,4 @@
--- `feeding::bytes::take_bytes` meets its contract. Assumes nothing.
+-- `plan_bytes::bytes::take_bytes` meets its contract. Assumes nothing.
 use denote.Ref.{now}
 use Prim.Native.Nat.{_≤_, _-_}
 use mathlib.Core.Logic.{⊎-elim}
@@ -17,9 +17,9 @@ use Rattle.plan_meaning.specs.Lines.{Known, reader, limits}
 use Rattle.plan_waiting.specs.Lent.{queueIn}
 use Rattle.plan_running.specs.Running.{rulesIn}
 use Rattle.plan_lines.specs.Knowing.{knownIn}
-use Rattle.plan_feeding.proofs.Turning.{Memory, memory, held, Ready, Sized, sized-same, sized-on, Turn, turn-same, turn-beyond, turn-more, turn-full, turn-lf, turned, feed-end, held-refused}
-use Rattle.plan_feeding.proofs.bytes.take_bytes.Statement.{statement}
-use Rattle.plan_feeding.proofs.bytes.take_bytes.Tie as tie
+use Rattle.plan_bytes.proofs.Turning.{Memory, memory, held, Ready, Sized, sized-same, sized-on, Turn, turn-same, turn-beyond, turn-more, turn-full, turn-lf, turned, feed-end, held-refused}
+use Rattle.plan_bytes.proofs.bytes.take_bytes.Statement.{statement}
+use Rattle.plan_bytes.proofs.bytes.take_bytes.Tie as tie
 
 abbrev Inv-loop : tie.InvT-loop
 Inv-loop tables counts heads acting code starts firsts facts₀ numbers₀ fresh₀ line₀ words₀ objects₀ count part points₀ whos₀ lines₀ others₀ n₀ p₀ i₀ facts numbers fresh line words objects points whos lines others n p i =

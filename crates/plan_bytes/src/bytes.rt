@@ -1,9 +1,9 @@
 // The bytes of a plan, part by part.
-use crate::Progress;
 use crate::Taken;
-use crate::Went;
-use crate::stepping;
 use domain_terms::scope::Counts;
+use plan_feeding::Progress;
+use plan_feeding::Went;
+use plan_feeding::stepping;
 use plan_waiting::Queue;
 use plan_waiting::lent;
 ghost use mathlib.Core.Path.{_≡_};
@@ -61,8 +61,21 @@ fn take_bytes<'a>(
     lines: &mut [usize; 256],
     others: &mut [u8; 256],
 ) -> Went
-    requires { ⌜ Tabled (now tables) counts × Headed (now heads) acting × Fit acting (queueIn (now words) (now objects) count) progress × (progress .refused ≡ false) × (length (now line) ≡ 257) × (length (now code) ≤ 32768) × (now fresh ≡ now numbers) ⌝ }
-    ensures { λ r. ⌜ ((c : Cond) (s : State) → heldIn (stateIn (now (facts .exit)) (now (numbers .exit))) (now (line .exit)) (queueIn (now (words .exit)) (now (objects .exit)) (r .count)) (r .progress) ≡ feed (rulesIn (now (code .entry)) (now (starts .entry)) (now (firsts .entry)) c (signedIn (now (heads .entry)) acting) s) limits (reader (knownIn (now (tables .entry)) counts (now (heads .entry)) acting (now (code .entry)) (now (starts .entry)))) (heldIn (stateIn (now (facts .entry)) (now (numbers .entry))) (now (line .entry)) (queueIn (now (words .entry)) (now (objects .entry)) count) progress) (now (part .entry))) × Fit acting (queueIn (now (words .exit)) (now (objects .exit)) (r .count)) (r .progress) × (length (now (line .exit)) ≡ 257) ⌝ }
+    requires { ⌜
+        Tabled (now tables) counts × Headed (now heads) acting × Fit acting (queueIn (now words) (now objects) count) progress
+        × (progress .refused ≡ false) × (length (now line) ≡ 257) × (length (now code) ≤ 32768) × (now fresh ≡ now numbers)
+        ⌝ }
+    ensures { λ r. ⌜
+        ((c : Cond) (s : State)
+        → heldIn (stateIn (now (facts .exit)) (now (numbers .exit))) (now (line .exit)) (queueIn (now (words .exit)) (now (objects .exit)) (r .count))
+        (r .progress)
+        ≡ feed (rulesIn (now (code .entry)) (now (starts .entry)) (now (firsts .entry)) c (signedIn (now (heads .entry)) acting) s) limits
+        (reader (knownIn (now (tables .entry)) counts (now (heads .entry)) acting (now (code .entry)) (now (starts .entry))))
+        (heldIn (stateIn (now (facts .entry)) (now (numbers .entry))) (now (line .entry))
+        (queueIn (now (words .entry)) (now (objects .entry)) count) progress)
+        (now (part .entry)))
+        × Fit acting (queueIn (now (words .exit)) (now (objects .exit)) (r .count)) (r .progress) × (length (now (line .exit)) ≡ 257)
+        ⌝ }
 {
     let mut n = count;
     let mut p = progress;
@@ -78,7 +91,7 @@ fn take_bytes<'a>(
         }
         if 1000000 < p.number {
             p = stepping::refuse(p, 15, 1);
-        } else if b == 10 {
+        } else if b == b'\n' {
             let t = stepping::take_line(
                 tables,
                 counts,
@@ -136,8 +149,18 @@ pub fn take_part<'a>(
     progress: Progress,
     part: &'a [u8],
 ) -> Taken
-    requires { ⌜ Tabled (now tables) counts × Headed (now heads) acting × Fit acting queue progress × (progress .refused ≡ false) × (length (now line) ≡ 257) × (length (now code) ≤ 32768) × (now fresh ≡ now numbers) ⌝ }
-    ensures { λ r. ⌜ ((c : Cond) (s : State) → heldIn (stateIn (now (facts .exit)) (now (numbers .exit))) (now (line .exit)) (r .queue) (r .progress) ≡ feed (rulesIn (now (code .entry)) (now (starts .entry)) (now (firsts .entry)) c (signedIn (now (heads .entry)) acting) s) limits (reader (knownIn (now (tables .entry)) counts (now (heads .entry)) acting (now (code .entry)) (now (starts .entry)))) (heldIn (stateIn (now (facts .entry)) (now (numbers .entry))) (now (line .entry)) queue progress) (now (part .entry))) × Fit acting (r .queue) (r .progress) × (length (now (line .exit)) ≡ 257) ⌝ }
+    requires { ⌜
+        Tabled (now tables) counts × Headed (now heads) acting × Fit acting queue progress × (progress .refused ≡ false) × (length (now line) ≡ 257)
+        × (length (now code) ≤ 32768) × (now fresh ≡ now numbers)
+        ⌝ }
+    ensures { λ r. ⌜
+        ((c : Cond) (s : State)
+        → heldIn (stateIn (now (facts .exit)) (now (numbers .exit))) (now (line .exit)) (r .queue) (r .progress)
+        ≡ feed (rulesIn (now (code .entry)) (now (starts .entry)) (now (firsts .entry)) c (signedIn (now (heads .entry)) acting) s) limits
+        (reader (knownIn (now (tables .entry)) counts (now (heads .entry)) acting (now (code .entry)) (now (starts .entry))))
+        (heldIn (stateIn (now (facts .entry)) (now (numbers .entry))) (now (line .entry)) queue progress) (now (part .entry)))
+        × Fit acting (r .queue) (r .progress) × (length (now (line .exit)) ≡ 257)
+        ⌝ }
 {
     let mut words = [0usize; 384];
     let mut objects = [0u8; 256];

@@ -14,18 +14,17 @@ use Rattle.happening_truths.specs.Judged.{stateIn}
 use Rattle.happening_meaning.specs.State.{State}
 use Rattle.happening_meaning.specs.declared.Outcome.{Outcome}
 use Rattle.plan_meaning.specs.Plan.{Rules, Limits}
-use Rattle.plan_meaning.specs.Machine.{waits, halted}
+use Rattle.plan_meaning.specs.Machine.{halted}
 use Rattle.plan_meaning.specs.Machine as M
 use Rattle.plan_meaning.specs.Text.{Reader}
 use Rattle.plan_meaning.specs.Feed.{Feed, reading, byte, feed}
 use Rattle.plan_meaning.specs.Promised.{Act}
 use Rattle.plan_meaning.specs.Lines.{Known, Refused, reader, limits}
-use Rattle.plan_waiting.specs.Waiting.{waiting}
 use Rattle.plan_waiting.specs.Lent.{queueIn}
 use Rattle.plan_waiting.specs.declared.Queue.{Queue}
-use Rattle.plan_running.specs.Running.{runIn}
 use Rattle.plan_feeding.specs.declared.Progress.{Progress}
 use Rattle.plan_feeding.specs.Feeding.{refusedIn, checkIn, heldIn, refusing, counted, Fit}
+use Rattle.plan_feeding.proofs.Keeping.{check-going, check-halted, check-counted}
 
 -- ---- a part, byte by byte
 
@@ -41,21 +40,6 @@ module _ {S A W E : Type 0} (R : Rules S A W) (L : Limits A E) (D : Reader A E) 
   feed-halted e n part [] = refl
   feed-halted e n part (b ∷ bs) = feed-halted e n part bs
 
--- ---- the check that a progress keeps
-
-module _ (s : State) (q : Queue) (p : Progress) where
-  pub check-going : p .refused ≡ false → checkIn s q p ≡ waits (runIn (p .past) s) (p .start) (waiting q)
-  unfolding checkIn
-  check-going h = rw h
-
-  pub check-halted : p .refused ≡ true → checkIn s q p ≡ halted (refusedIn p)
-  unfolding checkIn
-  check-halted h = rw h
-
-  pub check-counted : (number used : ℕ) → checkIn s q (counted p number used) ≡ checkIn s q p
-  unfolding checkIn
-  check-counted number used = refl
-
 -- ---- a byte, by its kind
 
 module _ (R : Rules State Act Outcome) (k : Known) (s : State) (line : List ℕ) (q : Queue) (p : Progress) (b : ℕ) (unrefused : p .refused ≡ false) where
@@ -66,7 +50,16 @@ module _ (R : Rules State Act Outcome) (k : Known) (s : State) (line : List ℕ)
       → checkIn s′ q′ p′ ≡ M.take R limits (checkIn s q p) (reader k .line (p .number) (p .start) (take (p .used) line))
       → p′ .number ≡ p .number
       → heldIn s′ line q′ (counted p′ (p′ .number + 1) 0) ≡ byte R limits (reader k) (heldIn s line q p) b
-  byte-lf s′ q′ p′ h e c n = rw (check-counted s′ q′ p′ (p′ .number + 1) 0, c, n, add-one (p .number), check-going s q p unrefused, le-ltb 1000000 (p .number) h, eq-eqb b 10 e)
+  byte-lf s′ q′ p′ h e c n =
+      rw (
+        check-counted s′ q′ p′ (p′ .number + 1) 0,
+        c,
+        n,
+        add-one (p .number),
+        check-going s q p unrefused,
+        le-ltb 1000000 (p .number) h,
+        eq-eqb b 10 e,
+      )
 
   pub byte-more : p .number ≤ 1000000 → (b ≡ 10 → ⊥) → p .used < 256 → length line ≡ 257
       → heldIn s (set line (p .used) b) q (counted p (p .number) (p .used + 1)) ≡ byte R limits (reader k) (heldIn s line q p) b
@@ -87,7 +80,8 @@ module _ (R : Rules State Act Outcome) (k : Known) (s : State) (line : List ℕ)
       → heldIn s (set line 256 b) q r ≡ byte R limits (reader k) (heldIn s line q p) b
   byte-full r h e m few long refused same =
       let full : p .used ≡ 256 = omega arith in
-      let whole : set line 256 b ≡ take 256 line ++ b ∷ [] = sym (take-all 257 (set line 256 b) (omega (arith, length-set line 256 b))) ∙ take-suc-set line 256 b (omega arith) in
+      let whole : set line 256 b ≡ take 256 line ++ b ∷ []
+      = sym (take-all 257 (set line 256 b) (omega (arith, length-set line 256 b))) ∙ take-suc-set line 256 b (omega arith) in
       rw (
         check-halted s q r (ap (λ (x : Progress). x .refused) same),
         refused,
@@ -146,9 +140,11 @@ module _ (n : ℕ) (rules : Cond → State → Rules State Act Outcome) (k : Kno
 
 module _ {n : ℕ} {rules : Cond → State → Rules State Act Outcome} {k : Known} where
   -- where the lists and records that a turn leads to have other names
-  pub turn-same : (m : Memory) (b : ℕ) {facts facts′ : List ℕ} {numbers numbers′ fresh fresh′ : List ℤ} {line line′ words words′ objects objects′ : List ℕ} {count count′ : ℕ} {p p′ : Progress}
+  pub turn-same : (m : Memory) (b : ℕ) {facts facts′ : List ℕ} {numbers numbers′ fresh fresh′ : List ℤ}
+      {line line′ words words′ objects objects′ : List ℕ} {count count′ : ℕ} {p p′ : Progress}
       → facts′ ≡ facts → numbers′ ≡ numbers → fresh′ ≡ fresh → line′ ≡ line → words′ ≡ words → objects′ ≡ objects → count′ ≡ count → p′ ≡ p
-      → Turn n rules k m b (memory facts numbers fresh line (queueIn words objects count) p) → Turn n rules k m b (memory facts′ numbers′ fresh′ line′ (queueIn words′ objects′ count′) p′)
+      → Turn n rules k m b (memory facts numbers fresh line (queueIn words objects count) p)
+      → Turn n rules k m b (memory facts′ numbers′ fresh′ line′ (queueIn words′ objects′ count′) p′)
   turn-same m b f g h l w o q p t = rw (f, g, h, l, w, o, q, p) t
 
   module _ (m : Memory) (b : ℕ) (ready : Ready n m) (unrefused : m .progress .refused ≡ false) where
@@ -162,10 +158,15 @@ module _ {n : ℕ} {rules : Cond → State → Rules State Act Outcome} {k : Kno
         }
 
     pub turn-more : m .progress .number ≤ 1000000 → (b ≡ 10 → ⊥) → m .progress .used < 256
-        → Turn n rules k m b (memory (m .facts) (m .numbers) (m .fresh) (set (m .line) (m .progress .used) b) (m .queue) (counted (m .progress) (m .progress .number) (m .progress .used + 1)))
+        → Turn n rules k m b (memory (m .facts) (m .numbers) (m .fresh) (set (m .line) (m .progress .used) b)
+        (m .queue) (counted (m .progress) (m .progress .number) (m .progress .used + 1)))
     turn-more h e u =
         record {
-          ready = record { fit = (ready .fit .0, ready .fit .1, omega arith, ready .fit .3, ready .fit .4); long = length-set (m .line) (m .progress .used) b ∙ ready .long; same = ready .same };
+          ready = record {
+            fit = (ready .fit .0, ready .fit .1, omega arith, ready .fit .3, ready .fit .4);
+            long = length-set (m .line) (m .progress .used) b ∙ ready .long;
+            same = ready .same;
+          };
           sized = record { facts = refl; numbers = refl; fresh = refl; line = length-set (m .line) (m .progress .used) b };
           turns = λ c s. byte-more (rules c s) k (stateIn (m .facts) (m .numbers)) (m .line) (m .queue) (m .progress) b unrefused h e u (ready .long);
         }
@@ -177,28 +178,36 @@ module _ {n : ℕ} {rules : Cond → State → Rules State Act Outcome} {k : Kno
         record {
           ready = record { fit = rw same (ready .fit); long = length-set (m .line) 256 b ∙ ready .long; same = ready .same };
           sized = record { facts = refl; numbers = refl; fresh = refl; line = length-set (m .line) 256 b };
-          turns = λ c s. byte-full (rules c s) k (stateIn (m .facts) (m .numbers)) (m .line) (m .queue) (m .progress) b unrefused r h e u (ready .fit .2) (ready .long) refused same;
+          turns = λ c s. byte-full (rules c s) k (stateIn (m .facts) (m .numbers)) (m .line) (m .queue) (m .progress)
+              b unrefused r h e u (ready .fit .2) (ready .long) refused same;
         }
 
     pub turn-lf : (facts : List ℕ) (numbers fresh : List ℤ) (q : Queue) (p : Progress) → m .progress .number ≤ 1000000 → b ≡ 10
         → length facts ≡ length (m .facts) → length numbers ≡ length (m .numbers) → length fresh ≡ length (m .fresh)
-        → ((c : Cond) (s : State) → checkIn (stateIn facts numbers) q p ≡ M.take (rules c s) limits (checkIn (stateIn (m .facts) (m .numbers)) (m .queue) (m .progress)) (reader k .line (m .progress .number) (m .progress .start) (take (m .progress .used) (m .line))))
+        → ((c : Cond) (s : State) → checkIn (stateIn facts numbers) q p
+        ≡ M.take (rules c s) limits (checkIn (stateIn (m .facts) (m .numbers)) (m .queue) (m .progress))
+        (reader k .line (m .progress .number) (m .progress .start) (take (m .progress .used) (m .line))))
         → Fit n q p → p .number ≡ m .progress .number → fresh ≡ numbers
         → Turn n rules k m b (memory facts numbers fresh (m .line) q (counted p (p .number + 1) 0))
     turn-lf facts numbers fresh q p h e f g l checked fit number same =
         record {
           ready = record { fit = (fit .0, fit .1, omega arith, omega arith, omega arith); long = ready .long; same = same };
           sized = record { facts = f; numbers = g; fresh = l; line = refl };
-          turns = λ c s. byte-lf (rules c s) k (stateIn (m .facts) (m .numbers)) (m .line) (m .queue) (m .progress) b unrefused (stateIn facts numbers) q p h e (checked c s) number;
+          turns = λ c s. byte-lf (rules c s) k (stateIn (m .facts) (m .numbers)) (m .line) (m .queue) (m .progress)
+              b unrefused (stateIn facts numbers) q p h e (checked c s) number;
         }
 
   -- the bytes that are left lead where they led before
-  pub turned : (m : Memory) (part : List ℕ) (i : ℕ) (m′ : Memory) → i < length part → Turn n rules k m (getD part i 0) m′ → (c : Cond) (s : State) (end : Feed State Act Outcome Refused)
+  pub turned : (m : Memory) (part : List ℕ) (i : ℕ) (m′ : Memory) → i < length part → Turn n rules k m (getD part i 0) m′
+      → (c : Cond) (s : State) (end : Feed State Act Outcome Refused)
       → feed (rules c s) limits (reader k) (held m) (drop i part) ≡ end → feed (rules c s) limits (reader k) (held m′) (drop (i + 1) part) ≡ end
   turned m part i m′ h t c s end e =
-      ap (λ (x : Feed State Act Outcome Refused). feed (rules c s) limits (reader k) x (drop (i + 1) part)) (t .turns c s) ∙ sym (feed-next (rules c s) limits (reader k) (held m) part i h) ∙ e
+      ap (λ (x : Feed State Act Outcome Refused). feed (rules c s) limits (reader k) x (drop (i + 1) part)) (t .turns c s)
+      ∙ sym (feed-next (rules c s) limits (reader k) (held m) part i h) ∙ e
 
 -- after a refusal nothing changes
-pub held-refused : (R : Rules State Act Outcome) (k : Known) (m : Memory) (bs : List ℕ) → m .progress .refused ≡ true → feed R limits (reader k) (held m) bs ≡ held m
+pub held-refused : (R : Rules State Act Outcome) (k : Known) (m : Memory) (bs : List ℕ) → m .progress .refused ≡ true
+    → feed R limits (reader k) (held m) bs ≡ held m
 held-refused R k m bs h =
-    rw (check-halted (stateIn (m .facts) (m .numbers)) (m .queue) (m .progress) h) (feed-halted R limits (reader k) (refusedIn (m .progress)) (m .progress .number) (take (m .progress .used) (m .line)) bs)
+    rw (check-halted (stateIn (m .facts) (m .numbers)) (m .queue) (m .progress) h)
+    (feed-halted R limits (reader k) (refusedIn (m .progress)) (m .progress .number) (take (m .progress .used) (m .line)) bs)
