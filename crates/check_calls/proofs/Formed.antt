@@ -5,7 +5,7 @@ use mathlib.Core.Path.{_≡_, refl}
 use native.Mathlib.Omega.{arith}
 use borrow.Author.Tests.{ltb-true, leb-true, leb-false, eqb-true, eqb-false, lt-ltb, le-leb}
 use lib.Dec.{ltb, leb, eqb}
-use Rattle.text_words.proofs.Ranges.{both-0, both-1}
+use Rattle.base_laws.proofs.Splits.{and-left, and-right}
 use Rattle.domain_terms.specs.declared.scope.Counts.{Counts}
 use Rattle.plan_waiting.specs.Waiting.{used, slotsFit, Sound}
 use Rattle.plan_waiting.specs.declared.Queue.{Queue}
@@ -74,15 +74,15 @@ counters-parts p h =
     let b = leb (p .number) (lastLine (p .used)) in
     let c = leb (p .used) 256 in
     let d = ltb (p .start) 1000000000000 in
-    let abc = both-0 (a && b && c) d h in
-    let ab = both-0 (a && b) c abc in
-    let l = last-parts (p .number) (p .used) (both-1 a b ab) in
+    let abc = and-left (a && b && c) d h in
+    let ab = and-left (a && b) c abc in
+    let l = last-parts (p .number) (p .used) (and-right a b ab) in
     record {
-      first = ltb-true 0 (p .number) (both-0 a b ab);
+      first = ltb-true 0 (p .number) (and-left a b ab);
       lines = l .0;
       empty = l .1;
-      short = leb-true (p .used) 256 (both-1 (a && b) c abc);
-      timely = ltb-true (p .start) 1000000000000 (both-1 (a && b && c) d h);
+      short = leb-true (p .used) 256 (and-right (a && b) c abc);
+      timely = ltb-true (p .start) 1000000000000 (and-right (a && b && c) d h);
     }
 
 abbrev standingFits : Progress → Bool
@@ -94,12 +94,12 @@ answers-parts p h =
     let a = standingFits p in
     let b = listedVerdict (p .past .outcome) in
     let c = listedTime (p .past .time) in
-    let ab = both-0 (a && b) c h in
-    let s = both-0 a b ab in
+    let ab = and-left (a && b) c h in
+    let s = and-left a b ab in
     record {
       refusal = λ e. rw e at s;
-      verdict = both-1 a b ab;
-      time = ltb-true (p .past .time) 2000000000000 (both-1 (a && b) c h);
+      verdict = and-right a b ab;
+      time = ltb-true (p .past .time) 2000000000000 (and-right (a && b) c h);
     }
 
 pub sizes-parts : (counts : Counts) (acting facts numbers : ℕ) → sizesFit counts acting facts numbers ≡ true → Sizes counts acting facts numbers
@@ -110,15 +110,15 @@ sizes-parts counts acting facts numbers h =
     let c = leb acting 32 in
     let d = leb facts 16384 in
     let e = leb numbers 1024 in
-    let abcd = both-0 (a && b && c && d) e h in
-    let abc = both-0 (a && b && c) d abcd in
-    let ab = both-0 (a && b) c abc in
+    let abcd = and-left (a && b && c && d) e h in
+    let abc = and-left (a && b && c) d abcd in
+    let ab = and-left (a && b) c abc in
     record {
-      types = leb-true (counts .types) 17 (both-0 a b ab);
-      objects = leb-true (counts .objects) 64 (both-1 a b ab);
-      actions = leb-true acting 32 (both-1 (a && b) c abc);
-      fewFacts = leb-true facts 16384 (both-1 (a && b && c) d abcd);
-      fewNumbers = leb-true numbers 1024 (both-1 (a && b && c && d) e h);
+      types = leb-true (counts .types) 17 (and-left a b ab);
+      objects = leb-true (counts .objects) 64 (and-right a b ab);
+      actions = leb-true acting 32 (and-right (a && b) c abc);
+      fewFacts = leb-true facts 16384 (and-right (a && b && c) d abcd);
+      fewNumbers = leb-true numbers 1024 (and-right (a && b && c && d) e h);
     }
 
 -- ---- from the parts
@@ -163,15 +163,15 @@ module _ (p : Progress) (counts : Counts) (acting facts numbers : ℕ) (q : Queu
       let c = sizesFit counts acting facts numbers in
       let d = leb (q .count) 64 in
       let e = slotsFit acting (used q) in
-      let abcd = both-0 (a && b && c && d) e h in
-      let abc = both-0 (a && b && c) d abcd in
-      let ab = both-0 (a && b) c abc in
+      let abcd = and-left (a && b && c && d) e h in
+      let abc = and-left (a && b && c) d abcd in
+      let ab = and-left (a && b) c abc in
       record {
-        counters = counters-parts p (both-0 a b ab);
-        answers = answers-parts p (both-1 a b ab);
-        sizes = sizes-parts counts acting facts numbers (both-1 (a && b) c abc);
-        few = leb-true (q .count) 64 (both-1 (a && b && c) d abcd);
-        slots = both-1 (a && b && c && d) e h;
+        counters = counters-parts p (and-left a b ab);
+        answers = answers-parts p (and-right a b ab);
+        sizes = sizes-parts counts acting facts numbers (and-right (a && b) c abc);
+        few = leb-true (q .count) 64 (and-right (a && b && c) d abcd);
+        slots = and-right (a && b && c && d) e h;
       }
 
   pub formed-of : Formed p counts acting facts numbers q → formed p counts acting facts numbers q ≡ true

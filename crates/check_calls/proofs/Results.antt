@@ -5,9 +5,10 @@ use mathlib.Core.Bool.{true, false}
 use Prim.Native.Nat.{ℕ, _≤_, _<_}
 use native.Mathlib.Omega.{arith}
 use lib.IntN.{ℤ}
-use lib.ListN.{length, take, length-map}
-use lib.Seq.{sets, length-take-le}
+use lib.ListN.{length, take}
+use lib.Seq.{sets}
 use borrow.Author.Tests.{lt-ltb, le-ltb}
+use Rattle.base_laws.proofs.Lists.{taken-length}
 use Rattle.check_meaning.specs.Answer.{bit, shown}
 use Rattle.check_calls.specs.declared.Check.{Check}
 use Rattle.check_calls.specs.declared.Fed.{Fed}
@@ -54,11 +55,7 @@ module _ (c : Check) (good : wellFormed c ≡ true) where
   pub few-numbers : length (c .numbers) ≡ 1024 → c .ground .numbers ≤ length (c .numbers)
   few-numbers h = omega (arith, h, parts .sizes .fewNumbers)
 
-mapped-length : {X Y : Type 0} (f : X → Y) (n : ℕ) (xs : List X) → n ≤ length xs → n ≡ length (map f (take n xs))
-mapped-length f n xs h = sym (length-map (take n xs) f ∙ length-take-le n xs h)
-
-module _ {X : Type 0} (c : Check) (out : List X) (least : ℕ) (w : List X)
-    (good : wellFormed c ≡ true) (f : c .finished ≡ true) (r : c .progress .refused ≡ false) where
+module _ {X : Type 0} (c : Check) (out : List X) (least : ℕ) (w : List X) (good : wellFormed c ≡ true) (f : c .finished ≡ true) (r : c .progress .refused ≡ false) where
   kept-short : length out < least → (fed c A.Short, out) ≡ whenDone c out (unlessRefused c out (writing c out least w))
   kept-short h = short c out least w h ∙ stated c out _ r ∙ done c out _ good f
 
@@ -76,7 +73,7 @@ module _ (c : Check) (out : List ℕ) (good : wellFormed c ≡ true) (f : c .fin
   unfolding factsOf
   facts-written long h after e =
       kept-written c out (c .ground .facts) (map bit (take (c .ground .facts) (c .facts))) good f r h after
-      (mapped-length bit (c .ground .facts) (c .facts) (few-facts c good long)) e
+      (sym (taken-length bit (c .ground .facts) (c .facts) (few-facts c good long))) e
 
 module _ (c : Check) (out : List ℤ) (good : wellFormed c ≡ true) (f : c .finished ≡ true) (r : c .progress .refused ≡ false) where
   pub numbers-short : length out < c .ground .numbers → (fed c A.Short, out) ≡ numbersOf c out
@@ -88,4 +85,4 @@ module _ (c : Check) (out : List ℤ) (good : wellFormed c ≡ true) (f : c .fin
   unfolding numbersOf
   numbers-written long h after e =
       kept-written c out (c .ground .numbers) (map shown (take (c .ground .numbers) (c .numbers))) good f r h after
-      (mapped-length shown (c .ground .numbers) (c .numbers) (few-numbers c good long)) e
+      (sym (taken-length shown (c .ground .numbers) (c .numbers) (few-numbers c good long))) e

@@ -9,6 +9,7 @@ use borrow.Author.Tests.{eqb-true, eqb-false, ltb-false, lt-ltb, le-leb}
 use lib.Dec.{eqb, ltb}
 use lib.ListN.{length, take, drop}
 use lib.Seq.{sets, sets-eq, take-at}
+use Rattle.base_laws.proofs.Splits.{choose, either}
 use Rattle.domain_meaning.specs.Read.{Read, got, refused}
 use Rattle.domain_meaning.specs.Domain.{Domain, readDomain}
 use Rattle.domain_meaning.specs.Problem.{Problem, readProblem}
@@ -27,7 +28,6 @@ use Rattle.check_demand_laws.specs.Calling.{Call, feed, finish, result, 
 use Rattle.check_demand_laws.specs.Ruling.{loadAnswer, listedLoad, listedPlanAnswer, listedAsked, listedAnswer}
 use Rattle.check_demand_laws.specs.Ours.{ours}
 use Rattle.check_demand_laws.specs.Demands.{Demand1}
-use Rattle.check_demand_laws.proofs.Kept.{choose, either}
 use Rattle.check_demand_laws.proofs.Listed.{Taken, feed-listed, finish-listed, line-short, line-ends}
 use Rattle.check_demand_laws.proofs.First.{load-ruled, ruled, line-ruled, output-kept, line-kept, refusal-stays, finishes, opens, keeps}
 use Rattle.check_demand_laws.proofs.Writing.{refuses, output-written, check-kept}

@@ -9,6 +9,7 @@ use lib.Dec.{ltb}
 use lib.IntN.{ℤ}
 use lib.ListN.{length, take}
 use lib.Seq.{sets}
+use Rattle.base_laws.proofs.Splits.{either}
 use Rattle.domain_meaning.specs.Read.{Read, got, refused}
 use Rattle.domain_meaning.specs.Domain.{Domain, readDomain}
 use Rattle.domain_meaning.specs.Problem.{Problem, readProblem}
@@ -38,7 +39,7 @@ use Rattle.check_demand_laws.specs.Ours.{refusalIn, ours}
 use Rattle.check_demand_laws.specs.Demands.{Same, Opens}
 use Rattle.check_demand_laws.proofs.Whole.{opened, domain-opened, problem-opened, fixed-unformed}
 use Rattle.check_demand_laws.proofs.Loaded.{loaded-open}
-use Rattle.check_demand_laws.proofs.Kept.{either, feed-keeps, finish-keeps, result-asked, facts-asked, numbers-asked, fixed-one}
+use Rattle.check_demand_laws.proofs.Kept.{feed-keeps, finish-keeps, result-asked, facts-asked, numbers-asked, fixed-one}
 use Rattle.check_demand_laws.proofs.Replies.{open-is, feed-unfinished}
 
 -- ---- load: the grammar decides

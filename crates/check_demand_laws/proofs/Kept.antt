@@ -6,6 +6,7 @@ use mathlib.Core.Path.{_≡_, refl, sym, _∙_}
 use lib.IntN.{ℤ}
 use lib.Dec.{ltb}
 use lib.ListN.{length, take}
+use Rattle.base_laws.proofs.Splits.{choose, either}
 use Rattle.domain_meaning.specs.Read.{Read, got, refused}
 use Rattle.domain_meaning.specs.Domain.{Domain, readDomain}
 use Rattle.domain_meaning.specs.Problem.{Problem, readProblem}
@@ -32,11 +33,6 @@ use Rattle.check_demand_laws.proofs.Session.{fedBy, fed-kept, closed-ke
 use Rattle.check_demand_laws.proofs.Asking.{ended-formed}
 use Rattle.check_demand_laws.proofs.Loaded.{loaded-open}
 use Rattle.check_demand_laws.proofs.Whole.{opened, domain-opened, problem-opened, fixed-unformed}
-
--- by a test
-pub choose : {X : Type 0} (P : X → Type 0) (b : Bool) {x y : X} → (b ≡ true → P x) → (b ≡ false → P y) → P (cond b x y)
-choose P true h k = h refl
-choose P false h k = k refl
 
 -- ---- well-formedness is kept
 
@@ -71,11 +67,6 @@ module _ (c : Check) (f : wellFormed c ≡ true) where
       over = close (rulesOn c) limits (reader (knownOn c)) (heldBy c)
 
 -- ---- refusals 19 to 23 return the check unchanged and write to no output
-
--- what holds of both holds of either
-pub either : {X : Type 0} (P : X → Type 0) (b : Bool) {x y : X} → P x → P y → P (cond b x y)
-either P true h k = h
-either P false h k = k
 
 abbrev pub Unchanged : Check → Fed → Type 0
 Unchanged c r = Misused (r .answer) → r .check ≡ c

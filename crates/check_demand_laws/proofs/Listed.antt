@@ -2,13 +2,14 @@
 use Prim.Native.Nat.{ℕ, _≤_}
 use mathlib.Core.Bool.{true}
 use mathlib.Core.List.{List, [], _∷_, _++_, map}
-use mathlib.Core.Path.{_≡_, refl, _∙_}
+use mathlib.Core.Path.{_≡_, refl}
 use native.Mathlib.Omega.{arith}
 use borrow.Author.Tests.{leb-true}
 use lib.Dec.{ltb}
 use lib.IntN.{ℤ}
-use lib.ListN.{length, take, length-map}
-use lib.Seq.{length-take-le}
+use lib.ListN.{length, take}
+use Rattle.base_laws.proofs.Splits.{and-left, and-right, choose}
+use Rattle.base_laws.proofs.Lists.{taken-length}
 use Rattle.text_words.specs.Bytes.{bytes}
 use Rattle.happening_meaning.specs.declared.Outcome.{Outcome}
 use Rattle.happening_meaning.specs.declared.Outcome.the-variants.{Done, Duration, Condition, Undefined, Range, Itself, Conflict, Invariant, Goal}
@@ -17,7 +18,6 @@ use Rattle.plan_meaning.specs.Plan.{Result}
 use Rattle.plan_meaning.specs.Feed.{close}
 use Rattle.plan_meaning.specs.Lines.{Refused, reader, limits}
 use Rattle.plan_meaning.proofs.Listed.{Small, line-parts, listed-small}
-use Rattle.text_words.proofs.Ranges.{both-0, both-1}
 use Rattle.check_wording.specs.Wording.{decimal, timeOf, wordOf, lineOf, secondOf, behindSpace, verdictLine, refusalLine}
 use Rattle.check_wording.proofs.Lengths.{verdict-short, plan-refusal-short}
 use Rattle.plan_feeding.specs.declared.Progress.{Progress}
@@ -33,7 +33,7 @@ use Rattle.check_calls.proofs.Formed.{Answers, formed-parts}
 use Rattle.check_calls.proofs.Results.{few-facts, few-numbers}
 use Rattle.check_demand_laws.proofs.Session.{fedBy, fed-kept, closed-kept}
 use Rattle.check_demand_laws.proofs.Asking.{ended-formed}
-use Rattle.check_demand_laws.proofs.Kept.{choose, stored-kept}
+use Rattle.check_demand_laws.proofs.Kept.{stored-kept}
 
 formed-answers : (c : Check) → wellFormed c ≡ true → Answers (c .progress)
 formed-answers c f = formed-parts (c .progress) (c .model .counts) (c .model .acting) (c .ground .facts) (c .ground .numbers) (c .queue) f .answers
@@ -86,7 +86,7 @@ listed-lines (Condition l) h = (line-parts l h .1, omega arith)
 listed-lines (Undefined l) h = (leb-true l 1000000 h, omega arith)
 listed-lines (Range l) h = (leb-true l 1000000 h, omega arith)
 listed-lines (Itself l) h = (line-parts l h .1, omega arith)
-listed-lines (Conflict l m) h = (line-parts l (both-0 (listedLine l) (listedLine m) h) .1, line-parts m (both-1 (listedLine l) (listedLine m) h) .1)
+listed-lines (Conflict l m) h = (line-parts l (and-left (listedLine l) (listedLine m) h) .1, line-parts m (and-right (listedLine l) (listedLine m) h) .1)
 listed-lines (Invariant l) h = (line-parts l h .1, omega arith)
 listed-lines Goal h = (omega arith, omega arith)
 
@@ -162,9 +162,6 @@ result-listed c out =
     choose (Written c) (wellFormed c)
     (λ f. choose (Written c) (c .finished) (λ e. choose (Written c) (ltb (length out) 64) (λ _. tt) (λ _. refl)) (λ _. tt))
     (λ _. tt)
-
-taken-length : {X Y : Type 0} (f : X → Y) (n : ℕ) (xs : List X) → n ≤ length xs → length (map f (take n xs)) ≡ n
-taken-length f n xs h = length-map (take n xs) f ∙ length-take-le n xs h
 
 module _ {X : Type 0} (c : Check) (out : List X) (size : ℕ) (w : List X) (h : wellFormed c ≡ true → length w ≡ size) where
   abbrev Told : Fed × List X → Type 0

@@ -16,7 +16,7 @@ use Rattle.plan_meaning.specs.Lines.{reader, limits}
 use Rattle.domain_load.specs.Decode.{Reading, decode, readingOf}
 use Rattle.domain_load.specs.Load.{modelOf, loadedOf}
 use Rattle.domain_load.proofs.Back.{model-back}
-use Rattle.domain_load.proofs.Fitting.{read-fits}
+use Rattle.domain_fit_laws.proofs.Whole.{read-fits}
 use Rattle.happening_grounds.specs.Grounded.{groundsIn}
 use Rattle.check_grounding.specs.Grounding.{groundFor}
 use Rattle.check_grounding.specs.declared.Ground.{Ground}
@@ -56,9 +56,9 @@ module _ (s t : List ℕ) (d : Domain) (p : Problem) (m n : ℕ) (e : readDomain
       let h = read-fits s t d p m n e f in
       let g = ground-loaded s t d p m n e f in
       record {
-        types = h .types .few;
-        objects = h .objects .few;
-        actions = omega (arith, h .actions .few, length-map (d .actions) (λ a. a .declared));
+        types = h .domain .types .few;
+        objects = h .problem .objects .few;
+        actions = omega (arith, h .domain .heads .few, length-map (d .actions) (λ a. a .declared));
         fewFacts = rw ground-is (g .0);
         fewNumbers = rw ground-is (g .1);
       }

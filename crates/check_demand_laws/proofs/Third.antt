@@ -7,6 +7,7 @@ use native.Mathlib.Omega.{arith}
 use borrow.Author.Tests.{le-ltb}
 use lib.IntN.{ℤ}
 use lib.ListN.{length, take, length-map, length-take}
+use Rattle.base_laws.proofs.Sets.{sets-first}
 use Rattle.text_words.specs.Bytes.{bytes}
 use Rattle.domain_meaning.specs.Read.{Read, got, refused}
 use Rattle.domain_meaning.specs.Domain.{Domain, readDomain}
@@ -34,7 +35,7 @@ use Rattle.check_demand_laws.proofs.Sessions.{feedsOf, sessionOf, asked
 use Rattle.check_demand_laws.proofs.Keeping.{KeptResult}
 use Rattle.check_demand_laws.proofs.Asking.{ended-formed}
 use Rattle.check_demand_laws.proofs.Loaded as L
-use Rattle.check_demand_laws.proofs.Whole.{means, means-kept, opened, domain-opened, problem-opened, ended-session, answered, sets-first, whole-line-first}
+use Rattle.check_demand_laws.proofs.Whole.{means, means-kept, opened, domain-opened, problem-opened, ended-session, answered, whole-line-first}
 use Rattle.check_demand_laws.proofs.Replies.{loaded-replies, finish-replies}
 
 -- ---- a session in the words of the page

@@ -4,11 +4,11 @@ use Prim.Native.Nat.{ℕ, _≤_}
 use mathlib.Core.List.{List, [], _∷_, _++_}
 use mathlib.Core.Bool.{false}
 use mathlib.Core.Path.{_≡_, refl, sym, ap, subst, _∙_}
-use native.Mathlib.Nat.{zero-add}
 use native.Mathlib.Omega.{arith}
 use borrow.Author.Tests.{le-ltb}
 use lib.ListN.{length, drop}
-use lib.Seq.{sets, sets-eq}
+use lib.Seq.{sets}
+use Rattle.base_laws.proofs.Sets.{sets-first}
 use Rattle.domain_meaning.specs.Read.{Read, got, refused}
 use Rattle.domain_meaning.specs.Domain.{Domain, readDomain}
 use Rattle.domain_meaning.specs.Problem.{Problem, readProblem}
@@ -153,10 +153,6 @@ whole-line s t ps line h = by (readDomain s) refl
     by : (x : Read Domain) → readDomain s ≡ x → askedLine (openOf s t .answer) (sessionOf s t ps) line ≡ sets line 0 (answer s t (joined ps) .line)
     by (got d m) e = behind d m e (readProblem t d) refl
     by (refused k q) e = domain-line s t k q ps line h e
-
--- it stands there whole, and what lies after it stays
-pub sets-first : {A : Type 0} (w out : List A) → length w ≤ length out → sets out 0 w ≡ w ++ drop (length w) out
-sets-first w out l = sets-eq w out 0 (omega arith) ∙ ap (λ (n : ℕ). w ++ drop n out) (zero-add (length w))
 
 pub whole-line-first : (s t : List ℕ) (ps : List (List ℕ)) (line : List ℕ) → 64 ≤ length line
     → askedLine (openOf s t .answer) (sessionOf s t ps) line

@@ -5,6 +5,9 @@ use Prim.Native.Nat.{ℕ, suc, _+_, _^_, _≤_, _<_}
 use native.Mathlib.Omega.{arith}
 use lib.ListN.{length, getD, take, drop, length-append}
 use lib.Seq.{sets, take-at, drop-at, getD-at}
+use borrow.Author.Tests.{leb-true}
+use lib.Dec.{leb}
+use Rattle.base_laws.proofs.Splits.{and-left, and-right}
 use Rattle.domain_meaning.specs.Read.{got}
 use Rattle.domain_meaning.specs.Tables.{Table}
 use Rattle.domain_meaning.specs.Domain.{Domain, readDomain}
@@ -13,11 +16,10 @@ use Rattle.domain_meaning.specs.Indexes.{arity, sumOf, basesFrom, basesOf, padd
 use Rattle.domain_rows.proofs.Rows.{length-padded}
 use Rattle.happening_grounds.specs.Grounded.{firstsIn, groundsIn}
 use Rattle.domain_load.specs.Load.{zeros, modelOf}
-use Rattle.domain_load.proofs.Fitting.{Fitting, read-fits}
+use Rattle.domain_fit_laws.proofs.Whole.{Fitting, read-fits}
 use Rattle.check_meaning.specs.Answer.{groundsOf}
 use Rattle.check_grounding.specs.Grounding.{narrowed, firstsOf, groundFor}
 use Rattle.check_grounding.proofs.Laying.{narrow-low, over-zeros, padded-low}
-use Rattle.check_grounding.proofs.Sums.{Bounded, sums-bounded}
 
 -- 32, 16 and one: told apart
 firsts-apart : (fs ns : List ℕ) (n : ℕ) → length fs ≡ 32 → length ns ≡ 16 → groundsIn (fs ++ (ns ++ n ∷ [])) ≡ record { objects = n; facts = fs; numbers = ns }
@@ -55,8 +57,12 @@ module _ (s t : List ℕ) (d : Domain) (p : Problem) (m n : ℕ) (e : readDomain
   fit : Fitting d p
   fit = read-fits s t d p m n e f
 
-  bounded : Bounded d p
-  bounded = sums-bounded t d p n f
+  -- 16,384 facts and 1,024 numbers at most
+  few-facts : sumOf (length (p .objects)) (d .predicates) ≤ 16384
+  few-facts = leb-true _ _ (and-left _ _ (fit .problem .sums))
+
+  few-numbers : sumOf (length (p .objects)) (d .functions) ≤ 1024
+  few-numbers = leb-true _ _ (and-right (leb (sumOf (length (p .objects)) (d .predicates)) 16384) _ (fit .problem .sums))
 
   pub grounds-loaded : groundsIn (firstsOf (modelOf d p .facts) (modelOf d p .numbers) (length (p .objects))) ≡ groundsOf d p
   unfolding modelOf groundsOf firstsOf
@@ -64,13 +70,13 @@ module _ (s t : List ℕ) (d : Domain) (p : Problem) (m n : ℕ) (e : readDomain
       let o = length (p .objects) in
       let fs = padded 32 (basesOf o (d .predicates)) in
       let ns = padded 16 (basesOf o (d .functions)) in
-      let places : map narrowed (modelOf d p .facts) ≡ fs = narrow-bases 32 o (d .predicates) (fit .predicates .few) (omega (arith, bounded .facts)) in
-      let others : map narrowed (modelOf d p .numbers) ≡ ns = narrow-bases 16 o (d .functions) (fit .functions .few) (omega (arith, bounded .numbers)) in
+      let places : map narrowed (modelOf d p .facts) ≡ fs = narrow-bases 32 o (d .predicates) (fit .domain .predicates .few) (omega (arith, few-facts)) in
+      let others : map narrowed (modelOf d p .numbers) ≡ ns = narrow-bases 16 o (d .functions) (fit .domain .functions .few) (omega (arith, few-numbers)) in
       ap (λ (l : List ℕ). groundsIn (l ++ (map narrowed (modelOf d p .numbers) ++ narrowed o ∷ []))) places
       ∙ ap (λ (l : List ℕ). groundsIn (fs ++ (l ++ narrowed o ∷ []))) others
-      ∙ ap (λ (x : ℕ). groundsIn (fs ++ (ns ++ x ∷ []))) (sym (narrow-low o (omega (arith, fit .objects .few))))
+      ∙ ap (λ (x : ℕ). groundsIn (fs ++ (ns ++ x ∷ []))) (sym (narrow-low o (omega (arith, fit .problem .objects .few))))
       ∙ firsts-apart fs ns o (length-padded 32 (basesOf o (d .predicates))) (length-padded 16 (basesOf o (d .functions)))
 
   pub ground-loaded : let g = groundFor (length (p .objects)) (modelOf d p .facts) (modelOf d p .numbers) (d .predicates) (d .functions) in (g .facts ≤ 16384) × (g .numbers ≤ 1024)
   unfolding groundFor
-  ground-loaded = (bounded .facts, bounded .numbers)
+  ground-loaded = (few-facts, few-numbers)

@@ -5,9 +5,10 @@ use Prim.Native.Nat.{ℕ, zero, suc, _+_, _≤_, _<_}
 use native.Mathlib.Nat.{add-zero, add-suc}
 use native.Mathlib.Numerals.{add-one}
 use native.Mathlib.Omega.{arith}
-use lib.ListN.{length, getD, set, take, drop, length-replicate, length-append, length-map, drop-of-length-le}
-use lib.Seq.{sets, sets-eq, drop-cons, take-at, drop-append-add, set-at}
+use lib.ListN.{length, getD, set, drop, length-replicate, length-append, length-map, drop-of-length-le}
+use lib.Seq.{sets, drop-cons, set-at}
 use borrow.Author.Tests.{lt-ltb, le-ltb}
+use Rattle.base_laws.proofs.Sets.{sets-behind}
 use Rattle.domain_meaning.specs.Indexes.{padded}
 use Rattle.domain_load.specs.Load.{zeros}
 use Rattle.check_grounding.specs.Grounding.{narrowed, firstsOf}
@@ -35,14 +36,6 @@ module _ (out : List ℕ) (at : ℕ) (from : List ℕ) where
 
 -- ---- all of them
 
-behind : (p q vs : List ℕ) (n : ℕ) → length p ≡ n → length vs ≤ length q → sets (p ++ q) n vs ≡ p ++ (vs ++ drop (length vs) q)
-behind p q vs n e h =
-    sets-eq vs (p ++ q) n (omega (arith, length-append p q))
-    ∙ append-assoc (take n (p ++ q)) vs (drop (n + length vs) (p ++ q))
-    ∙ ap (λ (l : List ℕ). l ++ (vs ++ drop (n + length vs) (p ++ q))) (take-at p q n e)
-    ∙ ap (λ (k : ℕ). p ++ (vs ++ drop (k + length vs) (p ++ q))) (sym e)
-    ∙ ap (λ (l : List ℕ). p ++ (vs ++ l)) (drop-append-add p q (length vs))
-
 pub firsts-laid : (facts numbers : List ℕ) (n : ℕ) → length facts ≡ 32 → length numbers ≡ 16
     → set (sets (sets (zeros 49) 0 (map narrowed facts)) 32 (map narrowed numbers)) 48 (narrowed n) ≡ firstsOf facts numbers n
 unfolding firstsOf
@@ -51,8 +44,8 @@ firsts-laid facts numbers n h k =
     let ns = map narrowed numbers in
     let hf : length fs ≡ 32 = length-map facts narrowed ∙ h in
     let hn : length ns ≡ 16 = length-map numbers narrowed ∙ k in
-    ap (λ (l : List ℕ). set (sets l 32 ns) 48 (narrowed n)) (behind [] (zeros 49) fs 0 refl (rw hf (omega arith)) ∙ ap (λ (j : ℕ). fs ++ drop j (zeros 49)) hf)
-    ∙ ap (λ (l : List ℕ). set l 48 (narrowed n)) (behind fs (zeros 17) ns 32 hf (rw hn (omega arith)) ∙ ap (λ (j : ℕ). fs ++ (ns ++ drop j (zeros 17))) hn ∙ sym (append-assoc fs ns (0 ∷ [])))
+    ap (λ (l : List ℕ). set (sets l 32 ns) 48 (narrowed n)) (sets-behind [] (zeros 49) fs 0 refl (rw hf (omega arith)) ∙ ap (λ (j : ℕ). fs ++ drop j (zeros 49)) hf)
+    ∙ ap (λ (l : List ℕ). set l 48 (narrowed n)) (sets-behind fs (zeros 17) ns 32 hf (rw hn (omega arith)) ∙ ap (λ (j : ℕ). fs ++ (ns ++ drop j (zeros 17))) hn ∙ sym (append-assoc fs ns (0 ∷ [])))
     ∙ set-at (fs ++ ns) 0 [] (narrowed n) 48 (let z : length (fs ++ ns) ≡ 48 = omega (arith, length-append fs ns) in z)
     ∙ append-assoc fs ns (narrowed n ∷ [])
 
@@ -66,7 +59,7 @@ zeros-behind zero (b ∷ bs) h = absurd (let z : ⊥ = omega arith in z)
 zeros-behind (suc m) (b ∷ bs) h = ap (λ (l : List ℕ). b ∷ l) (zeros-behind m bs (omega arith))
 
 pub over-zeros : (m : ℕ) (w : List ℕ) → length w ≤ m → sets (zeros m) 0 w ≡ padded m w
-over-zeros m w h = behind [] (zeros m) w 0 refl (rw (length-replicate {A = ℕ} m 0) h) ∙ zeros-behind m w h
+over-zeros m w h = sets-behind [] (zeros m) w 0 refl (rw (length-replicate {A = ℕ} m 0) h) ∙ zeros-behind m w h
 
 narrow-padded : (m : ℕ) (w : List ℕ) → map narrowed (padded m w) ≡ padded m (map narrowed w)
 unfolding padded narrowed

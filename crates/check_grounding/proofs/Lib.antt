@@ -1,4 +1,3 @@
 -- What the proofs of several functions use, and what is said of a domain and a problem that were read.
 pub mod Laying
-pub mod Sums
 pub mod Grounds

@@ -5,6 +5,7 @@ use mathlib.Core.Path.{_≡_, refl, sym, ap, subst, _∙_}
 use Prim.Native.Nat.{ℕ}
 use lib.Dec.{eqb}
 use borrow.Author.Tests.{eqb-true, eq-eqb}
+use Rattle.base_laws.proofs.Splits.{or-left, or-right}
 use Rattle.domain_meaning.specs.Effects.{Effect, becomes, changes}
 use Rattle.happening_meaning.specs.State.{Grounds, numberOf}
 use Rattle.happening_meaning.specs.Writes.{some, markOf, marksOf, undo, collide, against, itself}
@@ -16,7 +17,7 @@ use Rattle.plan_meaning.proofs.Lists.{all-map}
 use Rattle.check_validity_meaning.specs.Lists.{Pairwise, FirstPair, _∈_}
 use Rattle.check_validity_meaning.specs.Happens.{Additive, Consistent, Unmoved, NonInterfering}
 use Rattle.check_validity_meaning.specs.Failing.{Inconsistent, Interfering}
-use Rattle.check_validity_meaning.proofs.Lists.{or-left, or-right, neither, all-in, in-all, all-mapped, mapped-all, none-in, all-none}
+use Rattle.check_validity_meaning.proofs.Lists.{neither, all-in, in-all, all-mapped, mapped-all, none-in, all-none}
 use Rattle.check_validity_meaning.proofs.Deciding.{Decides, always, by-test, then, each-decides}
 use Rattle.check_validity_meaning.proofs.Marking.{assigns, not-assign, assigns-not, number-mark, makes-mark, changes-mark, mark-makes, mark-changes}
 use Rattle.check_validity_meaning.proofs.Finding.{unfound, absent}

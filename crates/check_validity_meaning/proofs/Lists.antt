@@ -3,19 +3,11 @@ use mathlib.Core.Bool.{Bool, true, false, _||_}
 use mathlib.Core.List.{List, [], _∷_, _++_, map}
 use mathlib.Core.Logic.{_⊎_, inl, inr}
 use mathlib.Core.Path.{_≡_, refl, sym, ap, subst}
+use Rattle.base_laws.proofs.Splits.{or-left, or-right}
 use Rattle.happening_meaning.specs.Writes.{some}
 use Rattle.plan_meaning.specs.Lists.{keep}
 use Rattle.plan_meaning.proofs.Lists.{all-append}
 use Rattle.check_validity_meaning.specs.Lists.{All, Pairwise, First, FirstPair, _∈_}
-
-pub or-left : (s t : Bool) → (s || t) ≡ false → s ≡ false
-or-left true t e = e
-or-left false t e = refl
-
-pub or-right : (s t : Bool) → (s || t) ≡ false → t ≡ false
-or-right true true e = e
-or-right true false e = refl
-or-right false t e = e
 
 pub neither : {s t : Bool} → s ≡ false → t ≡ false → (s || t) ≡ false
 neither e f = rw (e, f)

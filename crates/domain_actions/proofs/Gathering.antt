@@ -7,6 +7,7 @@ use native.Mathlib.Omega.{arith}
 use native.Mathlib.Nat.{add-zero}
 use lib.ListN.{length, length-append}
 use lib.Seq.{sets}
+use Rattle.base_laws.proofs.Sets.{sets-append}
 use Rattle.domain_meaning.specs.Read.{Read, got, refused, andThen}
 use Rattle.domain_meaning.specs.Terms.{Scope}
 use Rattle.domain_meaning.specs.Actions.{Action, action}
@@ -15,7 +16,6 @@ use Rattle.domain_due.specs.declared.Parsed.{Parsed}
 use Rattle.domain_due.specs.declared.Parsed.the-variants.{Done, Refused}
 use Rattle.domain_due.proofs.Dues.{never-done}
 use Rattle.domain_rows.specs.Held.{rowsOf, Holds}
-use Rattle.domain_expressions.proofs.Operands.{sets-append}
 use Rattle.domain_stored_meaning.specs.Cells.{actionCells, actionsCells, startOf, startsOf}
 use Rattle.domain_stored_meaning.proofs.Actions.{starts-length}
 use Rattle.domain_actions.specs.declared.acts.ActionHead.{ActionHead}

@@ -1,10 +1,11 @@
 -- The scope of an action: the tables, with its parameters where the variables stand. Assumes nothing.
 use mathlib.Core.Path.{_≡_, refl, sym, ap, _∙_}
-use mathlib.Core.List.{List, _++_, append-nil}
-use Prim.Native.Nat.{ℕ, _+_}
+use mathlib.Core.List.{List}
+use Prim.Native.Nat.{ℕ}
 use native.Mathlib.Omega.{arith}
-use lib.ListN.{length, drop}
-use lib.Seq.{sets, sets-eq, drop-length}
+use lib.ListN.{length}
+use lib.Seq.{sets}
+use Rattle.base_laws.proofs.Sets.{sets-whole}
 use Rattle.text_tokens.specs.Runs.{part}
 use Rattle.domain_meaning.specs.Read.{Read, refused}
 use Rattle.domain_meaning.specs.Tables.{Table}
@@ -17,12 +18,6 @@ use Rattle.domain_typed_lists.proofs.Outcomes.{As}
 use Rattle.domain_terms.specs.Scoped.{Scoped, Scopes}
 use Rattle.domain_terms.specs.declared.scope.Counts.{Counts}
 use Rattle.domain_actions.specs.Titles.{acting, Owned}
-
--- stored over all bytes
-sets-whole : (l vs : List ℕ) → length l ≡ length vs → sets l 0 vs ≡ vs
-sets-whole l vs h =
-    let all : 0 + length vs ≡ length l = omega arith in
-    sets-eq vs l 0 (omega arith) ∙ ap (λ (j : ℕ). vs ++ drop j l) all ∙ ap (λ (x : List ℕ). vs ++ x) (drop-length l) ∙ append-nil vs
 
 -- types that are lent as a part of the tables
 pub types-held : (tables types : List ℕ) (n : Counts) (c : Scope) → types ≡ part tables 0 646 → Scoped tables n c → Holds 17 types (n .types) (c .types)

@@ -6,6 +6,8 @@ use Prim.Native.Nat.{ℕ, _+_, _*_, _≤_}
 use native.Mathlib.Omega.{arith}
 use lib.ListN.{length, length-append}
 use lib.Seq.{sets}
+use Rattle.domain_meaning.proofs.Readings.{then-under}
+use Rattle.base_laws.proofs.Sets.{sets-append}
 use Rattle.text_words.specs.Bytes.{bytes}
 use Rattle.domain_meaning.specs.Read.{Read, Reader, got, refused, andThen}
 use Rattle.domain_meaning.specs.Tables.{Entry}
@@ -17,8 +19,7 @@ use Rattle.domain_meaning.specs.Actions.{Timed, Lasting, Action, durationRule, 
 use Rattle.domain_due.specs.declared.Parsed.{Parsed}
 use Rattle.domain_due.specs.declared.Parsed.the-variants.{Done, Refused}
 use Rattle.domain_terms.specs.Cells.{Wrote}
-use Rattle.domain_terms.proofs.Taken.{Took, wrote-got, wrote-not, then-under}
-use Rattle.domain_expressions.proofs.Operands.{sets-append}
+use Rattle.domain_terms.proofs.Taken.{Took, wrote-got, wrote-not}
 use Rattle.domain_stored_meaning.specs.Cells.{condCells, listCells, lastingCells, partsCells, actionCells}
 use Rattle.domain_durations.specs.Lasts.{lastingOf, Reached}
 use Rattle.domain_timed_parts.specs.Fields.{fieldParts, endedCells, Onwards}

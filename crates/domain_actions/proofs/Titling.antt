@@ -5,6 +5,7 @@ use mathlib.Core.Bool.{Bool, true, false}
 use Prim.Native.Nat.{ℕ, suc, _+_, _≤_, _<_}
 use native.Mathlib.Omega.{arith}
 use lib.ListN.{length, length-map}
+use Rattle.domain_meaning.proofs.Readings.{then-under}
 use Rattle.text_words.specs.Bytes.{bytes}
 use Rattle.domain_meaning.specs.Read.{Read, Reader, got, refused, andThen}
 use Rattle.domain_meaning.specs.Tables.{Entry, Table, fresh}
@@ -19,7 +20,6 @@ use Rattle.domain_due.proofs.Dues.{never-done}
 use Rattle.domain_rows.specs.Held.{Holds}
 use Rattle.domain_terms.specs.declared.scope.Counts.{Counts}
 use Rattle.domain_terms.specs.Scoped.{Scoped}
-use Rattle.domain_terms.proofs.Taken.{then-under}
 use Rattle.domain_actions.specs.Titles.{Title, titleOf, acting, Entered, Titled, Beyond}
 use Rattle.domain_actions.specs.declared.acts.ActionHead.{ActionHead}
 use Rattle.domain_actions.specs.declared.acts.ActionHead.the-variants as B

@@ -6,6 +6,7 @@ use Prim.Native.Nat.{ℕ, zero, suc, _+_, _≤_}
 use native.Mathlib.Omega.{arith}
 use lib.ListN.{length, set, length-append}
 use lib.Seq.{sets}
+use Rattle.base_laws.proofs.Sets.{sets-append}
 use Rattle.domain_meaning.specs.Read.{Read, got, refused, andThen}
 use Rattle.domain_meaning.specs.Due.{closing}
 use Rattle.domain_meaning.specs.Terms.{Scope, Expr, counts, expression}
@@ -18,7 +19,6 @@ use Rattle.domain_expressions.specs.Codes.{cellsOf, Written, passed, Over}
 use Rattle.domain_expressions.specs.declared.leaves.Progress.{Progress}
 use Rattle.domain_expressions.specs.declared.leaves.Progress.the-variants.{Refused}
 use Rattle.domain_expressions.proofs.Ends.{written-refused}
-use Rattle.domain_expressions.proofs.Operands.{sets-append}
 use Rattle.domain_stored_meaning.specs.Cells.{comparisonCell, condCells}
 use Rattle.domain_conditions.specs.Begins.{comparisonOf}
 use Rattle.domain_conditions.specs.Closed.{closedBy}

@@ -14,9 +14,7 @@ use Rattle.domain_due.specs.Answers.{answerOf}
 use Rattle.domain_due.specs.declared.Parsed.{Parsed}
 use Rattle.domain_due.specs.declared.Parsed.the-variants as A
 use Rattle.domain_due.proofs.Dues.{answer-done, answer-refused}
-use Rattle.domain_terms.specs.Scoped.{Scoped, Signatures}
 use Rattle.domain_terms.specs.Cells.{Wrote}
-use Rattle.domain_terms.specs.declared.scope.Counts.{Counts}
 use Rattle.domain_expressions.specs.Codes.{refCells, Written, passed}
 use Rattle.domain_expressions.specs.declared.leaves.Progress.the-variants.{Done, Refused}
 use Rattle.domain_stored_meaning.specs.Cells.{condCells}
@@ -36,17 +34,6 @@ module _ (x : Read ℕ) (a : Parsed) (e : a ≡ answerOf x) (free left : ℕ) wh
 pub fact-tag : (yes′ : Bool) → cond yes′ 4 8 ≤ 251
 fact-tag true = omega arith
 fact-tag false = omega arith
-
-pub facts-signed : (tables : List ℕ) (n : Counts) (c : Scope) → Scoped tables n c → Signatures tables 3078 (n .predicates)
-facts-signed tables n c h = record {
-  rows = 32;
-  to = 4294;
-  table = c .predicates;
-  holds = h .predicates;
-  signed = h .facts;
-  few = omega (arith, h .predicates .fits);
-  near = omega arith;
-}
 
 module _ (s : List ℕ) (d : ℕ) (c : Scope) (yes′ : Bool) (p e : ℕ) where
   pub fact-missing : (n : ℕ) → lookup (c .predicates) (part s p e) ≡ F.Nothing → atomAt s d c yes′ n p e e ≡ refused 8 p

@@ -7,6 +7,7 @@ use lib.ListN.{length, set, length-append}
 use lib.Seq.{sets}
 use types.Run.{OneOf}
 use denote.Enum.Declared.{tagOf}
+use Rattle.base_laws.proofs.Sets.{sets-append}
 use Rattle.text_tokens.specs.Tokens.{tokenAt}
 use Rattle.text_tokens.specs.declared.tokens.Token.the-variants as T
 use Rattle.text_tokens.proofs.tokens.Token as token-type
@@ -19,7 +20,7 @@ use Rattle.domain_expressions.specs.Codes.{Written}
 use Rattle.domain_expressions.specs.declared.leaves.Progress.{Progress}
 use Rattle.domain_expressions.specs.declared.leaves.Progress.the-variants.{Done, Refused}
 use Rattle.domain_expressions.proofs.Ends.{written-refused}
-use Rattle.domain_expressions.proofs.Operands.{sets-append, written-got, written-not}
+use Rattle.domain_expressions.proofs.Operands.{written-got, written-not}
 use Rattle.domain_stored_meaning.specs.Cells.{condCells, condsCells}
 
 -- ---- the ways

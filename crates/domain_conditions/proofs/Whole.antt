@@ -1,11 +1,12 @@
 -- What is said of the parts of a condition, said of the whole. Assumes nothing.
-use mathlib.Core.Path.{_≡_, refl, ap, _∙_}
+use mathlib.Core.Path.{_≡_, refl, sym, ap, _∙_}
 use mathlib.Core.List.{List}
 use mathlib.Core.Bool.{Bool, true, false}
 use Prim.Native.Nat.{ℕ, zero, suc, _+_, _-_}
 use native.Mathlib.Omega.{arith}
 use lib.ListN.{length, set}
 use lib.Seq.{sets}
+use Rattle.domain_meaning.proofs.Readings.{then-same, then-then}
 use Rattle.text_tokens.specs.Tokens.{tokenAt}
 use Rattle.text_tokens.specs.declared.tokens.Token.{Token}
 use Rattle.text_tokens.specs.declared.tokens.Token.the-variants as T
@@ -65,17 +66,8 @@ module _ (s : List ℕ) (d : ℕ) (c : Scope) (yes′ : Bool) (n : ℕ) (f g : �
   pub spent-other : (a : Parsed) (l more most u at : ℕ) (b : Progress) → r ≡ H.Other a → b ≡ passed l a → Spent more most u at b
   spent-other a l more most u at b q e = other-spent a l more most u at b (refuses a q) e
 
--- ---- one reader after the other
+-- ---- no bracket opens where no level is left
 
-then-same : {A B : Type 0} (x : Read A) (f g : A → Reader B) → ((a : A) (n : ℕ) → f a n ≡ g a n) → andThen x f ≡ andThen x g
-then-same (got a n) f g h = h a n
-then-same (refused k p) f g h = refl
-
-then-then : {A B C : Type 0} (x : Read A) (f g : A → Reader B) (k : B → Reader C) → ((a : A) (n : ℕ) → f a n ≡ g a n) → andThen x (λ a n. andThen (f a n) k) ≡ andThen (andThen x g) k
-then-then (got a n) f g k h = ap (λ (y : Read _). andThen y k) (h a n)
-then-then (refused i p) f g k h = refl
-
--- no bracket opens where no level is left
 never-open : {B : Type 0} (t : Token) (f g : ℕ → Reader B) → andThen (onOpen t (λ p. refuse 12 p) (wrong 0 t) (afterOf t)) f ≡ andThen (onOpen t (λ p. refuse 12 p) (wrong 0 t) (afterOf t)) g
 never-open (T.Word k p e) f g = refl
 never-open (T.Number z p e) f g = refl
@@ -122,7 +114,9 @@ module _ (s : List ℕ) (c : Scope) (n : ℕ) where
   negation-bracket : (d at : ℕ) → negation s d c n at
       ≡ andThen (inBracket s d c false n (λ p e. refuse 11 p) (λ p e. atomAt s (d - 1) c false n p e) at) (λ x b. andThen (closing s d b) (λ _ z. got x z))
   unfolding negation
-  negation-bracket d at = then-then (opening s d at) _ _ _ (λ p b. head-negation (d - 1) (tokenAt s b) (afterOf (tokenAt s b)))
+  negation-bracket d at =
+      then-same (opening s d at) _ _ (λ p b. ap (λ (y : Read (Counted Cond)). andThen y (λ x i. andThen (closing s d i) (λ _ z. got x z))) (head-negation (d - 1) (tokenAt s b) (afterOf (tokenAt s b))))
+      ∙ sym (then-then (opening s d at) _ _)
 
 module _ (s : List ℕ) (d : ℕ) (c : Scope) (n at : ℕ) (r : ConditionHead)
     (h : Begins s (d - 1) c true n (λ p e. conjunction s (d - 1) (condition (d - 1) s c) n) (λ p e. negation s (d - 1) c n) r (inBracket s d c true n (λ p e. conjunction s (d - 1) (condition (d - 1) s c) n) (λ p e. negation s (d - 1) c n) at)) where

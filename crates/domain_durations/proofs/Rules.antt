@@ -6,6 +6,7 @@ use Prim.Native.Nat.{ℕ, suc, _+_, _≤_, _<_}
 use native.Mathlib.Numerals.{add-one}
 use native.Mathlib.Omega.{arith}
 use lib.ListN.{length, set}
+use Rattle.domain_meaning.proofs.Readings.{then-then}
 use Rattle.text_words.specs.Bytes.{bytes}
 use Rattle.text_tokens.specs.Tokens.{tokenAt, spotAt}
 use Rattle.domain_meaning.specs.Read.{Read, Reader, got, refused, andThen, give}
@@ -16,7 +17,7 @@ use Rattle.domain_due.specs.Answers.{answerOf, Ahead}
 use Rattle.domain_due.specs.declared.Parsed.{Parsed}
 use Rattle.domain_due.specs.declared.Parsed.the-variants.{Done, Refused}
 use Rattle.domain_due.proofs.Dues.{answer-done, answer-refused, ahead-by}
-use Rattle.domain_terms.proofs.Taken.{wrote-got, wrote-not, wrote-by, then-then}
+use Rattle.domain_terms.proofs.Taken.{wrote-got, wrote-not, wrote-by}
 use Rattle.domain_terms.specs.Cells.{Wrote, Room}
 use Rattle.domain_terms.proofs.Wanted.{wrote-refused, room-done}
 use Rattle.domain_expressions.specs.Codes.{cellsOf, Over}

@@ -5,6 +5,7 @@ use Prim.Native.Nat.{ℕ, zero, suc, _+_, _-_, _≤_}
 use native.Mathlib.Omega.{arith}
 use lib.ListN.{length, length-append}
 use lib.Seq.{sets}
+use Rattle.base_laws.proofs.Sets.{sets-append}
 use Rattle.text_words.specs.declared.spelling.Place.the-variants as F
 use Rattle.text_tokens.specs.Runs.{part}
 use Rattle.domain_meaning.specs.Read.{got, refused, andThen}
@@ -23,7 +24,6 @@ use Rattle.domain_expressions.specs.Codes.{refCells, cellsOf, Written, Over, pa
 use Rattle.domain_expressions.specs.declared.leaves.Progress.{Progress}
 use Rattle.domain_expressions.specs.declared.leaves.Progress.the-variants.{Done, Refused}
 use Rattle.domain_expressions.proofs.Ends.{written-refused}
-use Rattle.domain_expressions.proofs.Operands.{sets-append}
 use Rattle.domain_stored_meaning.specs.Cells.{changeCell, effectCells, effectsCells}
 use Rattle.domain_effects.proofs.Facts.{one-cells}
 

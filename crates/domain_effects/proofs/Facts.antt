@@ -19,9 +19,7 @@ use Rattle.domain_due.specs.Answers.{answerOf}
 use Rattle.domain_due.specs.declared.Parsed.{Parsed}
 use Rattle.domain_due.specs.declared.Parsed.the-variants as A
 use Rattle.domain_due.proofs.Dues.{never-done}
-use Rattle.domain_terms.specs.Scoped.{Scoped, Signatures}
 use Rattle.domain_terms.specs.Cells.{Wrote}
-use Rattle.domain_terms.specs.declared.scope.Counts.{Counts}
 use Rattle.domain_expressions.specs.Codes.{refCells, Written, Spent, passed}
 use Rattle.domain_expressions.specs.declared.leaves.Progress.{Progress}
 use Rattle.domain_expressions.specs.declared.leaves.Progress.the-variants.{Done, Refused}
@@ -60,17 +58,6 @@ unfolding effectsCells
 one-cells e = append-nil (effectCells e)
 
 -- ---- a fact
-
-pub predicates-signed : (tables : List ℕ) (n : Counts) (c : Scope) → Scoped tables n c → Signatures tables 3078 (n .predicates)
-predicates-signed tables n c h = record {
-  rows = 32;
-  to = 4294;
-  table = c .predicates;
-  holds = h .predicates;
-  signed = h .facts;
-  few = omega (arith, h .predicates .fits);
-  near = omega arith;
-}
 
 fact-cells : (yes′ : Bool) (r : Ref) → effectsCells (becomes yes′ r ∷ []) ≡ refCells (cond yes′ 4 8) r
 unfolding effectCells

@@ -23,9 +23,7 @@ use Rattle.domain_due.specs.Answers.{answerOf, Ahead}
 use Rattle.domain_due.specs.declared.Parsed.{Parsed}
 use Rattle.domain_due.specs.declared.Parsed.the-variants as A
 use Rattle.domain_due.proofs.Dues.{not-close, not-number, ahead-refused, ahead-by, answer-done, answer-refused, close-in}
-use Rattle.domain_terms.specs.Scoped.{Scoped, Signatures}
 use Rattle.domain_terms.specs.Cells.{Wrote, Room}
-use Rattle.domain_terms.specs.declared.scope.Counts.{Counts}
 use Rattle.domain_expressions.specs.Codes.{refCells, cellsOf, Written, Spent, passed, Joined, loneEnd}
 use Rattle.domain_expressions.specs.declared.leaves.Progress.{Progress}
 use Rattle.domain_expressions.specs.declared.leaves.Progress.the-variants.{Done, Refused}
@@ -52,17 +50,6 @@ spent-passed (A.Done a v) n u at l h k = (h .0, h .1, k .0, omega (arith, k .1))
 spent-passed (A.Refused j p) n u at l h k = tt
 
 -- ---- a function
-
-pub functions-signed : (tables : List ℕ) (n : Counts) (c : Scope) → Scoped tables n c → Signatures tables 4294 (n .functions)
-functions-signed tables n c h = record {
-  rows = 16;
-  to = 4902;
-  table = c .functions;
-  holds = h .functions;
-  signed = h .numbers;
-  few = omega (arith, h .functions .fits);
-  near = omega arith;
-}
 
 module _ (s : List ℕ) (d : ℕ) (c : Scope) (p e : ℕ) where
   pub function-missing : (n : ℕ) → lookup (c .functions) (part s p e) ≡ F.Nothing → functionAt s d c n p e e ≡ refused 8 p

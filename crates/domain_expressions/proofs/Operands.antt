@@ -1,12 +1,12 @@
 -- An expression by its parts: what was written of the operands, and the operator's cell before them. Assumes nothing.
 use mathlib.Core.Path.{_≡_, refl, sym, ap, _∙_}
-use mathlib.Core.List.{List, [], _∷_, _++_}
+use mathlib.Core.List.{List, _∷_, _++_}
 use mathlib.Core.Bool.{Bool, true, false}
-use Prim.Native.Nat.{ℕ, zero, suc, _+_, _≤_, _<_}
-use native.Mathlib.Nat.{add-zero}
+use Prim.Native.Nat.{ℕ, suc, _+_, _≤_, _<_}
 use native.Mathlib.Omega.{arith}
 use lib.ListN.{length, set, length-append}
 use lib.Seq.{sets}
+use Rattle.base_laws.proofs.Sets.{set-before, sets-append}
 use Rattle.text_words.specs.declared.spelling.Place.the-variants as F
 use Rattle.text_tokens.specs.Tokens.{tokenAt}
 use Rattle.text_tokens.specs.declared.tokens.Token.{Token}
@@ -20,22 +20,6 @@ use Rattle.domain_expressions.specs.declared.leaves.Progress.{Progress}
 use Rattle.domain_expressions.specs.declared.leaves.Progress.the-variants.{Done, Refused}
 
 -- ---- cells stored before others
-
-pub set-under : (l : List ℕ) (i j a b : ℕ) → i < j → set (set l j b) i a ≡ set (set l i a) j b
-set-under [] i j a b h = refl
-set-under (x ∷ l) i zero a b h = absurd (let z : ⊥ = omega arith in z)
-set-under (x ∷ l) zero (suc j) a b h = refl
-set-under (x ∷ l) (suc i) (suc j) a b h = ap (λ (r : List ℕ). x ∷ r) (set-under l i j a b (omega arith))
-
-pub set-before : (l : List ℕ) (i j a : ℕ) (xs : List ℕ) → i < j → set (sets l j xs) i a ≡ sets (set l i a) j xs
-set-before l i j a [] h = refl
-set-before l i j a (x ∷ xs) h = set-before (set l j x) i (suc j) a xs (omega arith) ∙ ap (λ (r : List ℕ). sets r (suc j) xs) (set-under l i j a x h)
-
-pub sets-append : (l : List ℕ) (u : ℕ) (xs ys : List ℕ) → sets (sets l u xs) (u + length xs) ys ≡ sets l u (xs ++ ys)
-sets-append l u [] ys = ap (λ (k : ℕ). sets l k ys) (add-zero u)
-sets-append l u (x ∷ xs) ys =
-    let e : u + suc (length xs) ≡ suc u + length xs = omega arith in
-    ap (λ (k : ℕ). sets (sets (set l u x) (suc u) xs) k ys) e ∙ sets-append (set l u x) (suc u) xs ys
 
 -- ---- what was read, by the answer
 

@@ -1,7 +1,7 @@
 -- A number takes at most one cell more than its token has bytes. Assumes nothing.
 use mathlib.Core.Path.{_≡_, refl, sym, ap, _∙_}
 use mathlib.Core.List.{List}
-use mathlib.Core.Bool.{Bool, true, false, cond}
+use mathlib.Core.Bool.{Bool, true, false, cond, true≢false}
 use Prim.Native.Nat.{ℕ, zero, suc, _+_, _-_, _*_, _/_, _%_, _^_, _≤_, _<_}
 use native.Mathlib.Omega.{arith}
 use native.Mathlib.Decide.{decLe}
@@ -15,14 +15,14 @@ use Rattle.text_tokens.specs.Numbers.{signed}
 use Rattle.text_tokens.specs.Tokens.{tokenAt}
 use Rattle.text_tokens.specs.declared.tokens.Token.the-variants as T
 use Rattle.text_tokens.proofs.Valued.{Extent, wholes, parts, number-value, number-reads}
-use Rattle.text_tokens.proofs.Within.{Within, token-within, part-length}
+use Rattle.text_tokens.proofs.Within.{Within, token-in, part-length}
 use Rattle.domain_literals.specs.Literal.{signBase, sizeOf, literal, numberCells}
 use Rattle.domain_literals.proofs.Cells.{turned-mag, literal-length}
 
 -- ---- how many bytes a number takes
 
 module _ (v : ℕ) where
-  size-all : sizeOf v ≤ 5
+  pub size-all : sizeOf v ≤ 5
   unfolding sizeOf
   size-all = go (ltb v 1) (ltb v 256) (ltb v 65536) (ltb v 16777216) (ltb v 4294967296)
     where
@@ -89,9 +89,6 @@ fine-size n v lo h = elim (decLe n 3) [
 
 -- ---- its cells
 
-clash : {A : Type 0} → _≡_ {A = Bool} true false → A
-clash e = absurd (let z : _≡_ {A = ℕ} 0 1 = cc in let y : ⊥ = omega arith in y)
-
 cells-most : (z : ℤ) (n : ℕ) → Extent n (natAbs z) → length (numberCells z) ≤ n + 1
 unfolding numberCells
 cells-most z n (wholes v e h lo) = go (eqb (natAbs z % 1000) 0) refl
@@ -100,7 +97,7 @@ cells-most z n (wholes v e h lo) = go (eqb (natAbs z % 1000) 0) refl
     go true q =
         let w : natAbs z / 1000 ≡ v = omega arith in
         omega (arith, literal-length (signBase z + 16) (natAbs z / 1000), ap sizeOf w, whole-size n v lo h)
-    go false q = clash (sym (eq-eqb (natAbs z % 1000) 0 (omega arith)) ∙ q)
+    go false q = absurd (true≢false (sym (eq-eqb (natAbs z % 1000) 0 (omega arith)) ∙ q))
 cells-most z n (parts lo h) = go (eqb (natAbs z % 1000) 0)
   where
     go : (t : Bool) → length (cond t (literal (signBase z + 16) (natAbs z / 1000)) (literal (signBase z) (natAbs z))) ≤ n + 1
@@ -121,11 +118,11 @@ of-signed minus m n z e x h =
     (cells-most z n (rw (e, abs-signed minus m) x), rw e (mag-signed minus m 1000000000000 h))
 
 -- where the token of a number lies, and the room that it needs
-pub number-fits : (s : List ℕ) (at : ℕ) (z : ℤ) (p e : ℕ) → at ≤ length s → tokenAt s at ≡ T.Number z p e
-    → (at < e) × (e ≤ length s) × (length (numberCells z) + at ≤ e + 1) × (mag z < 1099511627776)
+pub numeral-fits : (s : List ℕ) (at : ℕ) (z : ℤ) (p e : ℕ) → tokenAt s at ≡ T.Number z p e
+    → (at < e) × (e ≤ length s) × (length (numberCells z) + at ≤ e + 1) × (mag z < 1099511627775)
 unfolding Within
-number-fits s at z p e h q =
-    let w = rw q at (token-within s at h) in
+numeral-fits s at z p e q =
+    let w = rw q at (token-in s at) in
     let r = number-reads (part s p e) z (number-value s at z p e q) in
     let most = of-signed (r .minus) (r .size) (r .bytes) z (r .is) (r .extent) (r .small) in
     let long = part-length s p e (w .2) in

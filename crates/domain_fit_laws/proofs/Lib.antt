@@ -1,9 +1,8 @@
--- What the crates above use: what was read has no more cells than bytes were read.
-pub mod Fitting
-pub mod Steps
+-- What the crates above use: what a domain and a problem that were read are.
+pub mod Tables
 pub mod Terms
 pub mod Conditions
 pub mod Effects
-pub mod Lists
 pub mod Actions
 pub mod Texts
+pub mod Whole

@@ -1,7 +1,7 @@
--- The cells of a goal and of a domain's actions are at most as many as a text may have bytes. Assumes nothing.
+-- What a domain and a problem that were read are: tables that fit their rows, good trees, and no more cells than a text may have bytes. Assumes nothing.
 use mathlib.Core.Path.{_≡_, refl}
 use mathlib.Core.List.{List, []}
-use mathlib.Core.Bool.{Bool, true, false}
+use mathlib.Core.Bool.{Bool, true, false, cond}
 use Prim.Native.Nat.{ℕ, zero, suc, _+_, _≤_}
 use native.Mathlib.Omega.{arith}
 use lib.ListN.{length}
@@ -9,118 +9,190 @@ use Rattle.text_words.specs.Bytes.{bytes}
 use Rattle.text_tokens.specs.Tokens.{tokenAt}
 use Rattle.text_tokens.specs.declared.tokens.Token.{Token}
 use Rattle.text_tokens.specs.declared.tokens.Token.the-variants as T
-use Rattle.domain_meaning.specs.Read.{Read, Reader, got, refused, give, andThen}
+use Rattle.text_tokens.proofs.Within.{Within, token-in}
+use Rattle.domain_meaning.specs.Read.{Read, Reader, got, refused, give, refuse, andThen}
+use Rattle.domain_meaning.specs.Tables.{Table}
 use Rattle.domain_meaning.specs.Due.{afterOf, wrong, onEnd, onOpen, onClose}
 use Rattle.domain_meaning.specs.Terms.{Scope}
 use Rattle.domain_meaning.specs.Actions.{Action, action}
-use Rattle.domain_meaning.specs.Domain.{Domain, Opened, opened, other, onOpened, beginsWith, vocabulary, scopeIn, actionsTo, ending, domainText, readDomain}
-use Rattle.domain_meaning.specs.Problem.{Problem, scopeOf, premises, initAt, nothing, sectionDueOf, sumsAt, goalTo, initAndGoal, problemText, readProblem}
+use Rattle.domain_meaning.specs.Domain.{Domain, Vocabulary, opened, other, beginsWith, headingOf, flagsSection, vocabulary, scopeIn, actionsTo, ending, domainText, readDomain}
+use Rattle.domain_meaning.specs.Problem.{Init, Problem, sumsFit, sumsAt, scopeOf, ofDomain, premises, initAt, initTo, nothing, sectionDueOf, goalTo, initAndGoal, problemText, readProblem}
+use Rattle.domain_meaning.proofs.Readings.{never}
+use Rattle.domain_meaning.proofs.Given.{Given, Any, Gives, Fits, reads, fits, stops, behind, given-got, given-then, fits-also, opened-gives}
+use Rattle.domain_meaning.proofs.Steps.{closing-fits, begins-ahead}
 use Rattle.domain_sections.proofs.Short.{ending-short}
+use Rattle.domain_terms.specs.Scoped.{AllSigned}
 use Rattle.domain_stored_meaning.specs.Cells.{condCells, actionsCells}
-use Rattle.domain_fit_laws.proofs.Fitting.{Past, token-past, Fits, fits, stops, then-fits, fits-also, behind-fits, fitted}
-use Rattle.domain_fit_laws.proofs.Steps.{closing-fits}
+use Rattle.domain_stored_meaning.specs.Entries.{AllTyped}
+use Rattle.domain_stored_meaning.specs.Good.{GoodCond, GoodActions, Sized}
+use Rattle.domain_fit_laws.proofs.Tables.{Fit, Declared, names-fit, types-section-fits, constants-fit, declared-section-fits}
 use Rattle.domain_fit_laws.proofs.Conditions.{condition-fits}
-use Rattle.domain_fit_laws.proofs.Lists.{begins-ahead}
-use Rattle.domain_fit_laws.proofs.Actions.{action-fits}
-
-never : {A B : Type 0} (k p : ℕ) (b : B) (a : ℕ) → _≡_ {A = Read B} (refused k p) (got b a) → A
-never k p b a h = absurd (let z : _≡_ {A = ℕ} 0 1 = cc in let y : ⊥ = omega arith in y)
+use Rattle.domain_fit_laws.proofs.Actions.{Acting, heads, action-fits}
 
 -- where the text's end was read, its last bracket stands within the text, which is not too long
 ending-in : (s : List ℕ) (at q a : ℕ) → ending s at ≡ got q a → at ≤ 32768
-unfolding ending Past
-ending-in s at q a h = go (tokenAt s at) (token-past s at) h
+unfolding ending Within
+ending-in s at q a h = go (tokenAt s at) (token-in s at) h
   where
-    go : (t : Token) → Past s at t → onClose t (λ p b. onEnd (tokenAt s b) (λ i. give i) (wrong 16 (tokenAt s b)) (afterOf (tokenAt s b))) (onOpen t (λ p b. wrong 14 (tokenAt s b) (afterOf (tokenAt s b))) (wrong 15 t)) (afterOf t) ≡ got q a → at ≤ 32768
-    go (T.Word k p e) w i = never _ _ q a i
-    go (T.Number z p e) w i = never _ _ q a i
-    go (T.Open p e) w i = never _ _ q a i
-    go (T.Close p e) w i = omega (arith, w .0, w .1, ending-short s at q a h)
-    go (T.Mark b p e) w i = never _ _ q a i
-    go (T.Refusal k p) w i = never _ _ q a i
-    go (T.End p) w i = never _ _ q a i
+    go : (t : Token) → Within s at t → onClose t (λ p b. onEnd (tokenAt s b) (λ i. give i) (wrong 16 (tokenAt s b)) (afterOf (tokenAt s b))) (onOpen t (λ p b. wrong 14 (tokenAt s b) (afterOf (tokenAt s b))) (wrong 15 t)) (afterOf t) ≡ got q a → at ≤ 32768
+    go (T.Word k p e) w i = never i
+    go (T.Number z p e) w i = never i
+    go (T.Open p e) w i = never i
+    go (T.Close p e) w i = omega (arith, w .0, w .1, w .2, ending-short s at q a h)
+    go (T.Mark b p e) w i = never i
+    go (T.Refusal k p) w i = never i
+    go (T.End p) w i = never i
 
--- what is given has a size of at most 32,768
-data Small {A : Type 0} (w : A → ℕ) : Read A → Type 0 where
-  small : {a : A} {n : ℕ} → w a ≤ 32768 → Small w (got a n)
-  none : {k p : ℕ} → Small w (refused k p)
-
-of-got : {A : Type 0} {w : A → ℕ} {a : A} {n : ℕ} → Small w (got a n) → w a ≤ 32768
-of-got (small h) = h
-
-smaller : {A : Type 0} {w : A → ℕ} {x : Read A} {a : A} {n : ℕ} → Small w x → x ≡ got a n → w a ≤ 32768
-smaller g e = of-got (rw e at g)
-
-behind-small : {A B : Type 0} {w : B → ℕ} (x : Read A) (f : A → Reader B) → ((a : A) (n : ℕ) → Small w (f a n)) → Small w (andThen x f)
-behind-small (got a n) f k = k a n
-behind-small (refused i p) f k = none
-
--- behind what fits, the text's end
-then-small : {A B : Type 0} {w : A → ℕ} {v : B → ℕ} {at : ℕ} (s : List ℕ) (x : Read A) (g : A → B) → Fits w at 0 x → ((a : A) → v (g a) ≡ w a)
-    → Small v (andThen x (λ a n. andThen (ending s n) (λ _. give (g a))))
-then-small {v = v} s (got a n) g h k = go (ending s n) refl
+ending-fits : (s : List ℕ) (at : ℕ) → Gives (λ _. at ≤ 32768) (ending s at)
+ending-fits s at = go (ending s at) refl
   where
-    go : (y : Read ℕ) → ending s n ≡ y → Small v (andThen y (λ _. give (g a)))
-    go (got q m) e = small {a = g a} (omega (arith, k a, fitted h refl, ending-in s n q m e))
-    go (refused i p) e = none
-then-small s (refused i p) g h k = none
+    go : (x : Read ℕ) → ending s at ≡ x → Gives (λ _. at ≤ 32768) x
+    go (got q a) e = reads (ending-in s at q a e)
+    go (refused k p) e = stops
 
--- ---- a problem's goal
+-- ---- what a domain declares
 
-goal-to-fits : (s : List ℕ) (c : Scope) (at : ℕ) → Fits (λ g. length (condCells g)) at 0 (goalTo s c at)
-goal-to-fits s c at = then-fits _ (condition-fits s c 14 64 at) (λ g n h k. then-fits _ (closing-fits s 14 n) (λ q i u v. fits (omega arith) (omega arith)))
+record Spoken (v : Vocabulary) : Type 0 where
+  types : Fit AllTyped 17 (v .types)
+  constants : Fit AllTyped 64 (v .constants)
+  predicates : Fit (Declared 3) 32 (v .predicates)
+  functions : Fit (Declared 2) 16 (v .functions)
 
-abbrev goalSize : Problem → ℕ
-goalSize p = length (condCells (p .goal))
+vocabulary-fits : (s : List ℕ) (at : ℕ) → Gives Spoken (vocabulary s at)
+unfolding vocabulary
+vocabulary-fits s at =
+    behind (headingOf s (bytes "domain") at) _
+    (λ n a. behind (flagsSection s a) _
+    (λ q b. given-then _ (types-section-fits s b)
+    (λ ts d t. given-then _ (constants-fit s ts d)
+    (λ os e g. given-then _ (declared-section-fits s (bytes ":predicates") ts 32 3 (omega arith) e)
+    (λ ps i h. given-then _ (declared-section-fits s (bytes ":functions") ts 16 2 (omega arith) i)
+    (λ fs j k. reads (record { types = t; constants = g; predicates = h; functions = k })))))))
 
--- wherever the goal begins
-init-goal-fits : (s : List ℕ) (c : Scope) (at : ℕ) → Fits goalSize 0 0 (initAndGoal s c at)
-unfolding initAndGoal
-init-goal-fits s c at =
-    behind-fits (beginsWith s (bytes ":init") at) _
-    (λ o a. behind-fits (onOpened o (λ p. initAt s c p) (give nothing) a) _
-    (λ x b. behind-fits (sectionDueOf s (bytes ":goal") b) _
-    (λ q i. behind-fits (onOpened o (λ p. give q) (sumsAt c q) i) _ (λ r j. then-fits _ (goal-to-fits s c j) (λ g n h k. fits (omega arith) (omega arith))))))
+-- ---- a domain
 
-problem-small : (s : List ℕ) (d : Domain) (at : ℕ) → Small goalSize (problemText s d at)
-unfolding problemText
-problem-small s d at = behind-small (premises s d at) _ (λ os a. then-small s (initAndGoal s (scopeOf d os) a) (λ p. p) (init-goal-fits s (scopeOf d os) a) (λ p. refl))
-
-pub goal-fits : (s : List ℕ) (d : Domain) (p : Problem) (n : ℕ) → readProblem s d ≡ got p n → length (condCells (p .goal)) ≤ 32768
-unfolding readProblem
-goal-fits s d p n e = smaller (problem-small s d 0) e
-
--- ---- a domain's actions
-
-opened-fits : {A : Type 0} {w : A → ℕ} {b m : ℕ} (o : Opened) (f : ℕ → Reader A) (g : Reader A) (n : ℕ) → ((p : ℕ) → Fits w b m (f p n)) → Fits w b m (g n) → Fits w b m (onOpened o f g n)
-opened-fits (opened p) f g n h k = h p
-opened-fits other f g n h k = k
+pub record DomainRead (d : Domain) : Type 0 where
+  pub types : Fit AllTyped 17 (d .types)
+  pub constants : Fit AllTyped 64 (d .constants)
+  pub predicates : Fit (Declared 3) 32 (d .predicates)
+  pub functions : Fit (Declared 2) 16 (d .functions)
+  pub heads : Fit AllSigned 32 (heads (d .actions))
+  pub actions : GoodActions (d .actions)
+  pub cells : length (actionsCells (d .actions)) ≤ 32768
 
 abbrev actionsSize : List Action → ℕ
 actionsSize bs = length (actionsCells bs)
 
--- an action, behind which f reads on
-next-fits : (s : List ℕ) (c : Scope) (durative : Bool) (as′ : List Action) (at a : ℕ) (f : List Action → Reader (List Action)) → at ≤ a
-    → ((bs : List Action) (b : ℕ) → Fits actionsSize b (actionsSize bs) (f bs b)) → Fits actionsSize at (actionsSize as′) (andThen (action s c durative as′ a) f)
-next-fits s c durative as′ at a f h r = then-fits _ (action-fits s c durative as′ a) (λ bs b l u. fits-also (r bs b) (omega arith) (λ x n v. omega arith))
+module _ (s : List ℕ) (c : Scope) (z : Sized c) where
+  -- an action, behind which f reads on
+  next-fits : (durative : Bool) (as′ : List Action) (at a : ℕ) (f : List Action → Reader (List Action)) → at ≤ a → Acting as′
+      → ((bs : List Action) (b : ℕ) → Acting bs → Fits Acting actionsSize b (actionsSize bs) (f bs b)) → Fits Acting actionsSize at (actionsSize as′) (andThen (action s c durative as′ a) f)
+  next-fits durative as′ at a f h g r = given-then _ (action-fits s c z durative as′ a g) (λ bs b l. fits-also (r bs b (l .good)) (omega arith) (λ x n v. omega arith))
 
-actions-fits : (s : List ℕ) (c : Scope) (k : ℕ) (as′ : List Action) (at : ℕ) → Fits actionsSize at (actionsSize as′) (actionsTo k s c as′ at)
-unfolding actionsTo
-actions-fits s c zero as′ at = stops
-actions-fits s c (suc k) as′ at =
-    then-fits _ (begins-ahead s (bytes ":action") at)
-    (λ o a h l. opened-fits o _ _ a (λ p. next-fits s c false as′ at a _ h (λ bs b. actions-fits s c k bs b))
-    (then-fits _ (begins-ahead s (bytes ":durative-action") a)
-    (λ d i u v. opened-fits d _ _ i (λ p. next-fits s c true as′ at i _ (omega arith) (λ bs b. actions-fits s c k bs b)) (fits {a = as′} {n = i} (omega arith) (omega arith)))))
+  actions-fits : (k : ℕ) (as′ : List Action) (at : ℕ) → Acting as′ → Fits Acting actionsSize at (actionsSize as′) (actionsTo k s c as′ at)
+  unfolding actionsTo
+  actions-fits zero as′ at g = stops
+  actions-fits (suc k) as′ at g =
+      given-then _ (begins-ahead s (bytes ":action") at)
+      (λ o a h. opened-gives o _ _ a (λ p. next-fits false as′ at a _ (h .on) g (λ bs b l. actions-fits k bs b l))
+      (given-then _ (begins-ahead s (bytes ":durative-action") a)
+      (λ d i u. opened-gives d _ _ i (λ p. next-fits true as′ at i _ (omega arith) g (λ bs b l. actions-fits k bs b l)) (fits {a = as′} {n = i} g (omega arith) (omega arith)))))
 
-domain-small : (s : List ℕ) (at : ℕ) → Small (λ d. length (actionsCells (d .actions))) (domainText s at)
+no-actions : Acting []
+unfolding GoodActions
+no-actions = record { names = record { few = let z : 0 ≤ 32 = omega arith in z; short = tt; kept = tt }; trees = tt }
+
+domain-text-fits : (s : List ℕ) (at : ℕ) → Gives DomainRead (domainText s at)
 unfolding domainText actionsCells
-domain-small s at =
-    behind-small (vocabulary s at) _
-    (λ v a. then-small s (actionsTo (length s + 1) s (scopeIn v) [] a)
-    (λ as′. record { name = v .name; types = v .types; constants = v .constants; predicates = v .predicates; functions = v .functions; actions = as′ })
-    (actions-fits s (scopeIn v) (length s + 1) [] a) (λ as′. refl))
+domain-text-fits s at =
+    given-then _ (vocabulary-fits s at)
+    (λ v a h. given-then _ (actions-fits s (scopeIn v) (record { objects = h .constants .few; facts = h .predicates .kept .few; numbers = h .functions .kept .few }) (length s + 1) [] a no-actions)
+    (λ as′ b g. given-then _ (ending-fits s b)
+    (λ q i l. reads
+    (record {
+      types = h .types;
+      constants = h .constants;
+      predicates = h .predicates;
+      functions = h .functions;
+      heads = g .good .names;
+      actions = g .good .trees;
+      cells = omega (arith, g .size);
+    }))))
 
-pub domain-fits : (s : List ℕ) (d : Domain) (n : ℕ) → readDomain s ≡ got d n → length (actionsCells (d .actions)) ≤ 32768
+pub domain-read : (s : List ℕ) (d : Domain) (n : ℕ) → readDomain s ≡ got d n → DomainRead d
 unfolding readDomain
-domain-fits s d n e = smaller (domain-small s 0) e
+domain-read s d n e = given-got (domain-text-fits s 0) e
+
+pub domain-sized : (d : Domain) (os : Table) → DomainRead d → length os ≤ 64 → Sized (scopeOf d os)
+domain-sized d os h l = record { objects = l; facts = h .predicates .kept .few; numbers = h .functions .kept .few }
+
+-- ---- a problem
+
+pub record ProblemRead (d : Domain) (p : Problem) : Type 0 where
+  pub objects : Fit AllTyped 64 (p .objects)
+  pub goal : GoodCond 16 (p .goal)
+  pub cells : length (condCells (p .goal)) ≤ 32768
+  pub sums : sumsFit (scopeOf d (p .objects)) ≡ true
+
+-- the sums are judged at the first of init and goal
+sums-fit : (c : Scope) (p at : ℕ) → Gives (λ _. sumsFit c ≡ true) (sumsAt c p at)
+sums-fit c p at = go (sumsFit c) refl
+  where
+    go : (t : Bool) → sumsFit c ≡ t → Gives (λ _. sumsFit c ≡ true) (cond t (give p) (refuse 12 p) at)
+    go true h = reads h
+    go false h = stops
+
+always : {A : Type 0} {P : Type 0} (x : Read A) → P → Gives (λ _. P) x
+always (got a n) h = reads h
+always (refused k p) h = stops
+
+init-fits : (s : List ℕ) (c : Scope) (p at : ℕ) → Gives (λ _. sumsFit c ≡ true) (initAt s c p at)
+init-fits s c p at = given-then _ (sums-fit c p at) (λ q n h. always (initTo (length s + 1) s c nothing n) h)
+
+module _ (s : List ℕ) (d : Domain) (r : DomainRead d) where
+  premises-fit : (at : ℕ) → Gives (Fit AllTyped 64) (premises s d at)
+  unfolding premises
+  premises-fit at =
+      behind (headingOf s (bytes "problem") at) _
+      (λ n a. behind (ofDomain s d a) _
+      (λ q b. behind (beginsWith s (bytes ":objects") b) _
+      (λ o i. opened-gives o _ _ i (λ p. names-fit s (d .types) (d .constants) i (r .constants)) (reads (r .constants)))))
+
+  module _ (os : Table) (f : Fit AllTyped 64 os) where
+    abbrev c : Scope
+    c = scopeOf d os
+
+    -- a goal that ends at n, the sums being judged
+    Ends : Problem → ℕ → Type 0
+    Ends p n = Fit AllTyped 64 (p .objects) × GoodCond 16 (p .goal) × (length (condCells (p .goal)) ≤ n) × (sumsFit (scopeOf d (p .objects)) ≡ true)
+
+    goal-fits : (x : Init) (at : ℕ) → sumsFit c ≡ true → Given Ends Any (andThen (goalTo s c at) (λ g. give (record { objects = os; init = x; goal = g })))
+    unfolding Ends
+    goal-fits x at h =
+        given-then _ (goal-to-fits at) (λ g n k. reads (f, k .good, let l : length (condCells g) ≤ n = omega arith in l, h))
+      where
+        goal-to-fits : (at : ℕ) → Fits (GoodCond 16) (λ g. length (condCells g)) at 0 (goalTo s c at)
+        goal-to-fits at =
+            given-then _ (condition-fits s c (domain-sized d os r (f .few)) 14 64 at (omega arith))
+            (λ g n k. given-then _ (closing-fits s 14 n) (λ q i u. fits (k .good) (omega arith) (omega arith)))
+
+    init-goal-fits : (at : ℕ) → Given Ends Any (initAndGoal s c at)
+    unfolding initAndGoal
+    init-goal-fits at =
+        behind (beginsWith s (bytes ":init") at) _
+        (λ o a. elim o [
+          | opened p ↦ given-then _ (init-fits s c p a) (λ x b h. behind (sectionDueOf s (bytes ":goal") b) _ (λ q i. goal-fits x i h))
+          | other ↦ behind (sectionDueOf s (bytes ":goal") a) _ (λ q i. given-then _ (sums-fit c q i) (λ y j h. goal-fits nothing j h))
+        ])
+
+  problem-text-fits : (at : ℕ) → Gives (ProblemRead d) (problemText s d at)
+  unfolding problemText Ends
+  problem-text-fits at =
+      given-then _ (premises-fit at)
+      (λ os a f. given-then _ (init-goal-fits os f a)
+      (λ p b g. given-then _ (ending-fits s b)
+      (λ q i l. reads (record { objects = g .0; goal = g .1; cells = omega (arith, g .2); sums = g .3 }))))
+
+pub problem-read : (s : List ℕ) (d : Domain) (p : Problem) (n : ℕ) → DomainRead d → readProblem s d ≡ got p n → ProblemRead d p
+unfolding readProblem
+problem-read s d p n r e = given-got (problem-text-fits s d r 0) e

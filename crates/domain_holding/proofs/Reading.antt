@@ -10,10 +10,10 @@ use lib.ListN.{length, getD, take, drop, length-append, length-take, length-drop
 use lib.Seq.{take-append-seam, drop-append-le}
 use lib.Dec.{leb}
 use borrow.Author.Tests.{lt-leb}
+use Rattle.base_laws.proofs.Lists.{at-cons}
 use Rattle.text_words.specs.Bytes.{bytes, kindOf, onStart}
 use Rattle.text_words.specs.declared.bytes.Kind.{Kind}
 use Rattle.text_words.specs.declared.bytes.Kind.the-variants as K
-use Rattle.text_words.proofs.Steps.{at-cons}
 use Rattle.text_tokens.specs.Runs.{part, gapEnd, runEnd}
 use Rattle.text_tokens.specs.Tokens.{isPast, bracketOf, domainRun, endOf, tokenAt, spotAt}
 use Rattle.text_tokens.specs.declared.tokens.Token.the-variants as T

@@ -7,11 +7,11 @@ use native.Mathlib.Omega.{arith}
 use lib.ListN.{length, getD, take, drop, length-drop}
 use lib.Dec.{eqb, leb, ltb}
 use borrow.Author.Tests.{leb-true, ltb-true, lt-ltb}
+use Rattle.base_laws.proofs.Lists.{at-cons}
 use Rattle.text_words.specs.Bytes.{bytes, lowerOf, inRun}
 use Rattle.text_words.specs.Spelling.{sameWord, nameByte, nameBytes, isName, placeFrom, wordsOf, wordIn, isAt}
 use Rattle.text_words.specs.Fixed.{isListed, isOperator}
 use Rattle.text_words.specs.declared.spelling.Place.the-variants.{Nothing}
-use Rattle.text_words.proofs.Steps.{at-cons}
 use Rattle.text_tokens.specs.Runs.{part, run, runEnd}
 use Rattle.text_tokens.specs.Numbers.{leading, restOf, numberFrom, numberOf, decimal}
 use Rattle.text_tokens.specs.Classes.{begunBy, beginsNumber, isMarked, classOf}

@@ -8,9 +8,9 @@ use native.Mathlib.Omega.{arith}
 use lib.ListN.{length, getD, take, drop, set, length-take, length-set, drop-of-length-le}
 use lib.Seq.{take-all, take-suc-set}
 use borrow.Author.Tests.{lt-ltb, le-ltb}
+use Rattle.base_laws.proofs.Lists.{at-cons}
 use Rattle.text_words.specs.Bytes.{bytes, kindOf}
 use Rattle.text_words.specs.Spelling.{nameByte, nameBytes, isName}
-use Rattle.text_words.proofs.Steps.{at-cons}
 use Rattle.domain_holding.specs.declared.Held.{Held}
 use Rattle.domain_holding.specs.Keeping.{goesOn, Kept, kept, lookOf, nextOf, goOn, keptIn}
 

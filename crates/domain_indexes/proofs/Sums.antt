@@ -2,16 +2,13 @@
 use mathlib.Core.Path.{_≡_, refl, sym, ap}
 use mathlib.Core.List.{[], _∷_}
 use Prim.Native.Nat.{ℕ, zero, suc, _+_, _-_, _*_, _^_, _≤_, _<_}
-use native.Mathlib.Nat.{add-zero, pow-suc, pow-le-pow-left, pow-le-pow-right, le-trans, mul-le-mul}
+use native.Mathlib.Nat.{add-zero, pow-le-pow-left, pow-le-pow-right, le-trans, mul-le-mul}
 use native.Mathlib.Numerals.{add-one}
 use native.Mathlib.Omega.{arith}
 use lib.ListN.{length, getD}
 use Rattle.domain_meaning.specs.Tables.{Table, entryAt}
 use Rattle.domain_meaning.specs.Indexes.{arity, sumOf, basesFrom, basesOf}
 use Rattle.domain_indexes.specs.Firsts.{firstOf}
-
-pub power-next : (n i p : ℕ) → p ≡ n ^ i → p * n ≡ n ^ (i + 1)
-power-next n i p e = rw (add-one i, pow-suc n i, e)
 
 -- 64 to the power i bounds n to the power i
 pub power-most : (n i p m : ℕ) → n ≤ 64 → i ≤ m → p ≡ n ^ i → p ≤ 64 ^ m

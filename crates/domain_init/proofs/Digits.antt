@@ -2,12 +2,13 @@
 use mathlib.Core.Path.{_≡_, refl, ap}
 use mathlib.Core.List.{List, [], _∷_, map}
 use Prim.Native.Nat.{ℕ, zero, suc, _+_, _*_, _^_, _≤_, _<_}
-use native.Mathlib.Nat.{pow-suc, pow-succ', pow-zero, add-mul, one-mul, mul-one, mul-assoc, mul-le-mul, mul-le-mul-right, le-refl, lt-of-lt-of-le, pow-le-pow-right}
+use native.Mathlib.Nat.{pow-suc, pow-succ', pow-zero, mul-one, mul-le-mul, le-refl, lt-of-lt-of-le, pow-le-pow-right}
 use native.Mathlib.Numerals.{add-one}
 use native.Mathlib.Omega.{arith}
 use lib.ListN.{length, getD, take, drop, length-take, drop-of-length-le}
 use lib.Seq.{drop-cons, getD-take, length-take-le}
 use borrow.Author.Tests.{lt-ltb}
+use Rattle.base_laws.proofs.Numerals.{digit-below}
 use Rattle.domain_meaning.specs.Tables.{Table, entryAt}
 use Rattle.domain_meaning.specs.Terms.{Arg, object, variable, Ref}
 use Rattle.domain_meaning.specs.Indexes.{arity, sumOf, objectOf, digits, indexIn, indexOf}
@@ -61,16 +62,11 @@ objects-cells n (variable i ∷ as′) h = absurd (h .0)
 
 -- ---- the bound
 
-step-below : (n acc i p : ℕ) → i < n → (acc * n + i + 1) * p ≤ (acc + 1) * (n * p)
-step-below n acc i p h =
-    let k : acc * n + i + 1 ≤ (acc + 1) * n = rw (add-mul acc 1 n, one-mul n) (omega arith) in
-    rw (← mul-assoc (acc + 1) n p) (mul-le-mul-right p k)
-
 digits-below : (n acc : ℕ) (as′ : List Arg) → Objects n as′ → digits n acc (map (objectOf []) as′) < (acc + 1) * n ^ length as′
 unfolding digits Objects
 digits-below n acc [] h = rw (pow-zero n, mul-one (acc + 1)) (omega arith)
 digits-below n acc (object i ∷ as′) h =
-    rw (pow-succ' n (length as′)) (omega (arith, digits-below n (acc * n + i) as′ (h .1), step-below n acc i (n ^ length as′) (h .0)))
+    rw (pow-succ' n (length as′)) (omega (arith, digits-below n (acc * n + i) as′ (h .1), digit-below n acc i (n ^ length as′) (h .0)))
 digits-below n acc (variable i ∷ as′) h = absurd (h .0)
 
 first-within : (n : ℕ) (t : Table) (i : ℕ) → i < length t → firstOf n t i + n ^ arity (entryAt t i) ≤ sumOf n t

@@ -7,6 +7,7 @@ use types.Run.{OneOf}
 use denote.Enum.Declared.{tagOf}
 use lib.IntN.{ℤ}
 use lib.ListN.{length}
+use Rattle.domain_meaning.proofs.Readings.{then-then}
 use Rattle.text_tokens.specs.Tokens.{tokenAt}
 use Rattle.text_tokens.specs.declared.tokens.Token.{Token}
 use Rattle.text_tokens.specs.declared.tokens.Token.the-variants as T
@@ -22,7 +23,6 @@ use Rattle.domain_init.specs.State.{Begins}
 use Rattle.domain_meaning.specs.First.{noFacts, noNumbers}
 use Rattle.domain_init.specs.Parts.{entryOf, Stands, Took}
 use Rattle.domain_init.proofs.States.{stands-first}
-use Rattle.domain_init.proofs.Ways.{then-then}
 
 -- ---- one more was read
 

@@ -1,11 +1,12 @@
 -- The index of a ground fact or number, by the cells of its arguments. Assumes nothing.
 use mathlib.Core.Path.{_≡_, refl, sym, ap, _∙_}
-use mathlib.Core.List.{List, _++_}
+use mathlib.Core.List.{List}
 use mathlib.Core.Bool.{false}
 use Prim.Native.Nat.{ℕ, _+_, _≤_, _<_}
 use native.Mathlib.Omega.{arith}
-use lib.ListN.{length, take, drop, length-map}
-use lib.Seq.{sets, sets-eq, length-sets, take-at}
+use lib.ListN.{length, take, length-map}
+use lib.Seq.{length-sets}
+use Rattle.base_laws.proofs.Sets.{sets-front}
 use Rattle.text_words.specs.declared.spelling.Place.{Place}
 use Rattle.text_words.specs.declared.spelling.Place.the-variants as F
 use Rattle.text_tokens.specs.Runs.{part}
@@ -36,12 +37,7 @@ pub record Stored (code m : List ℕ) (a v : ℕ) (x : Read (List Arg)) : Type 0
   pub cells : v ≤ length code → take v m ≡ argCells args
   pub long : length m ≡ length code
 
-front : (l vs : List ℕ) (n : ℕ) → length vs ≡ n → n ≤ length l → take n (sets l 0 vs) ≡ vs
-front l vs n e h =
-    ap (λ (x : List ℕ). take n x) (sets-eq vs l 0 (omega arith) ∙ let z : (take 0 l ++ vs) ++ drop (0 + length vs) l ≡ vs ++ drop (0 + length vs) l = refl in z)
-    ∙ take-at vs (drop (0 + length vs) l) n e
-
-module _ (code : List ℕ) (r : Parsed) (m : List ℕ) where
+module _ (code : List ℕ) (r : Answer) (m : List ℕ) where
   stored-done : (x : Read (List Arg)) (a v : ℕ) → Wrote argCells code 0 r m x → r ≡ Done a v → Stored code m a v x
   unfolding Wrote
   stored-done (got as′ n) a v h e =
@@ -53,7 +49,7 @@ module _ (code : List ℕ) (r : Parsed) (m : List ℕ) where
         args = as′;
         is = ap (λ (j : ℕ). got as′ j) n≡;
         count = omega (arith, length-map as′ cellOf);
-        cells = λ b. ap (λ (y : List ℕ). take v y) (h .1) ∙ front code (argCells as′) v long b;
+        cells = λ b. ap (λ (y : List ℕ). take v y) (h .1) ∙ sets-front code (argCells as′) v long b;
         long = ap length (h .1) ∙ length-sets code 0 (argCells as′);
       }
   stored-done (refused k p) a v h e = absurd (let z : _≡_ {A = ℕ} 0 1 = cc in let y : ⊥ = omega arith in y)

@@ -1,7 +1,7 @@
 -- The first facts and numbers as they grow, and whether a number is given: it is where it is defined. Assumes nothing.
 use mathlib.Core.Path.{_≡_, refl, sym, ap, _∙_}
 use mathlib.Core.List.{List, [], _∷_, _++_}
-use mathlib.Core.Bool.{Bool, true, false, _||_}
+use mathlib.Core.Bool.{Bool, true, false, _||_, or-true}
 use Prim.Native.Nat.{ℕ, zero, suc, _-_, _≤_, _<_}
 use native.Mathlib.Omega.{arith}
 use native.Mathlib.Decide.{decLe}
@@ -69,10 +69,6 @@ module _ (facts : List ℕ) (numbers : List ℤ) (x : Init) (h : Stands facts nu
   }
 
 -- ---- given is defined
-
-or-true : (b : Bool) → (b || true) ≡ true
-or-true true = refl
-or-true false = refl
 
 given-from : (vs : List Valued) (numbers : List ℤ) (i : ℕ) → Defined vs → i < length numbers
     → ltZ undefined (getD (numbersFrom numbers vs) i undefined) ≡ (ltZ undefined (getD numbers i undefined) || isGiven i vs)

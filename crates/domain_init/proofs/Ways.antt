@@ -11,6 +11,7 @@ use lib.IntN.{ℤ}
 use lib.ListN.{length, getD, set}
 use lib.Signed.{ltZ}
 use borrow.Author.Tests.{leb-true}
+use Rattle.domain_meaning.proofs.Readings.{then-then, then-same}
 use Rattle.text_words.specs.Bytes.{bytes}
 use Rattle.text_words.specs.Spelling.{sameWord}
 use Rattle.text_tokens.specs.Runs.{part}
@@ -76,14 +77,6 @@ unfolding Within
 number-in s at z p e h q = let w = rw q at (token-within s at h) in (omega (arith, w .0, w .1), w .2)
 
 -- ---- one reader behind another
-
-pub then-then : {A B C : Type 0} (x : Read A) (f : A → Reader B) (g : B → Reader C) → andThen (andThen x f) g ≡ andThen x (λ a n. andThen (f a n) g)
-then-then (got a n) f g = refl
-then-then (refused k p) f g = refl
-
-then-same : {A B : Type 0} (x : Read A) (f g : A → Reader B) → ((a : A) (n : ℕ) → f a n ≡ g a n) → andThen x f ≡ andThen x g
-then-same (got a n) f g h = h a n
-then-same (refused k p) f g h = refl
 
 -- what is done with the index of a ground fact or number
 ground-on : {A : Type 0} (s : List ℕ) (d : ℕ) (c : Scope) (t : Table) (p e at : ℕ) (f : ℕ → Reader A)

@@ -11,7 +11,8 @@ use lib.IntN.{ℤ, pos, negsuc, natAbs, _-ℤ_}
 use lib.Seq.{take-at}
 use lib.Signed.{mag, ltZ}
 use borrow.Author.Tests.{lt-ltb, le-ltb, eqb-true}
-use Rattle.text_words.proofs.Ranges.{holds, holds-at, both-0, both-1}
+use Rattle.base_laws.proofs.Splits.{and-left, and-right}
+use Rattle.text_words.proofs.Ranges.{holds, holds-at}
 use Rattle.domain_literals.specs.Literal.{signBase, sizeOf, bytesOf, literal, numberCells, littleOf, sizeIn, isNegative, isWhole, numberIn}
 use Rattle.domain_literals.proofs.Cells.{bytes-length, abs-most, cells-whole, cells-fine}
 
@@ -68,11 +69,11 @@ record Tagged (base : ℕ) (n w : Bool) (k : ℕ) : Type 0 where
 tagged : (base : ℕ) (n w : Bool) (k : ℕ) → holds (says base n w) 0 6 ≡ true → k ≤ 5 → Tagged base n w k
 tagged base n w k h few =
     let t = holds-at 6 (says base n w) 0 k h (omega arith) (omega arith) in
-    let u = both-1 (eqb (sizeIn (base + k)) k) _ t in
+    let u = and-right (eqb (sizeIn (base + k)) k) _ t in
     record {
-      size = eqb-true (sizeIn (base + k)) k (both-0 (eqb (sizeIn (base + k)) k) _ t);
-      negative = same (isNegative (base + k)) n (both-0 (Bool·beq (isNegative (base + k)) n) _ u);
-      whole = same (isWhole (base + k)) w (both-1 (Bool·beq (isNegative (base + k)) n) _ u);
+      size = eqb-true (sizeIn (base + k)) k (and-left (eqb (sizeIn (base + k)) k) _ t);
+      negative = same (isNegative (base + k)) n (and-left (Bool·beq (isNegative (base + k)) n) _ u);
+      whole = same (isWhole (base + k)) w (and-right (Bool·beq (isNegative (base + k)) n) _ u);
     }
 
 -- a literal gives its value back, whatever stands behind it

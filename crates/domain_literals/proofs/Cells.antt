@@ -1,7 +1,7 @@
 -- Signs, and bytes stored one by one. Assumes nothing.
 use mathlib.Core.Path.{_≡_, refl, sym, ap, _∙_}
-use mathlib.Core.List.{List, [], _∷_}
-use mathlib.Core.Bool.{Bool, true, false}
+use mathlib.Core.List.{List}
+use mathlib.Core.Bool.{true, false, false≢true}
 use Prim.Native.Nat.{ℕ, zero, suc, _+_, _-_, _/_, _%_, _≤_, _<_}
 use native.Mathlib.Omega.{arith}
 use lib.Dec.{T}
@@ -14,37 +14,28 @@ use Rattle.domain_literals.specs.Literal.{signBase, sizeOf, bytesOf, lit
 
 -- ---- a negative number turned round
 
-clash : {A : Type 0} → _≡_ {A = Bool} false true → A
-clash e = absurd (let z : _≡_ {A = ℕ} 0 1 = cc in let y : ⊥ = omega arith in y)
-
 pub turned-mag : (z : ℤ) (k : ℕ) → mag z < k → mag (pos 0 -ℤ z) < k + 1
 turned-mag (pos zero) k h = omega arith
 turned-mag (pos (suc n)) k h = let e : suc n - suc 0 ≡ n = omega arith in rw (lt-ltb 0 (suc n) (omega arith), e) (omega arith)
 turned-mag (negsuc n) k h = omega arith
 
 pub turned-positive : (z : ℤ) → ltZ z (pos 0) ≡ true → T (nonNeg (pos 0 -ℤ z))
-turned-positive (pos n) h = clash (sym (le-ltb n 0 (omega arith)) ∙ h)
+turned-positive (pos n) h = absurd (false≢true (sym (le-ltb n 0 (omega arith)) ∙ h))
 turned-positive (negsuc n) h = tt
 
 pub turned-abs : (z : ℤ) → ltZ z (pos 0) ≡ true → natAbs (pos 0 -ℤ z) ≡ natAbs z
-turned-abs (pos n) h = clash (sym (le-ltb n 0 (omega arith)) ∙ h)
+turned-abs (pos n) h = absurd (false≢true (sym (le-ltb n 0 (omega arith)) ∙ h))
 turned-abs (negsuc n) h = let e : 0 + suc n ≡ suc n = omega arith in e
 
 pub plain-positive : (z : ℤ) → ltZ z (pos 0) ≡ false → T (nonNeg z)
 plain-positive (pos n) h = tt
-plain-positive (negsuc n) h = clash (sym h)
+plain-positive (negsuc n) h = absurd (false≢true (sym h))
 
 pub abs-most : (z : ℤ) (k : ℕ) → mag z < k → natAbs z ≤ k
 abs-most (pos n) k h = omega arith
 abs-most (negsuc n) k h = omega arith
 
 -- ---- bytes
-
--- past the end nothing is stored
-pub set-past : (l : List ℕ) (i x : ℕ) → length l ≤ i → set l i x ≡ l
-set-past [] i x h = refl
-set-past (y ∷ l) zero x h = absurd (let z : ⊥ = omega arith in z)
-set-past (y ∷ l) (suc i) x h = ap (λ t. y ∷ t) (set-past l i x (omega arith))
 
 pub bytes-length : (k v : ℕ) → length (bytesOf k v) ≡ k
 unfolding bytesOf

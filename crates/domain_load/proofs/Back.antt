@@ -15,27 +15,24 @@ use Rattle.domain_rows.specs.Held.{rowsOf}
 use Rattle.domain_stored_meaning.specs.Cells.{condCells, actionsCells, startsOf}
 use Rattle.domain_stored_meaning.specs.Decode.{conditionAt, actionsAt}
 use Rattle.domain_stored_meaning.proofs.Standing.{stored}
-use Rattle.domain_stored_meaning.proofs.Whole.{domain-back, goal-back}
 use Rattle.domain_stored_meaning.specs.Entries.{AllTyped, typedIn, signedIn}
 use Rattle.domain_stored_meaning.proofs.Back.{typed-back, signed-back}
-use Rattle.domain_stored_meaning.proofs.GoodTables.{domain-tables, objects-typed}
 use Rattle.domain_terms.specs.Scoped.{AllSigned}
 use Rattle.domain_actions.specs.Acted.{declarations}
-use Rattle.domain_fit_laws.proofs.Texts.{domain-fits, goal-fits}
+use Rattle.domain_fit_laws.proofs.Tables.{Fit, Declared}
+use Rattle.domain_fit_laws.proofs.Whole.{read-fits, domain-back, goal-back}
 use Rattle.domain_load.specs.Load.{zeros, modelOf, loadedOf, loadOf}
 use Rattle.domain_load.specs.Decode.{Reading, decode, readingOf}
 use Rattle.domain_load.proofs.Apart.{types-part, objects-part, predicates-part, functions-part}
 use Rattle.domain_load.proofs.Loading.{both-loaded}
-use Rattle.domain_load.proofs.Fits.{Fits}
-use Rattle.domain_load.proofs.Fitting.{read-fits}
 
 -- ---- the parts of a reading
 
-typed-fits : (most : ℕ) (t : Table) (rows : List ℕ) → rows ≡ rowsOf most t → Fits most t → AllTyped t → typedIn rows (length t) ≡ t
-typed-fits most t rows e f a = ap (λ (r : List ℕ). typedIn r (length t)) e ∙ typed-back most t (f .few) (f .short) a
+typed-fits : (most : ℕ) (t : Table) (rows : List ℕ) → rows ≡ rowsOf most t → Fit AllTyped most t → typedIn rows (length t) ≡ t
+typed-fits most t rows e f = ap (λ (r : List ℕ). typedIn r (length t)) e ∙ typed-back most t (f .few) (f .short) (f .kept)
 
-signed-fits : (most : ℕ) (t : Table) (rows : List ℕ) → rows ≡ rowsOf most t → Fits most t → AllSigned t → signedIn rows (length t) ≡ t
-signed-fits most t rows e f a = ap (λ (r : List ℕ). signedIn r (length t)) e ∙ signed-back most t (f .few) (f .short) a
+signed-fits : (K : Table → Type 0) (most : ℕ) (t : Table) (rows : List ℕ) → rows ≡ rowsOf most t → Fit K most t → AllSigned t → signedIn rows (length t) ≡ t
+signed-fits K most t rows e f a = ap (λ (r : List ℕ). signedIn r (length t)) e ∙ signed-back most t (f .few) (f .short) a
 
 made : (ts us os qs ps rs fs gs : Table) (as′ bs : List Action) (c g : Cond) → ts ≡ us → os ≡ qs → ps ≡ rs → fs ≡ gs → as′ ≡ bs → c ≡ g
     → _≡_ {A = Reading}
@@ -44,36 +41,36 @@ made : (ts us os qs ps rs fs gs : Table) (as′ bs : List Action) (c g : Cond) �
 made ts us os qs ps rs fs gs as′ bs c g h i j k l m = rw (h, i, j, k, l, m)
 
 module _ (s t : List ℕ) (d : Domain) (p : Problem) (m n : ℕ) (e : readDomain s ≡ got d m) (f : readProblem t d ≡ got p n) where
-  heads-back : Fits 32 (declarations (d .actions)) → signedIn (rowsOf 32 (declarations (d .actions))) (length (d .actions)) ≡ declarations (d .actions)
+  heads-back : Fit AllSigned 32 (declarations (d .actions)) → signedIn (rowsOf 32 (declarations (d .actions))) (length (d .actions)) ≡ declarations (d .actions)
   heads-back h =
       let k : length (d .actions) ≡ length (declarations (d .actions)) = sym (length-map (d .actions) (λ a. a .declared)) in
       ap (λ (i : ℕ). signedIn (rowsOf 32 (declarations (d .actions))) i) k
-      ∙ signed-back 32 (declarations (d .actions)) (h .few) (h .short) (domain-tables s d m e .actions)
+      ∙ signed-back 32 (declarations (d .actions)) (h .few) (h .short) (h .kept)
 
-  actions-back : Fits 32 (declarations (d .actions))
+  actions-back : Fit AllSigned 32 (declarations (d .actions))
       → actionsAt (sets (zeros 32768) 0 (actionsCells (d .actions))) (sets (zeros 96) 0 (startsOf 0 (d .actions))) 0 (signedIn (rowsOf 32 (declarations (d .actions))) (length (d .actions)))
       ≡ d .actions
   actions-back h =
       ap (λ (l : Table). actionsAt (sets (zeros 32768) 0 (actionsCells (d .actions))) (sets (zeros 96) 0 (startsOf 0 (d .actions))) 0 l) (heads-back h)
-      ∙ domain-back s d m (zeros 32768) (zeros 96) e (omega (arith, domain-fits s d m e, length-replicate {A = ℕ} 32768 0))
+      ∙ domain-back s d m (zeros 32768) (zeros 96) e (omega (arith, read-fits s t d p m n e f .domain .cells, length-replicate {A = ℕ} 32768 0))
       (omega (arith, h .few, length-map (d .actions) (λ a. a .declared), length-replicate {A = ℕ} 96 0))
 
   goal-read : conditionAt (sets (zeros 32768) 0 (condCells (p .goal))) 0 .tree ≡ p .goal
   goal-read =
-      let room : 0 + length (condCells (p .goal)) ≤ length (zeros 32768) = omega (arith, goal-fits t d p n f, length-replicate {A = ℕ} 32768 0) in
+      let room : 0 + length (condCells (p .goal)) ≤ length (zeros 32768) = omega (arith, read-fits s t d p m n e f .problem .cells, length-replicate {A = ℕ} 32768 0) in
       ap (λ x. x .tree) (goal-back s t d p m n (sets (zeros 32768) 0 (condCells (p .goal))) 0 e f (stored (zeros 32768) 0 (condCells (p .goal)) room))
 
   pub model-back : decode (modelOf d p) ≡ readingOf d p
   unfolding decode modelOf
   model-back =
-      let g = domain-tables s d m e in
-      let h = read-fits s t d p m n e f in
+      let g = read-fits s t d p m n e f .domain in
+      let h = read-fits s t d p m n e f .problem in
       made _ _ _ _ _ _ _ _ _ _ _ _
-      (typed-fits 17 (d .types) _ (types-part d (p .objects)) (h .types) (g .types))
-      (typed-fits 64 (p .objects) _ (objects-part d (p .objects)) (h .objects) (objects-typed t d p n f (g .constants)))
-      (signed-fits 32 (d .predicates) _ (predicates-part d (p .objects)) (h .predicates) (g .predicates))
-      (signed-fits 16 (d .functions) _ (functions-part d (p .objects)) (h .functions) (g .functions))
-      (actions-back (h .actions)) goal-read
+      (typed-fits 17 (d .types) _ (types-part d (p .objects)) (g .types))
+      (typed-fits 64 (p .objects) _ (objects-part d (p .objects)) (h .objects))
+      (signed-fits (Declared 3) 32 (d .predicates) _ (predicates-part d (p .objects)) (g .predicates) (g .predicates .kept .signed))
+      (signed-fits (Declared 2) 16 (d .functions) _ (functions-part d (p .objects)) (g .functions) (g .functions .kept .signed))
+      (actions-back (g .heads)) goal-read
 
   -- so is what load gives
   pub load-back : decode (loadOf s t .model) ≡ readingOf d p

@@ -10,7 +10,6 @@ use Rattle.domain_meaning.specs.Domain.{Domain, readDomain}
 use Rattle.domain_meaning.specs.Problem.{Problem, readProblem}
 use Rattle.domain_rows.specs.Held.{Holds}
 use Rattle.domain_terms.specs.Scoped.{AllSigned, Signatures}
-use Rattle.domain_stored_meaning.proofs.GoodTables.{domain-tables}
 use Rattle.domain_load.specs.Decode.{decode}
 use Rattle.domain_load.specs.Load.{modelOf, loadedOf, fixedOf, ofProblem, ofDomain, loadOf}
 use Rattle.domain_load.specs.declared.Model.{Model}
@@ -18,7 +17,7 @@ use Rattle.domain_load.specs.declared.Loaded.{Loaded}
 use Rattle.domain_load.specs.declared.Verdict.{Verdict}
 use Rattle.domain_load.specs.declared.Verdict.the-variants as Is
 use Rattle.domain_load.proofs.Apart.{predicates-part, functions-part}
-use Rattle.domain_load.proofs.Fitting.{read-fits}
+use Rattle.domain_fit_laws.proofs.Whole.{read-fits}
 use Rattle.domain_load.proofs.Loading.{both-loaded}
 use Rattle.domain_load.proofs.Back.{model-back}
 
@@ -48,27 +47,27 @@ module _ (s t : List ℕ) (d : Domain) (p : Problem) (m n : ℕ) (e : readDomain
   facts-held : Holds 32 (part (modelOf d p .tables) 3078 4294) (modelOf d p .counts .predicates) (d .predicates)
   unfolding modelOf
   facts-held =
-      let h = read-fits s t d p m n e f in
+      let h = read-fits s t d p m n e f .domain in
       record { are = predicates-part d (p .objects); count = refl; fits = h .predicates .few; short = h .predicates .short }
 
   numbers-held : Holds 16 (part (modelOf d p .tables) 4294 4902) (modelOf d p .counts .functions) (d .functions)
   unfolding modelOf
   numbers-held =
-      let h = read-fits s t d p m n e f in
+      let h = read-fits s t d p m n e f .domain in
       record { are = functions-part d (p .objects); count = refl; fits = h .functions .few; short = h .functions .short }
 
   few-objects : modelOf d p .counts .objects ≤ 64
   unfolding modelOf
-  few-objects = read-fits s t d p m n e f .objects .few
+  few-objects = read-fits s t d p m n e f .problem .objects .few
 
   model-declares : Declares (modelOf d p)
   model-declares =
-      let g = domain-tables s d m e in
+      let g = read-fits s t d p m n e f .domain in
       record {
         facts = subst (Holds 32 (part (modelOf d p .tables) 3078 4294) (modelOf d p .counts .predicates)) facts-said facts-held;
-        facted = subst AllSigned facts-said (g .predicates);
+        facted = subst AllSigned facts-said (g .predicates .kept .signed);
         numbers = subst (Holds 16 (part (modelOf d p .tables) 4294 4902) (modelOf d p .counts .functions)) numbers-said numbers-held;
-        numbered = subst AllSigned numbers-said (g .functions);
+        numbered = subst AllSigned numbers-said (g .functions .kept .signed);
         few = few-objects;
       }
 

@@ -2,9 +2,6 @@
 pub mod Joined
 pub mod Loading
 pub mod Apart
-pub mod ShortNames
-pub mod Fits
-pub mod Fitting
 pub mod Back
 pub mod Examples
 pub mod Decoded

@@ -1,5 +1,4 @@
 -- What the proofs of several functions use, here and in the crates above.
 pub mod Missing
-pub mod Headed
 pub mod Stored
 pub mod Ways

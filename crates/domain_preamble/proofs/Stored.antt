@@ -21,7 +21,7 @@ use Rattle.domain_sections.specs.declared.Titled.{Titled}
 use Rattle.domain_sections.specs.declared.Titled.the-variants as T
 use Rattle.domain_preamble.specs.Beginning.{countsOf, Lists, Listed, Declares}
 use Rattle.domain_preamble.specs.declared.Preamble.{Preamble}
-use Rattle.domain_preamble.proofs.Headed.{headed}
+use Rattle.domain_meaning.proofs.Headings.{headed}
 use Rattle.domain_preamble.proofs.Ways.{Title, titled}
 
 -- the last four rows of zeros
@@ -92,7 +92,7 @@ module _ (s : List ℕ) (a from p e v : ℕ) (r : Preamble) (ts os ps fs l l4 : 
   unfolding Listed Declares
   declares-by h x g b (refused k i) y = y
   declares-by h x g b (got u n) y =
-      let w = headed s (bytes "domain") 0 h a (omega arith) g in
+      let w = headed s (bytes "domain") 0 h a g in
       let long : length l ≡ 5054 = ap length z ∙ length-rows 133 [] in
       let n1 : length ts ≡ 646 = rows-long 17 ts _ _ (y .types) in
       let n2 : length os ≡ 2432 = rows-long 64 os _ _ (y .objects) in

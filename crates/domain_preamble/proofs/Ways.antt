@@ -1,16 +1,15 @@
 -- The ways through what a domain declares before its actions: one section after the other, until one is refused. Assumes nothing.
 use mathlib.Core.Path.{_≡_, refl, sym, ap, _∙_}
-use mathlib.Core.List.{List, []}
+use mathlib.Core.List.{List}
 use mathlib.Core.Bool.{false}
 use Prim.Native.Nat.{ℕ, _+_, _≤_}
 use native.Mathlib.Omega.{arith}
 use lib.ListN.{length}
 use Rattle.text_words.specs.Bytes.{bytes}
-use Rattle.domain_meaning.specs.Read.{Read, got, refused, give}
+use Rattle.domain_meaning.specs.Read.{Read, got, refused}
 use Rattle.domain_meaning.specs.Tables.{Table}
 use Rattle.domain_meaning.specs.Due.{Name}
-use Rattle.domain_meaning.specs.Lists.{declarations}
-use Rattle.domain_meaning.specs.Domain.{Opened, opened, other, onOpened, Vocabulary, headingOf, beginsWith, flagsSection, typesSection, constantsSection, declaredSection, vocabulary}
+use Rattle.domain_meaning.specs.Domain.{Vocabulary, headingOf, flagsSection, typesSection, constantsSection, declaredSection, vocabulary}
 use Rattle.domain_due.specs.Answers.{answerOf}
 use Rattle.domain_due.specs.declared.Parsed.{Parsed}
 use Rattle.domain_due.specs.declared.Parsed.the-variants as A
@@ -23,10 +22,11 @@ use Rattle.domain_rows.specs.Held.{Holds}
 use Rattle.domain_typed_lists.specs.Outcome.{Outcome}
 use Rattle.domain_typed_lists.proofs.Outcomes.{As, outcome-refused}
 use Rattle.domain_terms.specs.Scoped.{AllSigned}
-use Rattle.domain_terms.proofs.Signing.{declarations-signed}
-use Rattle.domain_preamble.specs.Beginning.{Listed, Declares}
+use Rattle.domain_terms.proofs.Signing.{section-signed}
+use Rattle.domain_meaning.proofs.Given.{given-got}
+use Rattle.domain_preamble.specs.Beginning.{begunOf, Listed, Declares}
+use Rattle.domain_preamble.specs.declared.Preamble.{Preamble}
 use Rattle.domain_preamble.specs.declared.Preamble.the-variants.{Done, Refused}
-use Rattle.domain_preamble.proofs.Headed.{then-got}
 
 -- ---- the heading, and the flags
 
@@ -74,14 +74,7 @@ onwards-done n at a v r q h = rw q at h
 -- ---- predicates and functions are signed
 
 declared-signed : (s w : List ℕ) (ts : Table) (max most : ℕ) → most ≤ 4 → (at : ℕ) (u : Table) (n : ℕ) → declaredSection s w ts max most at ≡ got u n → AllSigned u
-unfolding declaredSection
-declared-signed s w ts max most few at u n q =
-    let o = then-got (beginsWith s w at) (λ x. onOpened x (λ p. declarations (length s + 1) s ts max most []) (give [])) u n q in
-    go (o .value) (o .place) (o .second)
-  where
-    go : (x : Opened) (a : ℕ) → onOpened x (λ p. declarations (length s + 1) s ts max most []) (give []) a ≡ got u n → AllSigned u
-    go (opened p) a h = declarations-signed s ts max most few (length s + 1) [] a u n tt h
-    go other a h = let e : [] ≡ u = cc in rw (← e) tt
+declared-signed s w ts max most few at u n q = given-got (section-signed s w ts max most at few) q
 
 -- ---- the sections behind the flags
 

@@ -1,7 +1,7 @@
 -- The ways through the goal. Assumes nothing.
 use mathlib.Core.Path.{_≡_, refl, sym, _∙_}
 use mathlib.Core.List.{List}
-use mathlib.Core.Bool.{Bool, true, false}
+use mathlib.Core.Bool.{Bool, true, false, true≢false}
 use Prim.Native.Nat.{ℕ, _≤_, _<_}
 use native.Mathlib.Omega.{arith}
 use lib.ListN.{length}
@@ -22,7 +22,6 @@ use Rattle.domain_expressions.specs.declared.leaves.Progress.the-variants as P
 use Rattle.domain_expressions.proofs.Operands.{written-got, written-not}
 use Rattle.domain_stored_meaning.specs.Cells.{condCells}
 use Rattle.domain_problem_text.specs.Parts.{goalFrom, Reached, Aimed}
-use Rattle.domain_problem_text.proofs.Starting.{never-true}
 
 pub spent-at : (n at : ℕ) (r : Progress) (a v l : ℕ) → r ≡ P.Done a v l → Spent 0 n 0 at r → (at < a) × (a ≤ n) × (v ≤ n)
 unfolding Spent
@@ -64,7 +63,7 @@ module _ (s : List ℕ) (c : Scope) (at : ℕ) (judged : Bool) (r : Parsed) (goa
   module _ (v a : ℕ) (q : sectionDueOf s (bytes ":goal") at ≡ got v a) where
     pub aimed-judged : judged ≡ true → Reached (length s) r goal goal′ (goalTo s c a) → Aimed (length s) c judged r goal goal′ (goalFrom s c judged at)
     unfolding goalFrom
-    aimed-judged j h = rw (q, j) (aimed-by (length s) c r goal goal′ true (goalTo s c a) h (λ z. never-true (sym z)))
+    aimed-judged j h = rw (q, j) (aimed-by (length s) c r goal goal′ true (goalTo s c a) h (λ z. absurd (true≢false z)))
 
     pub aimed-unfit : (k p : ℕ) → judged ≡ false → r ≡ answerOf (sumsAt c v a) → r ≡ Refused k p → Aimed (length s) c judged r goal goal′ (goalFrom s c judged at)
     unfolding goalFrom Aimed

@@ -1,10 +1,11 @@
 -- The objects stored in their part of the tables: the other parts stay. Assumes nothing.
 use mathlib.Core.Path.{_≡_, sym, ap, _∙_}
-use mathlib.Core.List.{List, _++_, append-assoc, append-nil}
-use Prim.Native.Nat.{ℕ, _+_, _*_, _≤_}
+use mathlib.Core.List.{List, _++_}
+use Prim.Native.Nat.{ℕ, _+_, _*_}
 use native.Mathlib.Omega.{arith}
-use lib.ListN.{length, take, drop, drop-of-length-le}
-use lib.Seq.{sets, sets-eq, length-sets, drop-drop}
+use lib.ListN.{length, take, drop}
+use lib.Seq.{sets, length-sets}
+use Rattle.base_laws.proofs.Sets.{part-back, sets-whole}
 use Rattle.text_words.specs.Bytes.{bytes}
 use Rattle.domain_meaning.specs.Read.{Read, got, refused}
 use Rattle.domain_meaning.specs.Tables.{Table}
@@ -21,19 +22,9 @@ use Rattle.domain_terms.specs.Scoped.{Scoped}
 use Rattle.domain_terms.specs.declared.scope.Counts.{Counts}
 use Rattle.domain_problem_text.specs.Grounded.{withObjects, Grounded}
 
-stored-whole : (l vs : List ℕ) → length vs ≡ length l → sets l 0 vs ≡ vs
-stored-whole l vs e =
-    let room : 0 + length vs ≤ length l = omega arith in
-    let b : length l ≤ 0 + length vs = omega arith in
-    sets-eq vs l 0 room ∙ ap (λ (x : List ℕ). vs ++ x) (drop-of-length-le l b) ∙ append-nil vs
-
 -- a copy of all rows holds what they hold
 pub copied : (m : ℕ) (rows : List ℕ) (n : ℕ) (t : Table) (v was new : List ℕ) → Holds m rows n t → v ≡ rows → length was ≡ 38 * m → new ≡ sets was 0 v → Holds m new n t
-copied m rows n t v was new h e l q = rw (q, e, stored-whole was rows (rows-long m rows n t h ∙ sym l)) h
-
--- a part that was lent is back
-part-back : (l ys : List ℕ) (a k : ℕ) → k ≡ length ys → a + length ys ≤ length l → take a l ++ (ys ++ drop k (drop a l)) ≡ sets l a ys
-part-back l ys a k e room = rw (drop-drop k a l, e, sets-eq ys l a room, append-assoc (take a l) ys (drop (a + length ys) l))
+copied m rows n t v was new h e l q = rw (q, e, sets-whole was rows (l ∙ sym (rows-long m rows n t h))) h
 
 -- ---- the tables with other objects
 

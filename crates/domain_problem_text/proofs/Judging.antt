@@ -1,9 +1,8 @@
 -- The sums, and the ways through the section that is due. Assumes nothing.
 use mathlib.Core.Path.{_≡_}
 use mathlib.Core.List.{List}
-use mathlib.Core.Bool.{true, false}
+use mathlib.Core.Bool.{false}
 use Prim.Native.Nat.{ℕ, _≤_, _<_}
-use native.Mathlib.Omega.{arith}
 use lib.Dec.{leb}
 use borrow.Author.Tests.{le-leb, lt-leb}
 use Rattle.domain_meaning.specs.Read.{got, refused}
@@ -11,34 +10,12 @@ use Rattle.domain_meaning.specs.Due.{opening, wordDue}
 use Rattle.domain_meaning.specs.Terms.{Scope}
 use Rattle.domain_meaning.specs.Problem.{sumsFit, sectionDueOf}
 use Rattle.domain_meaning.specs.Indexes.{sumOf}
-use Rattle.domain_terms.specs.Scoped.{Scoped, Signatures}
+use Rattle.domain_terms.specs.Scoped.{Scoped}
 use Rattle.domain_terms.specs.declared.scope.Counts.{Counts}
 
 -- ---- the sums
 
 module _ (tables : List ℕ) (n : Counts) (c : Scope) (h : Scoped tables n c) where
-  pub predicates-signed : Signatures tables 3078 (n .predicates)
-  predicates-signed = record {
-    rows = 32;
-    to = 4294;
-    table = c .predicates;
-    holds = h .predicates;
-    signed = h .facts;
-    few = omega (arith, h .predicates .fits);
-    near = omega arith;
-  }
-
-  pub functions-signed : Signatures tables 4294 (n .functions)
-  functions-signed = record {
-    rows = 16;
-    to = 4902;
-    table = c .functions;
-    holds = h .functions;
-    signed = h .numbers;
-    few = omega (arith, h .functions .fits);
-    near = omega arith;
-  }
-
   module _ (a : ℕ) (e : a ≡ sumOf (n .objects) (c .predicates)) where
     pub predicates-passed : 16384 < a → false ≡ sumsFit c
     predicates-passed k = rw (← h .objects .count, ← e, lt-leb a 16384 k)

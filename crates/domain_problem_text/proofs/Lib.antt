@@ -2,7 +2,6 @@
 pub mod Judging
 pub mod Naming
 pub mod Grounding
-pub mod Reaching
 pub mod Starting
 pub mod Aiming
 pub mod Settling

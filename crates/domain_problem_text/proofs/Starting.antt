@@ -1,9 +1,8 @@
 -- The ways through init. Assumes nothing.
 use mathlib.Core.Path.{_≡_, refl, sym, _∙_}
 use mathlib.Core.List.{List}
-use mathlib.Core.Bool.{Bool, true, false, cond}
+use mathlib.Core.Bool.{Bool, true, false, cond, false≢true}
 use Prim.Native.Nat.{ℕ, _+_}
-use native.Mathlib.Omega.{arith}
 use lib.IntN.{ℤ}
 use lib.ListN.{length}
 use lib.Dec.{eqb}
@@ -19,9 +18,6 @@ use Rattle.domain_due.proofs.Dues.{answer-refused, never-done}
 use Rattle.domain_init.specs.State.{Begins}
 use Rattle.domain_meaning.specs.First.{noFacts, noNumbers, factsFrom, numbersFrom, firstFacts, firstNumbers}
 use Rattle.domain_problem_text.specs.Parts.{Start, starting, startAt, Started}
-
-pub never-true : {A : Type 0} → false ≡ true → A
-never-true h = absurd (let z : _≡_ {A = ℕ} 0 1 = cc in let y : ⊥ = omega arith in y)
 
 -- where reading goes on behind the sums, they fit
 pub sums-fit : (c : Scope) (p at : ℕ) (r : Parsed) (a v : ℕ) → r ≡ answerOf (sumsAt c p at) → r ≡ Done a v → sumsFit c ≡ true
@@ -47,7 +43,7 @@ module _ (s : List ℕ) (c : Scope) (at : ℕ) where
   pub start-none : (facts : List ℕ) (numbers : List ℤ) → beginsWith s (bytes ":init") at ≡ got other at → facts ≡ noFacts → numbers ≡ noNumbers
       → Started c (Done at 0) facts numbers (startAt s c at)
   unfolding startAt Started firstFacts firstNumbers factsFrom numbersFrom
-  start-none facts numbers q f n = rw q (refl, f, n, λ h. never-true h)
+  start-none facts numbers q f n = rw q (refl, f, n, λ h. absurd (false≢true h))
 
   module _ (p e : ℕ) (q : beginsWith s (bytes ":init") at ≡ got (opened p) e) (r : Parsed) (facts : List ℕ) (numbers : List ℤ) where
     pub start-unfit : (k i : ℕ) → r ≡ answerOf (sumsAt c p e) → r ≡ Refused k i → Started c r facts numbers (startAt s c at)

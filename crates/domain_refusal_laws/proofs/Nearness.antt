@@ -9,12 +9,12 @@ use native.Mathlib.Decide.{decLe}
 use lib.Dec.{eqb, leb, ltb}
 use lib.ListN.{length, getD, take, length-take}
 use borrow.Author.Tests.{leb-true, leb-false, eqb-true, ltb-false, le-leb, lt-leb}
+use Rattle.base_laws.proofs.Lists.{at-cons}
 use Rattle.text_words.specs.Bytes.{bytes, kindOf, isWordly, lowerOf, onStart}
 use Rattle.text_words.specs.Spelling.{sameWord}
 use Rattle.text_words.specs.Fixed.{isListed}
 use Rattle.text_words.specs.declared.bytes.Kind.{Kind}
 use Rattle.text_words.specs.declared.bytes.Kind.the-variants as K
-use Rattle.text_words.proofs.Steps.{at-cons}
 use Rattle.text_tokens.proofs.Steps.{gap-within, run-within}
 use Rattle.text_tokens.specs.Runs.{part, gapEnd}
 use Rattle.text_tokens.specs.Numbers.{numberOf}

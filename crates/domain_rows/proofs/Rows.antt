@@ -7,7 +7,8 @@ use native.Mathlib.Omega.{arith}
 use native.Mathlib.Decide.{decLe}
 use borrow.Author.Tests.{lt-ltb, le-ltb}
 use lib.ListN.{length, getD, take, drop, set, length-append, drop-of-length-le, List·getD-append, List·getD-map, List·getD-eq-default, length-map}
-use lib.Seq.{sets, drop-cons, drop-at, set-at, take-at, getD-append-add}
+use lib.Seq.{sets, drop-cons, drop-at, getD-at, set-at, take-at, drop-append-add, getD-append-add}
+use Rattle.base_laws.proofs.Sets.{sets-cons, sets-at}
 use Rattle.text_words.specs.Names as Names
 use Rattle.text_words.specs.Spelling.{placeFrom}
 use Rattle.domain_meaning.specs.Tables.{Entry, entry, nameOf, infoOf, typeOf, withType, Table, lookup, retype}
@@ -40,15 +41,6 @@ unfolding padded
 take-padded m [] rest h = refl
 take-padded zero (b ∷ bs) rest h = absurd (let z : ⊥ = omega arith in z)
 take-padded (suc m) (b ∷ bs) rest h = ap (λ (l : List ℕ). b ∷ l) (take-padded m bs rest (omega arith))
-
-sets-cons : (x : ℕ) (l : List ℕ) (u : ℕ) (vs : List ℕ) → sets (x ∷ l) (suc u) vs ≡ x ∷ sets l u vs
-sets-cons x l u [] = refl
-sets-cons x l u (v ∷ vs) = sets-cons x (set l u v) (suc u) vs
-
-sets-at : (p q vs : List ℕ) (n : ℕ) → length p ≡ n → sets (p ++ q) n vs ≡ p ++ sets q 0 vs
-sets-at [] q vs n h = ap (λ (k : ℕ). sets q k vs) (sym h)
-sets-at (x ∷ p) q vs zero h = absurd (let z : ⊥ = omega arith in z)
-sets-at (x ∷ p) q vs (suc n) h = sets-cons x (p ++ q) n vs ∙ ap (λ (l : List ℕ). x ∷ l) (sets-at p q vs n (omega arith))
 
 -- a name stored over zeros
 pub sets-padded : (m : ℕ) (w rest : List ℕ) → length w ≤ m → sets (padded m [] ++ rest) 0 w ≡ padded m w ++ rest
@@ -230,15 +222,6 @@ retype-end (suc i) [] k h = refl
 retype-end (suc i) (e ∷ t) k h = ap (λ (l : Table). e ∷ l) (retype-end i t k (omega arith))
 
 -- ---- stores one by one
-
-pub copy-step : (rows w : List ℕ) (at i : ℕ) → i < length w → sets (set rows (at + i) (getD w i 0)) (at + (i + 1)) (drop (i + 1) w) ≡ sets rows (at + i) (drop i w)
-copy-step rows w at i h =
-    let e : at + (i + 1) ≡ suc (at + i) = omega arith in
-    let d : drop i w ≡ getD w i 0 ∷ drop (i + 1) w = rw (add-one, drop-cons w i 0) in
-    ap (λ (k : ℕ). sets (set rows (at + i) (getD w i 0)) k (drop (i + 1) w)) e ∙ sym (ap (λ (l : List ℕ). sets rows (at + i) l) d)
-
-pub copy-end : (rows w : List ℕ) (at i : ℕ) → length w ≤ i → sets rows (at + i) (drop i w) ≡ rows
-copy-end rows w at i h = ap (λ (l : List ℕ). sets rows (at + i) l) (drop-of-length-le w h)
 
 -- the rows, with the types stored up to name i, hold a table whose rest is to be typed
 pub record Filled (m : ℕ) (rows : List ℕ) (n i g k : ℕ) (t : Table) : Type 0 where

@@ -7,6 +7,7 @@ use native.Mathlib.Omega.{arith}
 use lib.Dec.{eqb, leb, ltb}
 use lib.ListN.{length, getD}
 use borrow.Author.Tests.{leb-true, leb-false}
+use Rattle.domain_meaning.proofs.Readings.{never}
 use Rattle.text_words.specs.Bytes.{kindOf, onStart}
 use Rattle.text_words.specs.Fixed.{isListed}
 use Rattle.text_words.specs.declared.bytes.Kind.{Kind}
@@ -22,7 +23,7 @@ use Rattle.text_tokens.specs.declared.classes.Class.the-variants as C
 use Rattle.text_tokens.specs.declared.tokens.Word.{Word}
 use Rattle.text_tokens.specs.declared.tokens.Token.{Token}
 use Rattle.text_tokens.specs.declared.tokens.Token.the-variants as T
-use Rattle.domain_meaning.specs.Read.{Read, got, refused, give}
+use Rattle.domain_meaning.specs.Read.{got, give}
 use Rattle.domain_meaning.specs.Due.{afterOf, wrong, onEnd, onOpen, onClose}
 use Rattle.domain_meaning.specs.Domain.{ending}
 
@@ -107,17 +108,14 @@ token-ends s at = from-ends s (gapEnd s at)
 
 -- ---- the end of a text that was read
 
-never : {A : Type 0} (k p q a : ℕ) → _≡_ {A = Read ℕ} (refused k p) (got q a) → A
-never k p q a h = absurd (let z : _≡_ {A = ℕ} 0 1 = cc in let y : ⊥ = omega arith in y)
-
 at-end : (n : ℕ) (u : Token) (q a : ℕ) → Ends n u → onEnd u (λ p. give p) (wrong 16 u) (afterOf u) ≡ got q a → n ≤ 32768
 unfolding Ends
-at-end n (T.Word k p e) q a w h = never _ _ q a h
-at-end n (T.Number z p e) q a w h = never _ _ q a h
-at-end n (T.Open p e) q a w h = never _ _ q a h
-at-end n (T.Close p e) q a w h = never _ _ q a h
-at-end n (T.Mark b p e) q a w h = never _ _ q a h
-at-end n (T.Refusal k p) q a w h = never _ _ q a h
+at-end n (T.Word k p e) q a w h = never h
+at-end n (T.Number z p e) q a w h = never h
+at-end n (T.Open p e) q a w h = never h
+at-end n (T.Close p e) q a w h = never h
+at-end n (T.Mark b p e) q a w h = never h
+at-end n (T.Refusal k p) q a w h = never h
 at-end n (T.End p) q a w h = w
 
 pub ending-short : (s : List ℕ) (at q a : ℕ) → ending s at ≡ got q a → length s ≤ 32768
@@ -125,10 +123,10 @@ unfolding ending
 ending-short s at q a h = go (tokenAt s at) h
   where
     go : (t : Token) → onClose t (λ p b. onEnd (tokenAt s b) (λ i. give i) (wrong 16 (tokenAt s b)) (afterOf (tokenAt s b))) (onOpen t (λ p b. wrong 14 (tokenAt s b) (afterOf (tokenAt s b))) (wrong 15 t)) (afterOf t) ≡ got q a → length s ≤ 32768
-    go (T.Word k p e) h = never _ _ q a h
-    go (T.Number z p e) h = never _ _ q a h
-    go (T.Open p e) h = never _ _ q a h
+    go (T.Word k p e) h = never h
+    go (T.Number z p e) h = never h
+    go (T.Open p e) h = never h
     go (T.Close p e) h = at-end (length s) (tokenAt s e) q a (token-ends s e) h
-    go (T.Mark b p e) h = never _ _ q a h
-    go (T.Refusal k p) h = never _ _ q a h
-    go (T.End p) h = never _ _ q a h
+    go (T.Mark b p e) h = never h
+    go (T.Refusal k p) h = never h
+    go (T.End p) h = never h

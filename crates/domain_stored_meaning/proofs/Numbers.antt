@@ -5,13 +5,14 @@ use mathlib.Core.Bool.{Bool, true, false, cond}
 use Prim.Native.Nat.{ℕ, zero, suc, _+_, _/_, _%_, _≤_, _<_}
 use native.Mathlib.Numerals.{add-one}
 use native.Mathlib.Omega.{arith}
-use native.Mathlib.Decide.{decLe, ℕ-discrete}
+use native.Mathlib.Decide.{ℕ-discrete}
 use lib.Dec.{eqb}
 use lib.IntN.{ℤ, natAbs, pos}
 use lib.ListN.{length, take, drop}
 use lib.Seq.{drop-cons}
 use lib.Signed.{mag, ltZ}
 use borrow.Author.Tests.{lt-ltb, le-ltb, ne-eqb, eqb-true}
+use Rattle.domain_expressions.proofs.Sizes.{size-all}
 use Rattle.text_words.proofs.Ranges.{holds, holds-at}
 use Rattle.domain_rows.specs.Held.{byteAt}
 use Rattle.domain_literals.specs.Literal.{signBase, sizeOf, bytesOf, literal, numberCells, littleOf, sizeIn, numberIn}
@@ -38,25 +39,6 @@ number-in code at h r = rw (byte-first code at h, little-of code (at + 1) (sizeI
 
 -- ---- the first cell
 
-size-most : (v : ℕ) → sizeOf v ≤ 5
-unfolding sizeOf
-size-most v = elim (decLe v 0) [
-  | yes a ↦ rw (lt-ltb v 1 (omega arith)) (omega arith)
-  | no a ↦ rw (le-ltb v 1 (omega arith)) (elim (decLe v 255) [
-    | yes b ↦ rw (lt-ltb v 256 (omega arith)) (omega arith)
-    | no b ↦ rw (le-ltb v 256 (omega arith)) (elim (decLe v 65535) [
-      | yes c ↦ rw (lt-ltb v 65536 (omega arith)) (omega arith)
-      | no c ↦ rw (le-ltb v 65536 (omega arith)) (elim (decLe v 16777215) [
-        | yes d ↦ rw (lt-ltb v 16777216 (omega arith)) (omega arith)
-        | no d ↦ rw (le-ltb v 16777216 (omega arith)) (elim (decLe v 4294967295) [
-          | yes e ↦ rw (lt-ltb v 4294967296 (omega arith)) (omega arith)
-          | no e ↦ rw (le-ltb v 4294967296 (omega arith)) (omega arith)
-        ])
-      ])
-    ])
-  ])
-]
-
 abbrev says : ℕ → ℕ → Bool
 says base k = eqb (sizeIn (base + k)) k
 
@@ -71,7 +53,7 @@ record Sized (xs : List ℕ) : Type 0 where
 
 sized-literal : (base v : ℕ) → 16 ≤ base → holds (says base) 0 6 ≡ true → Sized (literal base v)
 sized-literal base v h t =
-    let m = size-most v in
+    let m = size-all v in
     let e : sizeIn (base + sizeOf v) ≡ sizeOf v =
     eqb-true (sizeIn (base + sizeOf v)) (sizeOf v) (holds-at 6 (says base) 0 (sizeOf v) t (omega arith) (omega (arith, m))) in
     record {

@@ -3,4 +3,5 @@ pub mod Kept
 pub mod Givens
 pub mod Wanted
 pub mod Signing
+pub mod Signatures
 pub mod Taken

@@ -5,7 +5,7 @@ use Prim.Native.Nat.{ℕ, _+_}
 use native.Mathlib.Omega.{arith}
 use lib.ListN.{length}
 use lib.Seq.{sets}
-use Rattle.domain_meaning.specs.Read.{Read, Reader, got, refused, andThen}
+use Rattle.domain_meaning.specs.Read.{Read, got, refused}
 use Rattle.domain_due.specs.declared.Parsed.{Parsed}
 use Rattle.domain_due.specs.declared.Parsed.the-variants.{Done, Refused}
 use Rattle.domain_terms.specs.Cells.{Wrote}
@@ -42,15 +42,3 @@ module _ {A : Type 0} (cells : A → List ℕ) (code : List ℕ) (u : ℕ) (r : 
 pub wrote-by : {A : Type 0} (cells : A → List ℕ) (code : List ℕ) (u : ℕ) (m : List ℕ) (x : Read A) (t : A) (n v : ℕ) → x ≡ got t n → v ≡ u + length (cells t) → m ≡ sets code u (cells t) → Wrote cells code u (Done n v) m x
 unfolding Wrote
 wrote-by cells code u m x t n v e i j = rw (e, i) (refl, j)
-
--- ---- readings one behind the other
-
-pub then-then : {A B C : Type 0} (x : Read A) (f : A → Reader B) (g : B → Reader C) → andThen (andThen x f) g ≡ andThen x (λ a n. andThen (f a n) g)
-then-then (got a n) f g = refl
-then-then (refused k p) f g = refl
-
--- a reading that is made of two is made of one
-pub then-under : {A B C : Type 0} (x : Read A) (f : A → Reader B) (g : B → Reader C) (h : A → Reader C) → ((a : A) (n : ℕ) → andThen (f a n) g ≡ h a n)
-    → andThen (andThen x f) g ≡ andThen x h
-then-under (got a n) f g h e = e a n
-then-under (refused k p) f g h e = refl

@@ -6,6 +6,7 @@ use Prim.Native.Nat.{ℕ, _+_, _≤_, _<_}
 use native.Mathlib.Omega.{arith}
 use lib.ListN.{length, set, length-append}
 use lib.Seq.{sets}
+use Rattle.base_laws.proofs.Sets.{sets-append}
 use Rattle.domain_meaning.specs.Read.{Read, got, refused, andThen}
 use Rattle.domain_meaning.specs.Terms.{Scope, Counted, counts}
 use Rattle.domain_meaning.specs.Conditions.{condition}
@@ -14,7 +15,7 @@ use Rattle.domain_expressions.specs.Codes.{Written, Spent}
 use Rattle.domain_expressions.specs.declared.leaves.Progress.{Progress}
 use Rattle.domain_expressions.specs.declared.leaves.Progress.the-variants.{Done, Refused}
 use Rattle.domain_expressions.proofs.Ends.{written-refused}
-use Rattle.domain_expressions.proofs.Operands.{sets-append, written-got, written-not}
+use Rattle.domain_expressions.proofs.Operands.{written-got, written-not}
 use Rattle.domain_stored_meaning.specs.Cells.{condCells, effectsCells, listCells}
 use Rattle.domain_timed_parts.specs.Bodies.{asIs, bodyOf}
 

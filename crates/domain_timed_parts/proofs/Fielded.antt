@@ -7,6 +7,7 @@ use native.Mathlib.Omega.{arith}
 use native.Mathlib.Numerals.{add-one}
 use lib.ListN.{length, set, length-append}
 use lib.Seq.{sets}
+use Rattle.base_laws.proofs.Sets.{sets-append}
 use Rattle.text_words.specs.Spelling.{sameWord}
 use Rattle.text_words.specs.declared.spelling.Place.the-variants.{At, Nothing}
 use Rattle.text_tokens.specs.Runs.{part}
@@ -22,7 +23,7 @@ use Rattle.domain_terms.specs.Cells.{Wrote}
 use Rattle.domain_expressions.specs.Codes.{Written, Spent}
 use Rattle.domain_expressions.specs.declared.leaves.Progress.{Progress}
 use Rattle.domain_expressions.specs.declared.leaves.Progress.the-variants.{Done, Refused}
-use Rattle.domain_expressions.proofs.Operands.{sets-append, written-got, written-not}
+use Rattle.domain_expressions.proofs.Operands.{written-got, written-not}
 use Rattle.domain_timed_parts.specs.Bodies.{asIs, bodyOf, timedCells}
 use Rattle.domain_timed_parts.specs.Fields.{fieldFound, partsOf, fieldParts, endedCells, Onwards}
 

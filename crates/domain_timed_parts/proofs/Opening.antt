@@ -5,26 +5,24 @@ use Prim.Native.Nat.{ℕ, zero, suc, _-_, _<_}
 use native.Mathlib.Omega.{arith}
 use types.Run.{OneOf}
 use denote.Enum.Declared.{tagOf}
+use Rattle.domain_meaning.proofs.Readings.{never}
 use Rattle.text_tokens.specs.Tokens.{tokenAt}
 use Rattle.text_tokens.specs.declared.tokens.Word.{Word}
 use Rattle.text_tokens.specs.declared.tokens.Token.{Token}
 use Rattle.text_tokens.specs.declared.tokens.Token.the-variants as T
 use Rattle.text_tokens.proofs.tokens.Token as token-type
-use Rattle.domain_meaning.specs.Read.{_>>=_, Read, Reader, got, refused, refuse}
+use Rattle.domain_meaning.specs.Read.{_>>=_, Reader, got, refused, refuse}
 use Rattle.domain_meaning.specs.Due.{token, numberOf, placeOf, afterOf, wrong, onOpen, onWord, opening}
 use Rattle.domain_due.proofs.Dues.{not-word}
 
-never : {A B : Type 0} (k p : ℕ) (v : A) (a : ℕ) → _≡_ {A = Read A} (refused k p) (got v a) → B
-never k p v a h = absurd (let z : _≡_ {A = ℕ} 0 1 = cc in let y : ⊥ = omega arith in y)
-
 shut : (t : Token) (n v a : ℕ) → onOpen t (λ p. refuse 12 p) (wrong 0 t) n ≡ got v a → ⊥
-shut (T.Word k p e) n v a h = never 3 p v a h
-shut (T.Number z p e) n v a h = never 3 p v a h
-shut (T.Open p e) n v a h = never 12 p v a h
-shut (T.Close p e) n v a h = never 3 p v a h
-shut (T.Mark b p e) n v a h = never 3 p v a h
-shut (T.Refusal k p) n v a h = never k p v a h
-shut (T.End p) n v a h = never 4 p v a h
+shut (T.Word k p e) n v a h = never h
+shut (T.Number z p e) n v a h = never h
+shut (T.Open p e) n v a h = never h
+shut (T.Close p e) n v a h = never h
+shut (T.Mark b p e) n v a h = never h
+shut (T.Refusal k p) n v a h = never h
+shut (T.End p) n v a h = never h
 
 -- a bracket that was read was not too deep
 pub opened-deep : (s : List ℕ) (d at v a : ℕ) → opening s d at ≡ got v a → 0 < d

@@ -6,8 +6,9 @@ use Prim.Native.Nat.{ℕ, zero, suc, _+_, _-_, _*_, _≤_, _<_}
 use native.Mathlib.Omega.{arith}
 use types.Run.{OneOf}
 use denote.Enum.Declared.{tagOf}
-use lib.ListN.{length, take, drop, length-map}
-use lib.Seq.{sets, sets-eq, take-at, length-sets}
+use lib.ListN.{length, take, length-map}
+use lib.Seq.{sets, length-sets}
+use Rattle.base_laws.proofs.Sets.{sets-front}
 use Rattle.text_words.specs.Fixed.{isReserved}
 use Rattle.text_tokens.specs.Runs.{part}
 use Rattle.text_tokens.specs.Tokens.{tokenAt}
@@ -79,12 +80,6 @@ module _ (s : List ℕ) (d at v a : ℕ) (h : nameOf (newName s d at) ≡ Done a
 
 -- ---- the numbers that are kept
 
--- of what was stored at the front
-front : (l vs : List ℕ) (n : ℕ) → length vs ≡ n → n ≤ length l → take n (sets l 0 vs) ≡ vs
-front l vs n e h =
-    ap (λ (x : List ℕ). take n x) (sets-eq vs l 0 (omega arith) ∙ let z : (take 0 l ++ vs) ++ drop (0 + length vs) l ≡ vs ++ drop (0 + length vs) l = refl in z)
-    ∙ take-at vs (drop (0 + length vs) l) n e
-
 -- the front of the rows for 3 variables, with none in them
 pub no-variables : (m : ℕ) → m ≤ 3 → take (38 * m) (rowsOf 3 []) ≡ rowsOf m []
 unfolding rowsOf padded
@@ -111,7 +106,7 @@ signed-done (got t n) m r was now a v h e l =
     let v≡ : length t ≡ v = cc q in
     let long : length (length t ∷ map typeOf t) ≡ v + 1 = omega (arith, length-map t typeOf) in
     let b : v + 1 ≤ length was = omega (arith, h .1) in
-    let is : take (v + 1) now ≡ length t ∷ map typeOf t = ap (λ (y : List ℕ). take (v + 1) y) (h .2) ∙ front was (length t ∷ map typeOf t) (v + 1) long b in
+    let is : take (v + 1) now ≡ length t ∷ map typeOf t = ap (λ (y : List ℕ). take (v + 1) y) (h .2) ∙ sets-front was (length t ∷ map typeOf t) (v + 1) long b in
     record {
       table = t;
       is = ap (λ (j : ℕ). got t j) n≡;

@@ -1,7 +1,7 @@
 -- Numbers of the range lie near 0, and every value that is computed or stored is one of the range or none. Assumes nothing.
 use mathlib.Core.Path.{_≡_, refl, sym, _∙_}
 use mathlib.Core.List.{List, [], _∷_}
-use mathlib.Core.Bool.{Bool, true, false, cond, _&&_}
+use mathlib.Core.Bool.{Bool, true, false, cond}
 use Prim.Native.Nat.{ℕ, zero, suc, _≤_, _<_, _^_}
 use native.Mathlib.Nat.{not-suc-le-zero, le-of-suc-le-suc}
 use native.Mathlib.Omega.{arith}
@@ -9,25 +9,17 @@ use lib.ListN.{length, getD, List·getD-eq-default}
 use lib.IntN.{ℤ, pos, negsuc, negℤ, _+ℤ_, _-ℤ_}
 use lib.Signed.{mag, leZ}
 use borrow.Author.Tests.{leb-true}
+use Rattle.base_laws.proofs.Splits.{and-left, and-right}
 use Rattle.domain_meaning.specs.First.{undefined}
 use Rattle.happening_meaning.specs.State.{inside, within, defined, stored, numberAt, plusOf, lessOf, minusOf}
 use Rattle.happening_meaning.specs.declared.Value.{Value}
 use Rattle.happening_meaning.specs.declared.Value.the-variants.{Number, Undefined, Range}
 use Rattle.happening_amounts.specs.Ranged.{Ranged}
 
-left-true : (s t : Bool) → s && t ≡ true → s ≡ true
-left-true true t e = refl
-left-true false t e = e
-
-right-true : (s t : Bool) → s && t ≡ true → t ≡ true
-right-true true t e = e
-right-true false true e = refl
-right-true false false e = e
-
 pub inside-le : (z : ℤ) → inside z ≡ true → mag z ≤ 1000000000000
 unfolding inside
-inside-le (pos n) h = leb-true n 1000000000000 (left-true (leZ (pos n) (pos 1000000000000)) (leZ (negsuc 999999999999) (pos n)) h)
-inside-le (negsuc n) h = omega (arith, leb-true n 999999999999 (right-true (leZ (negsuc n) (pos 1000000000000)) (leZ (negsuc 999999999999) (negsuc n)) h))
+inside-le (pos n) h = leb-true n 1000000000000 (and-left (leZ (pos n) (pos 1000000000000)) (leZ (negsuc 999999999999) (pos n)) h)
+inside-le (negsuc n) h = omega (arith, leb-true n 999999999999 (and-right (leZ (negsuc n) (pos 1000000000000)) (leZ (negsuc 999999999999) (negsuc n)) h))
 
 pub inside-mag : (z : ℤ) → inside z ≡ true → mag z < 2 ^ 61
 inside-mag z h = omega (arith, inside-le z h)

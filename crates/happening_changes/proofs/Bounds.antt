@@ -1,7 +1,7 @@
 -- How far exact sums lie from 0: where the old number is defined, an effect moves the new one by at most a million million. Assumes nothing.
 use mathlib.Core.Path.{_≡_, refl, ap, subst}
 use mathlib.Core.List.{List, [], _∷_}
-use mathlib.Core.Bool.{Bool, true, false, cond, _&&_}
+use mathlib.Core.Bool.{Bool, true, false, cond}
 use Prim.Native.Nat.{ℕ, zero, suc, _+_, _-_, _*_, _^_, _≤_, _<_}
 use native.Mathlib.Omega.{arith}
 use lib.Dec.{ltb}
@@ -9,6 +9,7 @@ use lib.IntN.{ℤ, pos, negsuc, negℤ, natAbs, _+ℤ_}
 use lib.ListN.{length, getD, set}
 use lib.Signed.{mag, leZ}
 use borrow.Author.Tests.{leb-true}
+use Rattle.base_laws.proofs.Splits.{and-left, and-right, either}
 use Rattle.domain_meaning.specs.Effects.{Change, assign, raise, lower, Effect, becomes, changes}
 use Rattle.domain_meaning.specs.First.{undefined}
 use Rattle.happening_meaning.specs.State.{Grounds, inside, numberAt, numberOf}
@@ -27,19 +28,10 @@ use Rattle.happening_changes.specs.Changing.{Bounded, Room}
 
 -- ---- one sum
 
-left-true : (s t : Bool) → s && t ≡ true → s ≡ true
-left-true true t e = refl
-left-true false t e = e
-
-right-true : (s t : Bool) → s && t ≡ true → t ≡ true
-right-true true t e = e
-right-true false true e = refl
-right-true false false e = e
-
 abs-le : (z : ℤ) → inside z ≡ true → natAbs z ≤ 1000000000000
 unfolding inside
-abs-le (pos n) h = leb-true n 1000000000000 (left-true (leZ (pos n) (pos 1000000000000)) (leZ (negsuc 999999999999) (pos n)) h)
-abs-le (negsuc n) h = omega (arith, leb-true n 999999999999 (right-true (leZ (negsuc n) (pos 1000000000000)) (leZ (negsuc 999999999999) (negsuc n)) h))
+abs-le (pos n) h = leb-true n 1000000000000 (and-left (leZ (pos n) (pos 1000000000000)) (leZ (negsuc 999999999999) (pos n)) h)
+abs-le (negsuc n) h = omega (arith, leb-true n 999999999999 (and-right (leZ (negsuc n) (pos 1000000000000)) (leZ (negsuc 999999999999) (negsuc n)) h))
 
 pick : (t : Bool) (x y k : ℕ) → x ≤ k → y ≤ k → mag (cond t (negsuc x) (pos y)) ≤ k
 pick true x y k h l = h
@@ -98,11 +90,6 @@ bounded-step m l old ns (Number a x) how v r b = bounded-needed m l old ns how x
 
 -- ---- the effects of a point
 
--- wherever changing stopped
-pub either : (P : List ℤ → Type 0) (d : Bool) (s t : Made) → P (s .numbers) → P (t .numbers) → P (cond d s t .numbers)
-either P true s t p q = p
-either P false s t p q = q
-
 module _ (g : Grounds) (old : List ℤ) (l : ℕ) (os : List ℕ) where
   bounded-one : (m : ℕ) (ns : List ℤ) (e : Effect) → Bounded m old ns → Bounded (m + 1000000000000) old (changeOne g old l os ns e .numbers)
   unfolding changeOne
@@ -117,7 +104,7 @@ module _ (g : Grounds) (old : List ℤ) (l : ℕ) (os : List ℕ) where
       let k = m + 1000000000000 * suc (length es) in
       let one = changeOne g old l os ns e in
       let all = changeAll g old l os (one .numbers) es in
-      either (Bounded k old) (isDone (one .outcome)) all one
+      either (λ (x : Made). Bounded k old (x .numbers)) (isDone (one .outcome))
       (bounded-wider (m + 1000000000000 + 1000000000000 * length es) k old (all .numbers) (omega arith)
       (bounded-all (m + 1000000000000) (one .numbers) es (bounded-one m ns e b)))
       (bounded-wider (m + 1000000000000) k old (one .numbers) (omega arith) (bounded-one m ns e b))

@@ -1,7 +1,7 @@
 -- The ways through one effect: on a number, on a fact, and on one of two tables made equal. Assumes nothing.
 use mathlib.Core.Path.{_≡_, refl, sym, ap, _∙_}
 use mathlib.Core.List.{List, [], _∷_}
-use mathlib.Core.Bool.{Bool, true, false, cond, not, _||_}
+use mathlib.Core.Bool.{Bool, true, false, cond, not, _||_, or-false}
 use Prim.Native.Nat.{ℕ, _-_, _^_, _≤_, _<_}
 use native.Mathlib.Omega.{arith}
 use types.Run.{OneOf, miss}
@@ -31,7 +31,6 @@ use Rattle.happening_values.specs.declared.values.Valued.{Valued}
 use Rattle.happening_values.proofs.Ranging.{value-ranged}
 use Rattle.happening_marks.specs.Flat.{changeIn, changeBy}
 use Rattle.happening_changes.specs.Changing.{Bounded, blamed, shifted, settleOne, writeFact, adds}
-use Rattle.happening_changes.proofs.Passing.{or-none}
 
 -- ---- a value that is no number
 
@@ -171,9 +170,9 @@ module _ (m : Mark) where
   adds-other earlier h = go m h
     where
       go : (m : Mark) → OneOf (0 ∷ 2 ∷ []) (tagOf mark-type.the-type m) → earlier ≡ (earlier || adds m)
-      go Nothing h = or-none earlier
+      go Nothing h = sym (or-false earlier)
       go (Fact a x) h = absurd (miss (0 ∷ 2 ∷ []) 1 tt h)
-      go (Number a x) h = or-none earlier
+      go (Number a x) h = sym (or-false earlier)
 
   pub adds-fact : {earlier a : Bool} {x : ℕ} → m ≡ Fact a x → earlier ≡ false → a ≡ (earlier || adds m)
   unfolding adds

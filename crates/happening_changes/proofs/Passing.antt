@@ -1,7 +1,7 @@
 -- The ways through the steps of a point: what is left of its effects, with what one step has passed. Assumes nothing.
 use mathlib.Core.Path.{_≡_, refl, sym, ap, _∙_}
 use mathlib.Core.List.{List, [], _∷_, _++_}
-use mathlib.Core.Bool.{Bool, true, false, true≢false, _||_}
+use mathlib.Core.Bool.{Bool, true, false, true≢false, _||_, or-assoc, or-false}
 use Prim.Native.Nat.{ℕ, suc, _-_, _≤_, _<_}
 use native.Mathlib.Omega.{arith}
 use lib.IntN.{ℤ}
@@ -27,7 +27,7 @@ use Rattle.happening_marks.proofs.Stepping.{on-marks, on-changes}
 use Rattle.happening_marks.proofs.Searching.{flat-none, no-clash, clash-hit, clash-on}
 use Rattle.happening_changes.specs.Changing.{Room, settleOne, settleAll, writeFact, adds}
 use Rattle.happening_changes.proofs.Bounds.{room-step}
-use Rattle.happening_changes.proofs.Settling.{settle-append, some-append, or-assoc}
+use Rattle.happening_changes.proofs.Settling.{settle-append, some-append}
 
 pub each-append : (f : List ℕ → Mark → List ℕ) (fs : List ℕ) (ms ks : List Mark) → eachMark f fs (ms ++ ks) ≡ eachMark f (eachMark f fs ms) ks
 unfolding eachMark
@@ -37,7 +37,7 @@ each-append f fs (m ∷ ms) ks = each-append f (f fs m) ms ks
 -- whether some mark has it: known of those before, then of some more
 pub some-more : (f : Mark → Bool) (any : Bool) (ms ks : List Mark) {more : Bool} → more ≡ (any || some f ms) → (more || some f ks) ≡ (any || some f (ms ++ ks))
 some-more f any ms ks q =
-    ap (λ (t : Bool). t || some f ks) q ∙ sym (or-assoc any (some f ms) (some f ks)) ∙ ap (λ (t : Bool). any || t) (sym (some-append f ms ks))
+    ap (λ (t : Bool). t || some f ks) q ∙ or-assoc any (some f ms) (some f ks) ∙ ap (λ (t : Bool). any || t) (sym (some-append f ms ks))
 
 -- where no effect adds a fact, adding changes nothing
 pub none-added : (fs : List ℕ) (ms : List Mark) → some adds ms ≡ false → eachMark (writeFact true) fs ms ≡ fs
@@ -59,14 +59,10 @@ facts-in false fs (Fact a x) = refl
 facts-in true fs (Number a x) = refl
 facts-in false fs (Number a x) = refl
 
-pub or-none : (t : Bool) → t ≡ (t || false)
-or-none true = refl
-or-none false = refl
-
 adds-in : (m : Mark) → adds m ≡ some adds (marksIn m)
 unfolding some adds
 adds-in Nothing = refl
-adds-in (Fact a x) = or-none a
+adds-in (Fact a x) = sym (or-false a)
 adds-in (Number a x) = refl
 
 nothing-leaves : (ns : List ℤ) → leaves ns Nothing ≡ false
@@ -104,7 +100,7 @@ module _ (g : Grounds) (os : List ℕ) (es : List Effect) (e : es ≡ []) where
 
   pub adds-end : (any : Bool) → any ≡ (any || some adds (marksOf g os es))
   unfolding some
-  adds-end any = rw e (or-none any)
+  adds-end any = rw e (sym (or-false any))
 
   pub leaves-end : (ns : List ℤ) → false ≡ some (leaves ns) (marksOf g os es)
   leaves-end ns = no-clash (leaves ns) g os es e

@@ -1,7 +1,7 @@
 -- Two tables of numbers that differ only where effects write: storing what the one has at those places makes the other equal to it. Assumes nothing.
 use mathlib.Core.Path.{_≡_, refl, sym, ap, subst, _∙_}
 use mathlib.Core.List.{List, [], _∷_, _++_, append-assoc}
-use mathlib.Core.Bool.{Bool, true, false, _||_}
+use mathlib.Core.Bool.{Bool, true, false, _||_, or-assoc}
 use Prim.Native.Nat.{ℕ, zero, suc}
 use native.Mathlib.Omega.{arith}
 use lib.Dec.{eqb}
@@ -9,19 +9,19 @@ use lib.IntN.{ℤ}
 use lib.ListN.{length, getD, set, length-set}
 use lib.Seq.{getD-set-other}
 use borrow.Author.Tests.{eqb-true, eqb-false}
+use Rattle.base_laws.proofs.Splits.{or-left, either}
 use Rattle.domain_meaning.specs.Effects.{Change, assign, raise, lower, Effect, becomes, changes}
 use Rattle.domain_meaning.specs.First.{undefined}
 use Rattle.happening_meaning.specs.State.{Grounds, numberAt, numberOf}
 use Rattle.happening_meaning.specs.Truths.{valueOf}
 use Rattle.happening_meaning.specs.Writes.{some, markOf, marksOf}
-use Rattle.happening_meaning.specs.Happening.{Point, lineOf, objectsOf, effectsOf, marks, allMarks, made, isDone, onNeeded, needed, newNumber, setNumber, changeOne, changeAll, changePoints}
+use Rattle.happening_meaning.specs.Happening.{Point, lineOf, objectsOf, effectsOf, marks, allMarks, made, isDone, onNeeded, needed, newNumber, setNumber, changeOne, changeAll, changePoints, Made}
 use Rattle.happening_meaning.specs.declared.Value.{Value}
 use Rattle.happening_meaning.specs.declared.Value.the-variants as Is
 use Rattle.happening_meaning.specs.declared.Mark.{Mark}
 use Rattle.happening_meaning.specs.declared.Mark.the-variants.{Nothing, Fact, Number}
 use Rattle.happening_meaning.specs.declared.Outcome.the-variants.{Done}
 use Rattle.happening_changes.specs.Changing.{settleOne, settleAll}
-use Rattle.happening_changes.proofs.Bounds.{either}
 
 pub settle-append : (source target : List ℤ) (ms ks : List Mark) → settleAll source target (ms ++ ks) ≡ settleAll source (settleAll source target ms) ks
 unfolding settleAll
@@ -44,23 +44,10 @@ except-same a = (refl, λ i h. refl)
 pub except-turn : (ms : List Mark) (a b : List ℤ) → Except ms a b → Except ms b a
 except-turn ms a b x = (sym (x .0), λ i h. sym (x .1 i h))
 
-or-left : (s t : Bool) → (s || t) ≡ false → s ≡ false
-or-left true t e = e
-or-left false t e = refl
-
-or-right : (s t : Bool) → (s || t) ≡ false → t ≡ false
-or-right true true e = e
-or-right true false e = refl
-or-right false t e = e
-
-pub or-assoc : (s t u : Bool) → (s || (t || u)) ≡ ((s || t) || u)
-or-assoc true t u = refl
-or-assoc false t u = refl
-
 pub some-append : (f : Mark → Bool) (ms ks : List Mark) → some f (ms ++ ks) ≡ (some f ms || some f ks)
 unfolding some
 some-append f [] ks = refl
-some-append f (m ∷ ms) ks = ap (λ (t : Bool). f m || t) (some-append f ms ks) ∙ or-assoc (f m) (some f ms) (some f ks)
+some-append f (m ∷ ms) ks = ap (λ (t : Bool). f m || t) (some-append f ms ks) ∙ sym (or-assoc (f m) (some f ms) (some f ks))
 
 pub except-more : (ms ks : List Mark) (a b : List ℤ) → Except ms a b → Except (ms ++ ks) a b
 except-more ms ks a b x = (x .0, λ i h. x .1 i (or-left (some (names i) ms) (some (names i) ks) (sym (some-append (names i) ms ks) ∙ h)))
@@ -102,8 +89,7 @@ module _ (g : Grounds) (old a : List ℤ) where
   except-change l os ms b [] h = except-more ms [] a b h
   except-change l os ms b (e ∷ es) h =
       subst (λ (ks : List Mark). Except ks a (changeAll g old l os b (e ∷ es) .numbers)) (append-assoc ms (markOf g os e ∷ []) (marksOf g os es))
-      (either (Except ((ms ++ markOf g os e ∷ []) ++ marksOf g os es) a) (isDone (changeOne g old l os b e .outcome))
-      (changeAll g old l os (changeOne g old l os b e .numbers) es) (changeOne g old l os b e)
+      (either (λ (x : Made). Except ((ms ++ markOf g os e ∷ []) ++ marksOf g os es) a (x .numbers)) (isDone (changeOne g old l os b e .outcome))
       (except-change l os (ms ++ markOf g os e ∷ []) (changeOne g old l os b e .numbers) es (except-one l os ms b e h))
       (except-more (ms ++ markOf g os e ∷ []) (marksOf g os es) a (changeOne g old l os b e .numbers) (except-one l os ms b e h)))
 
@@ -114,7 +100,7 @@ module _ (g : Grounds) (old a : List ℤ) where
       let first = changeAll g old (lineOf p) (objectsOf p) b (effectsOf p) in
       let so = except-change (lineOf p) (objectsOf p) ms b (effectsOf p) h in
       subst (λ (ks : List Mark). Except ks a (changePoints g old b (p ∷ ps) .numbers)) (append-assoc ms (marks g p) (allMarks g ps))
-      (either (Except ((ms ++ marks g p) ++ allMarks g ps) a) (isDone (first .outcome)) (changePoints g old (first .numbers) ps) first
+      (either (λ (x : Made). Except ((ms ++ marks g p) ++ allMarks g ps) a (x .numbers)) (isDone (first .outcome))
       (except-points (ms ++ marks g p) (first .numbers) ps so)
       (except-more (ms ++ marks g p) (allMarks g ps) a (first .numbers) so))
 

@@ -1,7 +1,7 @@
 -- Step 4 over the points from number j on: what is left leads to the whole. Assumes nothing.
 use mathlib.Core.Path.{_≡_, refl, sym, ap, _∙_}
 use mathlib.Core.List.{List, [], _∷_, _++_}
-use mathlib.Core.Bool.{Bool, true, false, _||_}
+use mathlib.Core.Bool.{Bool, true, false, _||_, or-false}
 use Prim.Native.Nat.{ℕ, _+_, _-_, _*_, _≤_, _<_}
 use native.Mathlib.Omega.{arith}
 use lib.IntN.{ℤ}
@@ -20,7 +20,7 @@ use Rattle.happening_marks.specs.Flat.{flatAt}
 use Rattle.happening_marks.proofs.Flatness.{flat-length, flat-parts}
 use Rattle.happening_changes.specs.Changing.{Room, settleAll, writeFact, adds}
 use Rattle.happening_changes.proofs.Bounds.{room-start, room-less, room-all}
-use Rattle.happening_changes.proofs.Passing.{each-append, or-none, some-more, none-added}
+use Rattle.happening_changes.proofs.Passing.{each-append, some-more, none-added}
 use Rattle.happening_changes.proofs.Settling.{settle-append}
 use Rattle.happening_points.specs.Placed.{pointIn}
 use Rattle.happening_points.specs.declared.tests.Placed.{Placed}
@@ -93,7 +93,7 @@ module _ (g : Grounds) (code ss ps os : List ℕ) (n j : ℕ) where
 
     pub adds-end : (any : Bool) → any ≡ (any || some adds (allMarks g (pointsIn code ss ps os (n - j) j)))
     unfolding some
-    adds-end any = rw (marks-end g (points-end code ss ps os n j z)) (or-none any)
+    adds-end any = rw (marks-end g (points-end code ss ps os n j z)) (sym (or-false any))
 
     pub settle-end : (a b : List ℤ) → b ≡ settleAll a b (allMarks g (pointsIn code ss ps os (n - j) j))
     settle-end a b = settle-none a b ∙ ap (settleAll a b) (sym (marks-end g (points-end code ss ps os n j z)))

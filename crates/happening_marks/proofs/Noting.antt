@@ -1,7 +1,7 @@
 -- What an effect's first cell says, and what is noted of the effect at a place. Assumes nothing.
 use mathlib.Core.Path.{_≡_, refl, sym, ap, _∙_}
 use mathlib.Core.List.{List, []}
-use mathlib.Core.Bool.{Bool, true, false, cond}
+use mathlib.Core.Bool.{Bool, true, false, cond, true≢false}
 use Prim.Native.Nat.{ℕ, _+_, _-_, _≤_, _<_}
 use native.Mathlib.Omega.{arith}
 use lib.Dec.{ltb}
@@ -87,9 +87,6 @@ module _ (tag : ℕ) {P : Type 0} (p : ltb tag 8 ≡ true → P) (q : ltb tag 8 
 
 -- ---- the effect at a place
 
-never : true ≡ false → ⊥
-never h = let n : _≡_ {A = ℕ} 0 1 = cc in omega arith
-
 module _ (fs os : List ℕ) (x : ℕ) (code : List ℕ) (at tag : ℕ) where
   abbrev g : Grounds
   g = groundsIn fs
@@ -114,15 +111,15 @@ module _ (fs os : List ℕ) (x : ℕ) (code : List ℕ) (at tag : ℕ) where
 
     fact-15 : ltb tag 8 ≡ false → ltb tag 12 ≡ false → ltb tag 15 ≡ true → IsFact
     unfolding shapeOf
-    fact-15 a b c = absurd (never (rw (a, b, c) at n))
+    fact-15 a b c = absurd (true≢false (rw (a, b, c) at n))
 
     fact-18 : ltb tag 8 ≡ false → ltb tag 12 ≡ false → ltb tag 15 ≡ false → ltb tag 18 ≡ true → IsFact
     unfolding shapeOf
-    fact-18 a b c d = absurd (never (rw (a, b, c, d) at n))
+    fact-18 a b c d = absurd (true≢false (rw (a, b, c, d) at n))
 
     fact-21 : ltb tag 8 ≡ false → ltb tag 12 ≡ false → ltb tag 15 ≡ false → ltb tag 18 ≡ false → IsFact
     unfolding shapeOf
-    fact-21 a b c d = absurd (never (rw (a, b, c, d) at n))
+    fact-21 a b c d = absurd (true≢false (rw (a, b, c, d) at n))
 
     is-fact : IsFact
     is-fact = by-tag tag fact-8 fact-12 fact-15 fact-18 fact-21
@@ -134,11 +131,11 @@ module _ (fs os : List ℕ) (x : ℕ) (code : List ℕ) (at tag : ℕ) where
 
     num-8 : ltb tag 8 ≡ true → IsNum
     unfolding shapeOf
-    num-8 a = absurd (never (sym (rw a at n)))
+    num-8 a = absurd (true≢false (sym (rw a at n)))
 
     num-12 : ltb tag 8 ≡ false → ltb tag 12 ≡ true → IsNum
     unfolding shapeOf
-    num-12 a b = absurd (never (sym (rw (a, b) at n)))
+    num-12 a b = absurd (true≢false (sym (rw (a, b) at n)))
 
     num-15 : ltb tag 8 ≡ false → ltb tag 12 ≡ false → ltb tag 15 ≡ true → IsNum
     unfolding shapeOf notedOf effectAt markOf rightReads exprFound

@@ -1,7 +1,7 @@
 -- The ways through a list of conditions in the code, and through the parts of a condition: what is left of them leads to what the whole reads.
 use mathlib.Core.Path.{_≡_, refl}
 use mathlib.Core.List.{List, []}
-use mathlib.Core.Bool.{Bool, true, false, _||_}
+use mathlib.Core.Bool.{Bool, true, false, _||_, or-assoc}
 use Prim.Native.Nat.{ℕ, _+_, _-_, _≤_, _<_}
 use lib.ListN.{length}
 use Rattle.domain_meaning.specs.Conditions.{Cond, none}
@@ -15,10 +15,6 @@ use Rattle.happening_values.specs.declared.reads.Found.{Found}
 use Rattle.happening_values.proofs.Groups.{conds-spent, conds-out, conds-last, conds-step}
 use Rattle.happening_values.proofs.Parts.{parts-spent, parts-out, parts-last, parts-counted, parts-passed}
 use Rattle.happening_reads.specs.Read.{condFound, condsFound}
-
-or-assoc : (a b c : Bool) → ((a || b) || c) ≡ (a || (b || c))
-or-assoc true b c = refl
-or-assoc false b c = refl
 
 -- ---- a list
 

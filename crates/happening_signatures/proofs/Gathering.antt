@@ -1,7 +1,7 @@
 -- A signature with one effect more, and the way through the effects of a point: what is left of them leads to all of them. Assumes nothing.
 use mathlib.Core.Path.{_≡_, refl, sym, ap, subst, _∙_}
 use mathlib.Core.List.{List, [], _∷_, _++_}
-use mathlib.Core.Bool.{Bool, true, false, _&&_, _||_}
+use mathlib.Core.Bool.{Bool, true, false, _&&_, _||_, false≢true}
 use Prim.Native.Nat.{ℕ, suc, _+_, _-_, _<_}
 use native.Mathlib.Omega.{arith}
 use types.Run.{OneOf, miss}
@@ -9,6 +9,7 @@ use denote.Enum.Declared.{tagOf}
 use lib.Dec.{ltb, eqb}
 use lib.ListN.{length}
 use lib.Bits.{bitOr}
+use Rattle.base_laws.proofs.Splits.{and-both}
 use Rattle.domain_meaning.specs.Terms.{Expr}
 use Rattle.domain_meaning.specs.Effects.{Effect}
 use Rattle.domain_meaning.specs.Actions.{When}
@@ -35,7 +36,7 @@ use Rattle.happening_signatures.specs.Signs.{bitOf, has, shows, showsAll
 use Rattle.happening_signatures.specs.Shown.{ExprBits, readsRight, Added, Gathered}
 use Rattle.happening_signatures.specs.declared.Signature.{Signature}
 use Rattle.happening_signatures.specs.declared.reading.Bits.{Bits}
-use Rattle.happening_signatures.proofs.Masks.{never, both-so, has-bit, has-first, has-second}
+use Rattle.happening_signatures.proofs.Masks.{has-bit, has-first, has-second}
 
 -- ---- one effect more
 
@@ -52,8 +53,8 @@ module _ (s r : Signature) (one : (x : ℕ) → has (s .one) x ≡ true → has 
   still-shown (Fact true x) h = one x h
   still-shown (Fact false x) h = other x h
   still-shown (Number true x) h =
-      let k = both-so (has (s .one) x) (has (s .other) x) h in both-of (has (r .one) x) (has (r .other) x) (one x (k .0)) (other x (k .1))
-  still-shown (Number false x) h = both-of (has (r .one) x) true (one x (both-so (has (s .one) x) true h .0)) refl
+      let k = and-both (has (s .one) x) (has (s .other) x) h in both-of (has (r .one) x) (has (r .other) x) (one x (k .0)) (other x (k .1))
+  still-shown (Number false x) h = both-of (has (r .one) x) true (one x (and-both (has (s .one) x) true h .0)) refl
 
 bit-joined : (n x : ℕ) {b : ℕ} → b ≡ bitOf x → has (bitOr n b) x ≡ true
 bit-joined n x {b} q = has-second n b x (subst (λ (i : ℕ). has i x ≡ true) (sym q) (has-bit x))
@@ -102,8 +103,8 @@ module _ (g : Grounds) (os : List ℕ) (m : Mark) (d : Decoded Expr) where
   right-none h x r = go m h r
     where
       go : (m : Mark) → OneOf (0 ∷ 1 ∷ []) (tagOf mark-type.the-type m) → readsRight g os x m (d .tree) ≡ true → has 0 x ≡ true
-      go Nothing h r = absurd (never r)
-      go (Fact a y) h r = absurd (never r)
+      go Nothing h r = absurd (false≢true r)
+      go (Fact a y) h r = absurd (false≢true r)
       go (Number a y) h r = absurd (miss (0 ∷ 1 ∷ []) 2 tt h)
 
   pub right-shown : {e : Bits} → ExprBits g os d e → (x : ℕ) → readsRight g os x m (d .tree) ≡ true → has (e .bits) x ≡ true
@@ -111,8 +112,8 @@ module _ (g : Grounds) (os : List ℕ) (m : Mark) (d : Decoded Expr) where
   right-shown b x r = b .shown x (go m r)
     where
       go : (m : Mark) → readsRight g os x m (d .tree) ≡ true → exprReads g os x (d .tree) ≡ true
-      go Nothing r = absurd (never r)
-      go (Fact a y) r = absurd (never r)
+      go Nothing r = absurd (false≢true r)
+      go (Fact a y) r = absurd (false≢true r)
       go (Number a y) r = r
 
 module _ (g : Grounds) (os : List ℕ) (x : ℕ) (code : List ℕ) (at tag : ℕ) where
@@ -230,7 +231,7 @@ module _ (g : Grounds) (os : List ℕ) (code : List ℕ) (w : When) (from reads 
     ends e =
         record {
           written = so .written s (λ k h. h) (rw e);
-          rights = λ x h. one-of (has (s .reads) x) (some (rightReads g os x) (flatAt left code w part at)) (λ k. k) (λ k. absurd (never (rw e at k))) (so .rights x h);
+          rights = λ x h. one-of (has (s .reads) x) (some (rightReads g os x) (flatAt left code w part at)) (λ k. k) (λ k. absurd (false≢true (rw e at k))) (so .rights x h);
           kept = so .kept;
         }
 

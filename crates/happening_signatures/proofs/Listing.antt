@@ -1,7 +1,7 @@
 -- The ways through a list of conditions in the code, and through the parts of a condition: each index found so far has its bit. Assumes nothing.
 use mathlib.Core.Path.{_≡_, refl, sym, ap, subst, _∙_}
 use mathlib.Core.List.{List}
-use mathlib.Core.Bool.{Bool, true, false, _||_}
+use mathlib.Core.Bool.{Bool, true, false, _||_, false≢true}
 use Prim.Native.Nat.{ℕ, _+_, _-_, _≤_, _<_}
 use lib.ListN.{length}
 use lib.Bits.{bitOr}
@@ -18,7 +18,7 @@ use Rattle.happening_reads.proofs.Lists.{Onward, onward-start, onward-none, onw
 use Rattle.happening_signatures.specs.Signs.{has}
 use Rattle.happening_signatures.specs.Shown.{CondBits, CondsBits}
 use Rattle.happening_signatures.specs.declared.reading.Bits.{Bits}
-use Rattle.happening_signatures.proofs.Masks.{never, has-either}
+use Rattle.happening_signatures.proofs.Masks.{has-either}
 use Rattle.happening_signatures.proofs.Walking.{bitsTo}
 
 -- whether an index was found so far: if so it has its bit, and so it leads to the whole (P)
@@ -34,7 +34,7 @@ module _ (g : Grounds) (os : List ℕ) (f : ℕ → Decoded Cond) (code : List �
   Along bits i left = (numeric : Bool) (x : ℕ) → Sought bits x (λ u. Onward g os numeric x f code at u i left)
 
   pub along-start : Along 0 at (length code)
-  along-start numeric x = record { found = false; shown = λ h. absurd (never h); leads = onward-start g os numeric x f code at }
+  along-start numeric x = record { found = false; shown = λ h. absurd (false≢true h); leads = onward-start g os numeric x f code at }
 
   module _ (i left : ℕ) {bits : ℕ} (so : Along bits i left) where
     ends : (n : ℕ)
@@ -75,7 +75,7 @@ module _ (g : Grounds) (os : List ℕ) (w : When) (f : ℕ → Decoded Cond) (co
   Through bits i left = (numeric : Bool) (x : ℕ) → Sought bits x (λ u. Onwards g os numeric x w f code at u i left)
 
   pub through-start : Through 0 at (length code)
-  through-start numeric x = record { found = false; shown = λ h. absurd (never h); leads = onwards-start g os numeric x w f code at }
+  through-start numeric x = record { found = false; shown = λ h. absurd (false≢true h); leads = onwards-start g os numeric x w f code at }
 
   module _ (i left : ℕ) {bits : ℕ} (so : Through bits i left) where
     abbrev Shown : Type 0

@@ -1,6 +1,6 @@
 -- Sets of indexes as bits: an index is in its own bit, a set is in what it is joined to, and what is in two sets is in what they share. Assumes nothing.
 use mathlib.Core.Path.{_≡_, refl, sym, ap, ap₂, subst, _∙_}
-use mathlib.Core.Bool.{Bool, true, false, not, _&&_, _||_}
+use mathlib.Core.Bool.{Bool, true, false, not, _||_}
 use Prim.Native.Nat.{ℕ, zero, suc, _*_, _/_, _%_, _^_, _≤_, _<_}
 use native.Mathlib.Nat.{one-mul, mod-lt, zero-lt-suc}
 use native.Mathlib.Omega.{arith}
@@ -12,17 +12,6 @@ use Rattle.happening_signatures.specs.Signs.{bitOf, has, overlap, meetin
 use Rattle.happening_signatures.specs.declared.Signature.{Signature}
 
 -- ---- tests
-
-pub never : false ≡ true → ⊥
-never h = let n : _≡_ {A = ℕ} 0 1 = cc in omega arith
-
-pub not-so : (b : Bool) → (b ≡ true → ⊥) → b ≡ false
-not-so true n = absurd (n refl)
-not-so false n = refl
-
-pub both-so : (a b : Bool) → (a && b) ≡ true → (a ≡ true) × (b ≡ true)
-both-so true b h = (refl, h)
-both-so false b h = absurd (never h)
 
 -- ---- one bit
 

@@ -1,7 +1,7 @@
 -- The ways through expressions and single conditions in the code, each with the bits of what it reads. Assumes nothing.
 use mathlib.Core.Path.{_≡_, refl, ap, subst, _∙_}
 use mathlib.Core.List.{List}
-use mathlib.Core.Bool.{Bool, true, false, cond, _||_}
+use mathlib.Core.Bool.{Bool, true, false, cond, _||_, false≢true}
 use Prim.Native.Nat.{ℕ, _+_}
 use lib.Dec.{eqb}
 use lib.IntN.{ℤ}
@@ -20,7 +20,7 @@ use Rattle.happening_reads.proofs.Conditions.{no}
 use Rattle.happening_signatures.specs.Signs.{bitOf, has}
 use Rattle.happening_signatures.specs.Shown.{ExprBits, CondBits, CondsBits}
 use Rattle.happening_signatures.specs.declared.reading.Bits.{Bits}
-use Rattle.happening_signatures.proofs.Masks.{never, bit-shows, has-either}
+use Rattle.happening_signatures.proofs.Masks.{bit-shows, has-either}
 
 abbrev pub bitsTo : ℕ → ℕ → Bits
 bitsTo b n = record { bits = b; next = n }
@@ -37,7 +37,7 @@ module _ (g : Grounds) (os : List ℕ) where
   module _ {d : Decoded Expr} where
     pub bits-none : {z : ℤ} {n : ℕ} {r : Bits} → d ≡ decoded (number z) n → r ≡ bitsTo 0 n → ExprBits g os d r
     unfolding exprReads
-    bits-none e f = rw (e, f) (record { after = refl; shown = λ x h. absurd (never h) })
+    bits-none e f = rw (e, f) (record { after = refl; shown = λ x h. absurd (false≢true h) })
 
     pub bits-value : {r : Ref} {n i b : ℕ} → d ≡ decoded (value r) n → i ≡ numberOf g os r → b ≡ bitOf i → ExprBits g os d (bitsTo b n)
     unfolding exprReads
@@ -60,13 +60,13 @@ module _ (g : Grounds) (os : List ℕ) where
 -- ---- single conditions
 
 fact-shows : (numeric : Bool) (i x : ℕ) → cond numeric false (eqb i x) ≡ true → has (bitOf i) x ≡ true
-fact-shows true i x h = absurd (never h)
+fact-shows true i x h = absurd (false≢true h)
 fact-shows false i x h = bit-shows i x h
 
 sides-show : (numeric u v : Bool) (a b x : ℕ) → (u ≡ true → has a x ≡ true) → (v ≡ true → has b x ≡ true) → cond numeric (u || v) false ≡ true
     → has (bitOr a b) x ≡ true
 sides-show true u v a b x f k h = has-either u v a b x f k h
-sides-show false u v a b x f k h = absurd (never h)
+sides-show false u v a b x f k h = absurd (false≢true h)
 
 module _ (g : Grounds) (os : List ℕ) where
   module _ (code : List ℕ) (at : ℕ) where
@@ -92,7 +92,7 @@ module _ (g : Grounds) (os : List ℕ) where
         rw f
         (record {
           after = ap (λ (u : Found). u .next) (e true 0);
-          shown = λ numeric x h. absurd (never (ap (λ (u : Found). u .found) (e numeric x) ∙ h));
+          shown = λ numeric x h. absurd (false≢true (ap (λ (u : Found). u .found) (e numeric x) ∙ h));
         })
 
     -- it is read as another one is
@@ -118,7 +118,7 @@ module _ (g : Grounds) (os : List ℕ) where
 module _ (g : Grounds) (os : List ℕ) {l : Lasting} where
   pub rule-free : l ≡ moment → (x : ℕ) → ruleReads g os x l ≡ true → has 0 x ≡ true
   unfolding ruleReads
-  rule-free e x h = absurd (never (rw e at h))
+  rule-free e x h = absurd (false≢true (rw e at h))
 
   pub rule-shown : (d : Decoded Expr) {r : Bits} → l ≡ rule (d .tree) → ExprBits g os d r → (x : ℕ) → ruleReads g os x l ≡ true → has (r .bits) x ≡ true
   unfolding ruleReads

@@ -12,6 +12,8 @@ use lib.ListN.{length, length-map, getD}
 use lib.Seq.{sets}
 use types.Run.{OneOf}
 use denote.Enum.Declared.{tagOf}
+use Rattle.plan_meaning.proofs.Marks.{given-mark}
+use Rattle.domain_meaning.proofs.Given.{Given, reads, refuses, given-then, given-either, given-number, given-end, given-got}
 use Rattle.text_tokens.specs.Tokens.{planTokenAt}
 use Rattle.text_tokens.specs.declared.tokens.Token.{Token}
 use Rattle.text_tokens.specs.declared.tokens.Token.the-variants as T
@@ -28,7 +30,6 @@ use Rattle.domain_due.specs.declared.Parsed.the-variants.{Done, Refused}
 use Rattle.domain_due.proofs.Dues.{not-end, answer-done, answer-refused, never-done}
 use Rattle.domain_stored_meaning.specs.Decode.{actionFrom, actionAt, lastingAt}
 use Rattle.domain_stored_meaning.proofs.Actions.{numbered}
-use Rattle.domain_stored_meaning.proofs.Giving.{given-by}
 use Rattle.domain_stored_meaning.specs.Entries.{signedIn}
 use Rattle.domain_terms.specs.declared.scope.Counts.{Counts}
 use Rattle.plan_meaning.specs.Plan.{Span, lasting, Step}
@@ -42,7 +43,6 @@ use Rattle.domain_rows.proofs.Rows.{length-padded}
 use Rattle.plan_meaning.proofs.Stored.{duration-back}
 use Rattle.plan_meaning.proofs.Walk.{ReadStep}
 use Rattle.plan_meaning.proofs.Steps.{step-there}
-use Rattle.plan_meaning.proofs.Given.{Given, reads, refuses, given-then, given-either, given-number, given-mark, given-end}
 use Rattle.plan_lines.specs.Knowing.{knownIn, lastsOf}
 use Rattle.plan_lines.specs.Reading.{amountAnswer, spanAnswer, namedAction, lastingRead, Listed}
 use Rattle.plan_lines.specs.Steps.{refusedLine, Stepped, Lined}
@@ -248,7 +248,7 @@ module _ (s tables : List ℕ) (c : Counts) (heads : List ℕ) (acting : ℕ) (c
               rw act-read (stored n start d i t (length s), refl, lies, (below, small, short))
             where
               count : length (taken .objects) ≤ 4
-              count = omega (arith, given-by (objects-count s known wants e) (taken .is), arity-signed heads acting i)
+              count = omega (arith, given-got (objects-count s known wants e) (taken .is), arity-signed heads acting i)
 
               lies : stepIn (stored n start d i t (length s)) ≡ made n start i s (taken .objects) (spanIn d)
               lies =

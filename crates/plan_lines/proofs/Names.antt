@@ -10,10 +10,10 @@ use borrow.Author.Tests.{lt-ltb, le-ltb, ne-eqb}
 use lib.Dec.{ltb, eqb}
 use lib.ListN.{length, getD, take, drop, length-take, length-drop, List·getD-eq-default}
 use lib.Seq.{getD-take, getD-drop, drop-drop}
+use Rattle.base_laws.proofs.Lists.{at-cons}
 use Rattle.text_tokens.specs.Runs.{part}
 use Rattle.text_words.specs.Names as Names
 use Rattle.text_words.specs.Spelling.{placeFrom}
-use Rattle.text_words.proofs.Steps.{at-cons}
 use Rattle.domain_meaning.specs.Tables.{Entry, entry, nameOf, Table, entryAt, typeOf, wantedOf, lookup, isBelow}
 use Rattle.domain_rows.specs.Held.{byteAt}
 use Rattle.domain_rows.proofs.Rows.{byte-is}

@@ -26,7 +26,7 @@ use Rattle.domain_due.specs.declared.Parsed.the-variants.{Done, Refused}
 use Rattle.domain_due.proofs.Dues.{not-close, never-done, answer-refused}
 use Rattle.domain_meaning.specs.Indexes.{padded}
 use Rattle.domain_rows.proofs.Rows.{sets-padded}
-use Rattle.domain_stored_meaning.proofs.Giving.{Gives, gives, refuses, then-gives, behind-gives, close-gives}
+use Rattle.domain_meaning.proofs.Given.{Gives, reads, refuses, behind, given-then, close-ahead}
 use Rattle.domain_terms.specs.Cells.{Wrote}
 use Rattle.domain_terms.proofs.Kept.{found-below}
 use Rattle.domain_terms.proofs.Wanted.{wrote-refused}
@@ -163,10 +163,10 @@ module _ (s : List ℕ) (k : Known) (at : ℕ) where
 -- as many objects as are wanted
 pub objects-count : (s : List ℕ) (k : Known) (ws : List ℕ) (at : ℕ) → Gives (λ os. length os ≡ length ws) (objectsTo s k ws at)
 unfolding objectsTo
-objects-count s k [] at = close-gives (planTokenAt s at) _ _ at (λ p. gives refl) (behind-gives (argument s k at) _ (λ g n. refuses))
+objects-count s k [] at = close-ahead (planTokenAt s at) _ _ at (λ p. reads refl) (behind (argument s k at) _ (λ g n. refuses tt))
 objects-count s k (w ∷ ws) at =
-    close-gives (planTokenAt s at) _ _ at (λ p. refuses)
-    (behind-gives (argument s k at) _ (λ g n. behind-gives (fits k w g n) _ (λ i m. then-gives _ (objects-count s k ws m) (λ is e h. gives (ap suc h)))))
+    close-ahead (planTokenAt s at) _ _ at (λ p. refuses tt)
+    (behind (argument s k at) _ (λ g n. behind (fits k w g n) _ (λ i m. given-then _ (objects-count s k ws m) (λ is e h. reads (ap suc h)))))
 
 -- ---- the loop: what the definition says of the rest, it says of the whole
 

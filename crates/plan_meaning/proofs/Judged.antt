@@ -1,6 +1,6 @@
 -- The machine, fed a text that may go on, is halted exactly by the first refusal of what is judged so far. Assumes nothing.
 use Prim.Native.Nat.{ℕ, suc, _≤_, _<_}
-use mathlib.Core.Bool.{Bool, true, false, cond, _||_}
+use mathlib.Core.Bool.{Bool, true, false, cond, _||_, or-true}
 use mathlib.Core.List.{List, [], _∷_, _++_, append-nil}
 use mathlib.Core.Option.{Option, some, none}
 use mathlib.Core.Path.{_≡_, refl, sym, ap, _∙_}
@@ -22,10 +22,6 @@ stopOf (waits r s q) = none
 -- the refusal that a machine has met
 abbrev pub stopIn : {S A W E : Type 0} → Feed S A W E → Option E
 stopIn (reading m n part) = stopOf m
-
-or-true : (b : Bool) → (b || true) ≡ true
-or-true true = refl
-or-true false = refl
 
 -- the refusal of a text
 abbrev pub refusalIn : {S W E : Type 0} → Result S W E → Option E

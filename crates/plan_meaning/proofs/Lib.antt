@@ -7,7 +7,7 @@ pub mod Text
 pub mod Judged
 pub mod Stopping
 pub mod Listed
-pub mod Given
+pub mod Marks
 pub mod Tokens
 pub mod Walk
 pub mod Steps

@@ -6,8 +6,8 @@ use mathlib.Core.Path.{_≡_, refl, sym, ap, _∙_}
 use native.Mathlib.Omega.{arith}
 use borrow.Author.Tests.{leb-true, le-leb, eqb-true}
 use lib.Dec.{eqb, leb}
+use Rattle.base_laws.proofs.Splits.{and-left, and-right}
 use Rattle.text_words.specs.Bytes.{isOneOf}
-use Rattle.text_words.proofs.Ranges.{both-0, both-1}
 use Rattle.plan_meaning.specs.Listed.{planRows, listedLine, listedColumn, listedRow, listedInPlan}
 
 -- ---- rows
@@ -34,10 +34,10 @@ allBelow m (n ∷ ns) = leb n m && allBelow m ns
 
 one-below : (m k : ℕ) (ns : List ℕ) → allBelow m ns ≡ true → isOneOf k ns ≡ true → k ≤ m
 one-below m k [] a h = absurd (false≢true h)
-one-below m k (n ∷ ns) a h = go (eqb k n) refl (one-below m k ns (both-1 (leb n m) (allBelow m ns) a))
+one-below m k (n ∷ ns) a h = go (eqb k n) refl (one-below m k ns (and-right (leb n m) (allBelow m ns) a))
   where
     go : (b : Bool) → eqb k n ≡ b → (isOneOf k ns ≡ true → k ≤ m) → k ≤ m
-    go true e ih = omega (arith, eqb-true k n e, leb-true n m (both-0 (leb n m) (allBelow m ns) a))
+    go true e ih = omega (arith, eqb-true k n e, leb-true n m (and-left (leb n m) (allBelow m ns) a))
     go false e ih = ih (rw e at h)
 
 row-small : (k c : ℕ) → listedRow k c ≡ true → k ≤ 18
@@ -56,7 +56,7 @@ line-of l lo hi = rw (le-leb 1 l lo, le-leb l 1000000 hi)
 
 pub line-parts : (l : ℕ) → listedLine l ≡ true → (1 ≤ l) × (l ≤ 1000000)
 unfolding listedLine
-line-parts l h = (leb-true 1 l (both-0 (leb 1 l) (leb l 1000000) h), leb-true l 1000000 (both-1 (leb 1 l) (leb l 1000000) h))
+line-parts l h = (leb-true 1 l (and-left (leb 1 l) (leb l 1000000) h), leb-true l 1000000 (and-right (leb 1 l) (leb l 1000000) h))
 
 column-of : (c : ℕ) → 1 ≤ c → c ≤ 257 → listedColumn c ≡ true
 unfolding listedColumn
@@ -64,7 +64,7 @@ column-of c lo hi = rw (le-leb 1 c lo, le-leb c 257 hi)
 
 column-small : (c : ℕ) → listedColumn c ≡ true → c ≤ 257
 unfolding listedColumn
-column-small c h = leb-true c 257 (both-1 (leb 1 c) (leb c 257) h)
+column-small c h = leb-true c 257 (and-right (leb 1 c) (leb c 257) h)
 
 -- ---- refusals
 
@@ -92,18 +92,18 @@ listed-small k l c h = go (eqb k 15) refl
   where
     beyond : (eqb l 1000001 && eqb c 1) ≡ true → k ≡ 15 → Small k l c
     beyond i e =
-        let a = eqb-true l 1000001 (both-0 (eqb l 1000001) (eqb c 1) i) in
-        let b = eqb-true c 1 (both-1 (eqb l 1000001) (eqb c 1) i) in
+        let a = eqb-true l 1000001 (and-left (eqb l 1000001) (eqb c 1) i) in
+        let b = eqb-true c 1 (and-right (eqb l 1000001) (eqb c 1) i) in
         record { number = omega (arith, e); line = omega (arith, a); column = omega (arith, b) }
 
     within : (listedLine l && listedColumn c && listedRow k c) ≡ true → Small k l c
     within i =
-        let a = both-0 (listedLine l && listedColumn c) (listedRow k c) i in
-        let b = line-parts l (both-0 (listedLine l) (listedColumn c) a) .1 in
+        let a = and-left (listedLine l && listedColumn c) (listedRow k c) i in
+        let b = line-parts l (and-left (listedLine l) (listedColumn c) a) .1 in
         record {
-          number = row-small k c (both-1 (listedLine l && listedColumn c) (listedRow k c) i);
+          number = row-small k c (and-right (listedLine l && listedColumn c) (listedRow k c) i);
           line = omega (arith, b);
-          column = column-small c (both-1 (listedLine l) (listedColumn c) a);
+          column = column-small c (and-right (listedLine l) (listedColumn c) a);
         }
 
     go : (b : Bool) → eqb k 15 ≡ b → Small k l c

@@ -6,13 +6,13 @@ use mathlib.Core.Option.{Option, some, none}
 use Prim.Native.Nat.{ℕ, _+_, _≤_, _<_, min}
 use native.Mathlib.Omega.{arith}
 use lib.ListN.{length}
+use Rattle.domain_meaning.proofs.Given.{given-refused}
 use Rattle.domain_meaning.specs.Read.{Read, got, refused}
 use Rattle.plan_meaning.specs.Plan.{Step, refusal}
 use Rattle.plan_meaning.specs.Promised.{Act}
 use Rattle.plan_meaning.specs.Lines.{Known, Refused, refusedAt, lineAt, answerOf, longOf, reader}
 use Rattle.plan_meaning.specs.Listed.{listedRow}
 use Rattle.plan_meaning.proofs.Listed.{row-14}
-use Rattle.plan_meaning.proofs.Given.{given-refused}
 use Rattle.plan_meaning.proofs.Walk.{Placed, line-walk}
 
 module _ (s : List ℕ) (k : Known) (n before at : ℕ) where

@@ -5,12 +5,12 @@ use mathlib.Core.Option.{Option, some, none}
 use Prim.Native.Nat.{ℕ, _+_}
 use native.Mathlib.Omega.{arith}
 use lib.ListN.{length, getD}
+use Rattle.domain_meaning.proofs.Given.{given-got}
 use Rattle.domain_meaning.specs.Read.{Read, got, refused}
 use Rattle.plan_meaning.specs.Plan.{Step, step}
 use Rattle.plan_meaning.specs.Promised.{Act}
 use Rattle.plan_meaning.specs.Lines.{Known, lineAt, answerOf, reader}
 use Rattle.plan_meaning.specs.Stored.{stepIn, stepOf}
-use Rattle.plan_meaning.proofs.Given.{given-got}
 use Rattle.plan_meaning.proofs.Walk.{ReadStep, line-walk}
 
 pub line-steps : (s : List ℕ) (k : Known) (n before at : ℕ) (x : Step Act) (e : ℕ) → lineAt s k n before at ≡ got (some x) e → ReadStep s k n before x

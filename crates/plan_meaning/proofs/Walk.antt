@@ -9,6 +9,8 @@ use lib.Dec.{eqb, ltb}
 use lib.IntN.{natAbs}
 use lib.ListN.{length, length-map}
 use borrow.Author.Tests.{ltb-false, ne-eqb, eqb-false}
+use Rattle.plan_meaning.proofs.Marks.{given-mark}
+use Rattle.domain_meaning.proofs.Given.{Given, reads, refuses, given-then, given-either, given-word, given-number, given-open, given-close, given-end}
 use Rattle.text_words.specs.Bytes.{isOneOf}
 use Rattle.text_words.specs.declared.spelling.Place.{Place}
 use Rattle.text_words.specs.declared.spelling.Place.the-variants as F
@@ -28,7 +30,6 @@ use Rattle.plan_meaning.specs.Lines.{Known, declarations, mark, opening,
 use Rattle.plan_meaning.specs.Stored.{spanIn}
 use Rattle.plan_meaning.specs.Listed.{planRows, listedRow}
 use Rattle.plan_meaning.proofs.Listed.{row-of}
-use Rattle.plan_meaning.proofs.Given.{Given, reads, refuses, given-then, given-either, given-word, given-number, given-open, given-close, given-mark, given-end}
 use Rattle.plan_meaning.proofs.Tokens.{Told, token-told}
 
 -- the step that line n gives, s its bytes and `before` the previous step's start

@@ -2,10 +2,11 @@
 use Prim.Native.Nat.{ℕ, suc, _+_, _-_, _*_, _≤_, _<_}
 use mathlib.Core.Bool.{Bool, true, false, _&&_}
 use mathlib.Core.List.{List, [], _∷_, map}
-use mathlib.Core.Path.{_≡_, refl, sym, ap, _∙_}
+use mathlib.Core.Path.{_≡_, refl, sym, _∙_}
 use native.Mathlib.Omega.{arith}
 use lib.Dec.{eqb, ltb}
 use lib.ListN.{length, take, getD, length-map}
+use Rattle.base_laws.proofs.Splits.{and-left, and-right}
 use Rattle.domain_meaning.specs.Tables.{Table}
 use Rattle.domain_meaning.specs.Actions.{Action}
 use Rattle.domain_stored_meaning.specs.Decode.{actionsAt}
@@ -13,7 +14,6 @@ use Rattle.happening_points.specs.Placed as Code
 use Rattle.happening_instants.specs.Given.{whoIn, placedIn, pointsIn, stepsIn}
 use Rattle.happening_instants.proofs.Places.{points-end, points-step, steps-end, steps-step}
 use Rattle.happening_instants.proofs.Rows as Given
-use Rattle.text_words.proofs.Ranges.{both-0, both-1}
 use Rattle.plan_meaning.specs.Lists.{keep}
 use Rattle.plan_meaning.specs.Plan.{time, at}
 use Rattle.plan_meaning.specs.Plan as Plan
@@ -102,12 +102,12 @@ module _ (code starts : List ℕ) (es : Table) (few : length es ≤ 32) where
     module _ (s : Slot) (ss : List Slot) (h : soundAll (length es) (s ∷ ss) ≡ true) where
       rest-sound : soundAll (length es) ss ≡ true
       unfolding soundAll
-      rest-sound = both-1 (soundStep (length es) (s .step)) (soundAll (length es) ss) h
+      rest-sound = and-right (soundStep (length es) (s .step)) (soundAll (length es) ss) h
 
       first-step : (w : Slot → ℕ) (j : ℕ) → Laid rows objects j (map (rowAt w) (s ∷ ss)) → Code.stepIn code (placedIn starts rows objects j) ≡ stepFor actions (stepOf s)
       unfolding soundAll Laid
       first-step w j r =
-          let a = sound-action (length es) (s .step) (both-0 (soundStep (length es) (s .step)) (soundAll (length es) ss) h) in
+          let a = sound-action (length es) (s .step) (and-left (soundStep (length es) (s .step)) (soundAll (length es) ss) h) in
           row-step (s .step) j a (r .0) (r .1) (r .3) (r .4)
 
     first-points : (n j : ℕ)

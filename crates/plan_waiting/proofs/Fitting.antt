@@ -9,7 +9,7 @@ use borrow.Author.Tests.{le-leb}
 use lib.Dec.{leb}
 use lib.ListN.{length, take, getD}
 use lib.Seq.{take-suc, getD-take, length-take-le}
-use Rattle.text_words.proofs.Ranges.{both-0, both-1}
+use Rattle.base_laws.proofs.Splits.{and-left, and-right}
 use Rattle.plan_meaning.specs.Listed.{listedLine}
 use Rattle.plan_meaning.specs.declared.Step.{Step}
 use Rattle.plan_meaning.specs.declared.Slot.{Slot}
@@ -25,15 +25,15 @@ module _ (x : Step) where
 
   pub listed-step-line : listedStep x ≡ true → listedLine (x .line) ≡ true
   unfolding listedStep
-  listed-step-line h = both-0 (listedLine (x .line)) (leb (x .width) 256) h
+  listed-step-line h = and-left (listedLine (x .line)) (leb (x .width) 256) h
 
 module _ (n : ℕ) where
   module _ (x : Step) where
     pub fits-sound : stepFits n x ≡ true → soundStep n x ≡ true
-    fits-sound h = both-0 (soundStep n x) (listedStep x) h
+    fits-sound h = and-left (soundStep n x) (listedStep x) h
 
     pub fits-listed : stepFits n x ≡ true → listedStep x ≡ true
-    fits-listed h = both-1 (soundStep n x) (listedStep x) h
+    fits-listed h = and-right (soundStep n x) (listedStep x) h
 
     pub fits-of : soundStep n x ≡ true → listedStep x ≡ true → stepFits n x ≡ true
     fits-of s l = rw (s, l)
@@ -43,11 +43,11 @@ module _ (n : ℕ) where
   module _ (s : Slot) (ss : List Slot) where
     pub fit-first : slotsFit n (s ∷ ss) ≡ true → stepFits n (s .step) ≡ true
     unfolding slotsFit
-    fit-first h = both-0 (stepFits n (s .step)) (slotsFit n ss) h
+    fit-first h = and-left (stepFits n (s .step)) (slotsFit n ss) h
 
     pub fit-rest : slotsFit n (s ∷ ss) ≡ true → slotsFit n ss ≡ true
     unfolding slotsFit
-    fit-rest h = both-1 (stepFits n (s .step)) (slotsFit n ss) h
+    fit-rest h = and-right (stepFits n (s .step)) (slotsFit n ss) h
 
     pub fit-more : stepFits n (s .step) ≡ true → slotsFit n ss ≡ true → slotsFit n (s ∷ ss) ≡ true
     unfolding slotsFit

@@ -8,8 +8,7 @@ use borrow.Author.Tests.{ltb-true, lt-ltb}
 use lib.Dec.{ltb}
 use lib.ListN.{length, take, getD}
 use lib.Seq.{getD-take, length-take-le}
-use Rattle.text_words.proofs.Ranges.{both-0, both-1}
-use Rattle.text_tokens.proofs.Values.{both}
+use Rattle.base_laws.proofs.Splits.{and-left, and-right, and-three}
 use Rattle.plan_meaning.specs.Lists.{keep}
 use Rattle.plan_meaning.specs.declared.Step.{Step}
 use Rattle.plan_meaning.specs.declared.Slot.{Slot}
@@ -21,7 +20,7 @@ use Rattle.plan_waiting.specs.Waiting.{noSlot, soundStep, soundAll, Time
 module _ (n : ℕ) (x : Step) where
   sound-parts : soundStep n x ≡ true → (ltb (x .action) n ≡ true) × (ltb (x .start) 1000000000000 ≡ true) × (ltb (x .duration) 1000000000000 ≡ true)
   unfolding soundStep
-  sound-parts h = both (ltb (x .action) n) (ltb (x .start) 1000000000000) (ltb (x .duration) 1000000000000) h
+  sound-parts h = and-three (ltb (x .action) n) (ltb (x .start) 1000000000000) (ltb (x .duration) 1000000000000) h
 
   pub sound-action : soundStep n x ≡ true → x .action < n
   sound-action h = ltb-true (x .action) n (sound-parts h .0)
@@ -41,15 +40,15 @@ module _ (n : ℕ) (x : Step) where
 pub sound-at : (n i : ℕ) (l : List Slot) → soundAll n l ≡ true → i < length l → soundStep n (getD l i noSlot .step) ≡ true
 unfolding soundAll
 sound-at n zero [] h k = absurd (let y : ⊥ = omega arith in y)
-sound-at n zero (s ∷ ss) h k = both-0 (soundStep n (s .step)) (soundAll n ss) h
+sound-at n zero (s ∷ ss) h k = and-left (soundStep n (s .step)) (soundAll n ss) h
 sound-at n (suc i) [] h k = absurd (let y : ⊥ = omega arith in y)
-sound-at n (suc i) (s ∷ ss) h k = sound-at n i ss (both-1 (soundStep n (s .step)) (soundAll n ss) h) (omega arith)
+sound-at n (suc i) (s ∷ ss) h k = sound-at n i ss (and-right (soundStep n (s .step)) (soundAll n ss) h) (omega arith)
 
 module _ (n : ℕ) where
   pub sound-append : (l m : List Slot) → soundAll n l ≡ true → soundAll n m ≡ true → soundAll n (l ++ m) ≡ true
   unfolding soundAll
   sound-append [] m h k = k
-  sound-append (s ∷ ss) m h k = rw (both-0 (soundStep n (s .step)) (soundAll n ss) h, sound-append ss m (both-1 (soundStep n (s .step)) (soundAll n ss) h) k)
+  sound-append (s ∷ ss) m h k = rw (and-left (soundStep n (s .step)) (soundAll n ss) h, sound-append ss m (and-right (soundStep n (s .step)) (soundAll n ss) h) k)
 
   pub sound-snoc : (l : List Slot) (s : Slot) → soundAll n l ≡ true → soundStep n (s .step) ≡ true → soundAll n (l ++ s ∷ []) ≡ true
   unfolding soundAll
@@ -58,10 +57,10 @@ module _ (n : ℕ) where
   pub sound-keep : (f : Slot → Bool) (l : List Slot) → soundAll n l ≡ true → soundAll n (keep f l) ≡ true
   unfolding soundAll
   sound-keep f [] h = refl
-  sound-keep f (s ∷ ss) h = go (f s) refl (sound-keep f ss (both-1 (soundStep n (s .step)) (soundAll n ss) h))
+  sound-keep f (s ∷ ss) h = go (f s) refl (sound-keep f ss (and-right (soundStep n (s .step)) (soundAll n ss) h))
     where
       go : (b : Bool) → f s ≡ b → soundAll n (keep f ss) ≡ true → soundAll n (keep f (s ∷ ss)) ≡ true
-      go true e ih = rw (e, both-0 (soundStep n (s .step)) (soundAll n ss) h, ih)
+      go true e ih = rw (e, and-left (soundStep n (s .step)) (soundAll n ss) h, ih)
       go false e ih = rw (e, ih)
 
 -- ---- points by their places

@@ -1,19 +1,16 @@
 -- Definitions over a text, a step at a place of it: counting up to an LF, and what is quoted of a line. Assumes nothing.
 use mathlib.Core.Path.{_≡_, ap}
-use mathlib.Core.List.{List, _∷_}
-use Prim.Native.Nat.{ℕ, suc, _+_, _-_, _≤_, _<_}
+use mathlib.Core.List.{List}
+use Prim.Native.Nat.{ℕ, suc, _+_, _-_, _*_, _≤_, _<_}
 use native.Mathlib.Nat.{sub-zero}
 use native.Mathlib.Omega.{arith}
 use native.Mathlib.Numerals.{add-one}
 use lib.ListN.{length, getD, take, drop, length-take, length-drop, drop-of-length-le}
-use lib.Seq.{drop-cons, take-all}
-use borrow.Author.Tests.{eq-eqb, ne-eqb, le-leb, lt-leb}
+use lib.Seq.{take-all}
+use borrow.Author.Tests.{eq-eqb, ne-eqb, le-leb, lt-leb, lt-ltb, le-ltb}
+use Rattle.base_laws.proofs.Lists.{at-cons}
 use Rattle.text_tokens.specs.Runs.{part}
 use Rattle.program_quotes.specs.Location.{lineEnds, behind, ahead, fromAt, toAt}
-
--- the bytes from p on: one byte, and those from p + 1 on
-pub at-cons : (s : List ℕ) (p : ℕ) → p < length s → drop p s ≡ getD s p 0 ∷ drop (p + 1) s
-at-cons s p h = rw (add-one, drop-cons s p 0)
 
 pub ends-here : (s : List ℕ) (p : ℕ) → p < length s → getD s p 0 ≡ 10 → lineEnds (drop p s) ≡ suc (lineEnds (drop (p + 1) s))
 unfolding lineEnds

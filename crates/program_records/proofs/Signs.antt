@@ -1,7 +1,7 @@
 -- A defined number below 0, turned round. Assumes nothing.
 use mathlib.Core.Path.{_≡_, sym, _∙_}
-use mathlib.Core.Bool.{Bool, true, false}
-use Prim.Native.Nat.{ℕ, _<_}
+use mathlib.Core.Bool.{true, false≢true}
+use Prim.Native.Nat.{_<_}
 use native.Mathlib.Omega.{arith}
 use native.Mathlib.Nat.{lt-of-lt-of-le, lt-of-le-of-lt}
 use lib.Dec.{T, lit≤, lit<}
@@ -12,11 +12,8 @@ use mir.Val.{Fits, SFits}
 use borrow.Author.Tests.{ltb-true, le-ltb}
 use Rattle.domain_literals.proofs.Cells.{turned-mag, turned-positive, turned-abs, abs-most}
 
-clash : {A : Type 0} → _≡_ {A = Bool} false true → A
-clash e = absurd (let z : _≡_ {A = ℕ} 0 1 = cc in let y : ⊥ = omega arith in y)
-
 near : (z : ℤ) → ltZ (negsuc 1000000000000) z ≡ true → ltZ z (pos 0) ≡ true → mag z < 1000000000000
-near (pos n) d h = clash (sym (le-ltb n 0 (omega arith)) ∙ h)
+near (pos n) d h = absurd (false≢true (sym (le-ltb n 0 (omega arith)) ∙ h))
 near (negsuc n) d h = ltb-true n 1000000000000 d
 
 pub turned-fits : (z : ℤ) → ltZ (negsuc 1000000000000) z ≡ true → ltZ z (pos 0) ≡ true → SFits w64 (pos 0 -ℤ z)

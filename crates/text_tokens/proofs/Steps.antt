@@ -7,8 +7,8 @@ use native.Mathlib.Nat.{add-zero, le-refl}
 use native.Mathlib.Omega.{arith}
 use lib.ListN.{length, getD, drop, length-drop, drop-of-length-le}
 use lib.Seq.{take-all, take-nil}
+use Rattle.base_laws.proofs.Lists.{at-cons}
 use Rattle.text_words.specs.Bytes.{kindOf, isDigit, inRun}
-use Rattle.text_words.proofs.Steps.{at-cons}
 use Rattle.text_tokens.specs.Runs.{gapStep, onGap, gap, gapEnd, run, runEnd, part}
 use Rattle.text_tokens.specs.Numbers.{leading, digitsEnd}
 use Rattle.text_tokens.specs.declared.runs.Gap.{Gap}

@@ -9,6 +9,8 @@ use lib.ListN.{length, getD, take, drop, length-take, length-drop}
 use lib.Dec.{eqb, leb, ltb}
 use borrow.Author.Tests.{leb-true}
 use lib.IntN.{ℤ}
+use Rattle.base_laws.proofs.Splits.{and-three}
+use Rattle.base_laws.proofs.Numerals.{ten-to}
 use Rattle.text_words.specs.Bytes.{kindOf, onStart, between}
 use Rattle.text_words.specs.Fixed.{isListed}
 use Rattle.text_words.specs.declared.bytes.Kind.{Kind}
@@ -28,7 +30,7 @@ use Rattle.text_tokens.specs.declared.tokens.Word.the-variants as W
 use Rattle.text_tokens.specs.declared.tokens.Token.{Token}
 use Rattle.text_tokens.specs.declared.tokens.Token.the-variants as T
 use Rattle.text_tokens.proofs.Steps.{leading-most}
-use Rattle.text_tokens.proofs.Values.{ten-to, decimal-most, leading-front, scaled, both, number-small}
+use Rattle.text_tokens.proofs.Values.{decimal-most, leading-front, scaled, number-small}
 
 -- ---- a number's token has the value of its bytes
 
@@ -122,7 +124,7 @@ fraction-extent n k whole ds m one long w h = go (between 1 (length ds) 3 && leb
         → cond t (N.Thousandths (whole * 1000 + decimal 0 ds * scaleOf (length ds))) N.Malformed ≡ N.Thousandths m → Extent n m
     go false e q = never m q
     go true e q =
-        let t = both (leb 1 (length ds)) (leb (length ds) 3) (leb (length ds) (leading ds)) e in
+        let t = and-three (leb 1 (length ds)) (leb (length ds) 3) (leb (length ds) (leading ds)) e in
         let lo = leb-true 1 (length ds) (t .0) in
         let hi = leb-true (length ds) 3 (t .1) in
         let all : leading ds ≡ length ds = omega (arith, leb-true (length ds) (leading ds) (t .2), leading-most ds) in

@@ -3,7 +3,7 @@ use mathlib.Core.Path.{_≡_, refl, sym, _∙_}
 use mathlib.Core.List.{List, [], _∷_}
 use mathlib.Core.Bool.{Bool, true, false, cond, _&&_, _||_}
 use Prim.Native.Nat.{ℕ, suc, _+_, _-_, _*_, _^_, _≤_, _<_}
-use native.Mathlib.Nat.{le-trans, pow-succ', pow-le-pow-right, mul-le-mul, mul-le-mul-right, mul-assoc}
+use native.Mathlib.Nat.{le-trans, pow-succ', mul-le-mul}
 use native.Mathlib.Numerals.{add-one}
 use native.Mathlib.Omega.{arith}
 use native.Mathlib.Decide.{decLe}
@@ -11,10 +11,11 @@ use lib.ListN.{length, getD, take, drop, length-take}
 use lib.Seq.{drop-drop}
 use lib.Dec.{eqb, leb}
 use borrow.Author.Tests.{lt-leb, le-leb, leb-true}
+use Rattle.base_laws.proofs.Splits.{and-right, and-three}
+use Rattle.base_laws.proofs.Numerals.{ten-to, digit-below}
+use Rattle.base_laws.proofs.Lists.{at-cons}
 use Rattle.text_words.specs.Bytes.{bytes, kindOf, isDigit, between, isOneOf}
 use Rattle.text_words.specs.declared.bytes.Kind.the-variants as K
-use Rattle.text_words.proofs.Ranges.{both-1}
-use Rattle.text_words.proofs.Steps.{at-cons}
 use Rattle.text_tokens.specs.Runs.{part}
 use Rattle.text_tokens.specs.Numbers.{leading, digitsEnd, decimal, scaleOf, fractionOf, restOf, numberFrom, Small}
 use Rattle.text_tokens.specs.declared.numbers.Numeral.the-variants.{Thousandths, Malformed}
@@ -35,9 +36,6 @@ decimal-end w v at to h = let q : to - at ≡ 0 = omega arith in rw q
 -- a byte less 48 is at most 207, whatever the byte: so k of them stay below 23 times 10 to the k
 pub grows : (v d k : ℕ) → v + 23 ≤ 23 * 10 ^ k → d < 208 → v * 10 + d + 23 ≤ 23 * 10 ^ (k + 1)
 grows v d k h l = rw (add-one k, pow-succ' 10 k) (omega arith)
-
-pub ten-to : (k m : ℕ) → k ≤ m → 10 ^ k ≤ 10 ^ m
-ten-to k m h = pow-le-pow-right (omega arith) h
 
 -- ---- the ways of reading a number
 
@@ -115,10 +113,8 @@ unfolding decimal
 decimal-most [] v h = omega arith
 decimal-most (b ∷ bs) v h =
     let d = digits-cons b bs h in
-    let x = v * 10 + (b - 48) in
-    let small : x + 1 ≤ (v + 1) * 10 = omega (arith, d .front) in
-    let more : (x + 1) * 10 ^ length bs ≤ (v + 1) * 10 * 10 ^ length bs = mul-le-mul-right (10 ^ length bs) small in
-    rw (pow-succ' 10 (length bs), ← mul-assoc (v + 1) 10 (10 ^ length bs)) (le-trans (decimal-most bs x (d .back)) more)
+    let i : b - 48 < 10 = omega (arith, d .front) in
+    rw (pow-succ' 10 (length bs)) (le-trans (decimal-most bs (v * 10 + (b - 48)) (d .back)) (digit-below 10 v (b - 48) (10 ^ length bs) i))
 
 pub leading-front : (l : List ℕ) → leading (take (leading l) l) ≡ length (take (leading l) l)
 unfolding leading
@@ -141,11 +137,6 @@ scaled n v lo hi h = elim (decLe n 1) [
   ]
 ]
 
-pub both : (a b c : Bool) → (a && b && c) ≡ true → (a ≡ true) × (b ≡ true) × (c ≡ true)
-both true true c h = (refl, refl, h)
-both true false c h = absurd (let z : _≡_ {A = ℕ} 0 1 = cc in let y : ⊥ = omega arith in y)
-both false b c h = absurd (let z : _≡_ {A = ℕ} 0 1 = cc in let y : ⊥ = omega arith in y)
-
 fraction-small : (whole : ℕ) (ds : List ℕ) → whole < 1000000000 → Small (fractionOf whole ds)
 unfolding fractionOf
 fraction-small whole ds w = go (between 1 (length ds) 3 && leb (length ds) (leading ds)) refl
@@ -154,7 +145,7 @@ fraction-small whole ds w = go (between 1 (length ds) 3 && leb (length ds) (lead
         → Small (cond t (Thousandths (whole * 1000 + decimal 0 ds * scaleOf (length ds))) Malformed)
     go false e = tt
     go true e =
-        let t = both (leb 1 (length ds)) (leb (length ds) 3) (leb (length ds) (leading ds)) e in
+        let t = and-three (leb 1 (length ds)) (leb (length ds) 3) (leb (length ds) (leading ds)) e in
         let lo = leb-true 1 (length ds) (t .0) in
         let hi = leb-true (length ds) 3 (t .1) in
         let all : leading ds ≡ length ds = omega (arith, leb-true (length ds) (leading ds) (t .2), leading-most ds) in
@@ -176,7 +167,7 @@ number-small l = go (between 1 (leading l) 9) refl
     go : (t : Bool) → between 1 (leading l) 9 ≡ t → Small (cond t (restOf (decimal 0 (take (leading l) l)) (drop (leading l) l)) Malformed)
     go false e = tt
     go true e =
-        let hi = leb-true (leading l) 9 (both-1 (leb 1 (leading l)) (leb (leading l) 9) e) in
+        let hi = leb-true (leading l) 9 (and-right (leb 1 (leading l)) (leb (leading l) 9) e) in
         let n : length (take (leading l) l) ≡ leading l = simp length-take (omega (arith, leading-most l)) in
         let m = rw n at (decimal-most (take (leading l) l) 0 (leading-front l)) in
         rest-small (decimal 0 (take (leading l) l)) (drop (leading l) l) (omega (arith, m, ten-to (leading l) 9 hi))

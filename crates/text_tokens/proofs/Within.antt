@@ -120,9 +120,13 @@ from-in s at p lo = go (isPast (length s) p) (leb (length s) p) refl
     go false true h = tt
     go false false h = start-in s at p (kindOf (getD s p 0)) lo (leb-false (length s) p h)
 
+-- wherever it was looked for: past the end there is none
+pub token-in : (s : List ℕ) (at : ℕ) → Within s at (tokenAt s at)
+unfolding tokenAt gapEnd
+token-in s at = from-in s at (gapEnd s at) (let z : at ≤ gapEnd s at = omega arith in z)
+
 pub token-within : (s : List ℕ) (at : ℕ) → at ≤ length s → Within s at (tokenAt s at)
-unfolding tokenAt
-token-within s at h = from-in s at (gapEnd s at) (gap-within s at h .0)
+token-within s at h = token-in s at
 
 pub spot-within : (s : List ℕ) (at : ℕ) (w : List ℕ) (p e : ℕ) → at ≤ length s → spotAt s at w ≡ P.At p e → (at < e) × (e ≤ length s)
 unfolding spotAt

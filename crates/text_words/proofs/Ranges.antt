@@ -1,6 +1,6 @@
 -- A test that holds of each number of a range, by computation; and the kind of each byte of a range. Assumes nothing.
 use mathlib.Core.Path.{_≡_, refl, sym, ap, _∙_}
-use mathlib.Core.Bool.{Bool, true, false, _&&_}
+use mathlib.Core.Bool.{Bool, true, _&&_}
 use Prim.Native.Nat.{ℕ, zero, suc, _+_, _≤_, _<_}
 use native.Mathlib.Omega.{arith}
 use native.Mathlib.Decide.{decLe}
@@ -8,7 +8,8 @@ use lib.Dec.{eqb}
 use lib.ListN.{getD}
 use mathlib.Core.List.{[], _∷_}
 use borrow.Author.Tests.{eqb-true}
-use Rattle.text_words.specs.Bytes.{kindOf, bytes}
+use Rattle.base_laws.proofs.Splits.{and-left, and-right}
+use Rattle.text_words.specs.Bytes.{kindOf}
 use Rattle.text_words.specs.declared.bytes.Kind.{Kind}
 use Rattle.text_words.specs.declared.bytes.Kind.the-variants as K
 
@@ -17,19 +18,11 @@ abbrev pub holds : (ℕ → Bool) → ℕ → ℕ → Bool
 holds P lo zero = true
 holds P lo (suc n) = P lo && holds P (lo + 1) n
 
-pub both-0 : (a b : Bool) → (a && b) ≡ true → a ≡ true
-both-0 true b h = refl
-both-0 false b h = h
-
-pub both-1 : (a b : Bool) → (a && b) ≡ true → b ≡ true
-both-1 true b h = h
-both-1 false b h = absurd (let z : _≡_ {A = ℕ} 0 1 = cc in let y : ⊥ = omega arith in y)
-
 pub holds-at : (n : ℕ) (P : ℕ → Bool) (lo b : ℕ) → holds P lo n ≡ true → lo ≤ b → b < lo + n → P b ≡ true
 holds-at zero P lo b h l u = absurd (let y : ⊥ = omega arith in y)
 holds-at (suc n) P lo b h l u = elim (decLe b lo) [
-  | yes k ↦ let e : b ≡ lo = omega arith in rw e (both-0 (P lo) (holds P (lo + 1) n) h)
-  | no k ↦ holds-at n P (lo + 1) b (both-1 (P lo) (holds P (lo + 1) n) h) (omega arith) (omega arith)
+  | yes k ↦ let e : b ≡ lo = omega arith in rw e (and-left (P lo) (holds P (lo + 1) n) h)
+  | no k ↦ holds-at n P (lo + 1) b (and-right (P lo) (holds P (lo + 1) n) h) (omega arith) (omega arith)
 ]
 
 abbrev pub number : Kind → ℕ

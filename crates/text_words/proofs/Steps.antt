@@ -4,22 +4,18 @@ use mathlib.Core.List.{List, [], _∷_}
 use mathlib.Core.Bool.{Bool, true, false, cond, _&&_, and-false}
 use Prim.Native.Nat.{ℕ, zero, suc, _+_, _-_, _≤_, _<_, min}
 use native.Mathlib.Nat.{add-zero, le-refl}
-use native.Mathlib.Numerals.{add-one}
 use native.Mathlib.Omega.{arith}
 use native.Mathlib.Decide.{decLe}
 use lib.Dec.{leb, eqb, leb·zero}
 use lib.ListN.{length, getD, take, drop, length-take, length-drop, drop-of-length-le, List·getD-eq-default}
-use lib.Seq.{drop-cons, drop-drop, take-take, take-all, getD-drop}
+use lib.Seq.{drop-drop, getD-drop}
 use borrow.Author.Tests.{eq-eqb, ne-eqb, lt-ltb, le-ltb, le-leb, lt-leb}
+use Rattle.base_laws.proofs.Lists.{at-cons, take-min}
 use Rattle.text_words.specs.Bytes.{lowerOf, kindOf, isLetter}
 use Rattle.text_words.specs.Spelling.{sameWord, nameByte, nameBytes, isName, placeFrom, unspaced, spaceFrom, onto, wordsOf, wordIn, picked}
 use Rattle.text_words.specs.Names.{nameOf, namesOf}
 use Rattle.text_words.specs.declared.spelling.Place.{Place}
 use Rattle.text_words.specs.declared.spelling.Place.the-variants.{At, Nothing}
-
--- the bytes from p on: one byte, and those from p + 1 on
-pub at-cons : (s : List ℕ) (p : ℕ) → p < length s → drop p s ≡ getD s p 0 ∷ drop (p + 1) s
-at-cons s p h = rw (add-one, drop-cons s p 0)
 
 -- ---- sameWord
 
@@ -156,15 +152,6 @@ unfolding placeFrom
 word-none i w = refl
 
 -- ---- the names of a table
-
-take-min : (n m : ℕ) (l : List ℕ) → take n (take m l) ≡ take (min n m) l
-take-min n m l = elim (decLe n m) [
-  | yes k ↦ let e : min n m ≡ n = omega arith in rw (e, take-take n m l k)
-  | no k ↦
-      let e : min n m ≡ m = omega arith in
-      let b : length (take m l) ≤ n = simp length-take (omega arith) in
-      rw (e, take-all n (take m l) b)
-]
 
 pub names-short : (rows : List ℕ) (at n m : ℕ) → n ≡ suc m → length rows - at < 38 → namesOf n (drop at rows) ≡ []
 unfolding namesOf

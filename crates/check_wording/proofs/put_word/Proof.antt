@@ -7,7 +7,7 @@ use denote.Ref.{now}
 use lib.ListN.{length, drop, length-set}
 use lib.Seq.{sets}
 use borrow.Author.Needs.{needs}
-use Rattle.check_wording.proofs.Puts.{word-step, word-end}
+use Rattle.base_laws.proofs.Sets.{sets-step, sets-end}
 use Rattle.check_wording.proofs.put_word.Statement.{statement}
 use Rattle.check_wording.proofs.put_word.Tie as tie
 
@@ -39,7 +39,7 @@ loop-less : tie.Need-loop-less Inv-loop μ-loop
 loop-less c = omega arith
 
 loop-again : tie.Need-loop-again Inv-loop μ-loop
-loop-again c = (omega arith, ap length (c .before .before .put .ensures) ∙ simp length-set (c .before .before .before .before .before .before .loop .inv .1), rw (c .before .before .put .ensures) (word-step (c .before .before .before .before .before .before .loop .out) (now (c .before .before .before .before .before .before .before .before .before .args .w)) (c .before .before .before .before .before .before .before .before .before .args .at) (c .before .before .before .before .before .before .loop .i) (c .before .before .before .before .before .loop-test .taken) ∙ c .before .before .before .before .before .before .loop .inv .2))
+loop-again c = (omega arith, ap length (c .before .before .put .ensures) ∙ simp length-set (c .before .before .before .before .before .before .loop .inv .1), rw (c .before .before .put .ensures) (sets-step (c .before .before .before .before .before .before .loop .out) (now (c .before .before .before .before .before .before .before .before .before .args .w)) (c .before .before .before .before .before .before .before .before .before .args .at) (c .before .before .before .before .before .before .loop .i) (c .before .before .before .before .before .loop-test .taken) ∙ c .before .before .before .before .before .before .loop .inv .2))
 
 add-result : tie.Need-add-result Inv-loop μ-loop
 add-result c = omega arith
@@ -48,7 +48,7 @@ same-length : tie.Need-same-length Inv-loop μ-loop
 same-length c = search needs
 
 returns : tie.Need-returns Inv-loop μ-loop
-returns c = (sym (word-end (c .before .loop .out) (now (c .before .before .before .before .args .w)) (c .before .before .before .before .args .at) (c .before .loop .i) (c .loop-test .left)) ∙ c .before .loop .inv .2, omega arith)
+returns c = (sym (sets-end (c .before .loop .out) (now (c .before .before .before .before .args .w)) (c .before .before .before .before .args .at) (c .before .loop .i) (c .loop-test .left)) ∙ c .before .loop .inv .2, omega arith)
 
 pub put-word-spec : {M : Type 1} → statement M
 put-word-spec =

@@ -3,7 +3,8 @@ use native.Mathlib.Nat.{pow-zero}
 use mathlib.Core.Path.{_≡_, sym}
 use Prim.Native.Nat.{_-_, _^_, _≤_}
 use native.Mathlib.Omega.{arith}
-use Rattle.domain_indexes.proofs.Sums.{power-next, power-most, product-most}
+use Rattle.base_laws.proofs.Numerals.{power-next}
+use Rattle.domain_indexes.proofs.Sums.{power-most, product-most}
 use Rattle.domain_indexes.proofs.power.Statement.{statement}
 use Rattle.domain_indexes.proofs.power.Tie as tie
 

@@ -1,7 +1,7 @@
 -- `literals::put` meets its contract. Assumes nothing.
 use mathlib.Core.Path.{sym}
-use Rattle.domain_literals.proofs.Cells.{set-past}
 use borrow.Author.Needs.{needs}
+use lib.Seq.{set-out}
 use Rattle.domain_literals.proofs.put.Statement.{statement}
 use Rattle.domain_literals.proofs.put.Tie as tie
 
@@ -18,7 +18,7 @@ returns : tie.Need-returns
 returns c = search needs
 
 returns-2 : tie.Need-returns-2
-returns-2 c = sym (set-past (c .before .args .code .now) (c .before .args .at) (c .before .args .x) (c .if1 .left))
+returns-2 c = sym (set-out (c .before .args .code .now) (c .before .args .at) (c .before .args .x) (c .if1 .left))
 
 pub put-spec : {M : Type 1} → statement M
 put-spec = tie.close (tie.spec cast-code slice-write-code same-length returns returns-2)

@@ -3,10 +3,10 @@ use mathlib.Core.Path.{refl, ap, _∙_}
 use denote.Ref.{now}
 use Prim.Native.Nat.{ℕ, _-_}
 use native.Mathlib.Omega.{arith}
+use Rattle.domain_terms.proofs.Signatures.{predicates-signed, functions-signed}
 use Rattle.domain_rows.specs.Held.{rowsOf}
 use Rattle.domain_meaning.specs.Problem.{scopeOf}
 use Rattle.domain_meaning.specs.First.{noFacts, noNumbers}
-use Rattle.domain_problem_text.proofs.Judging.{predicates-signed, functions-signed}
 use Rattle.domain_load.specs.Load.{zeros}
 use Rattle.domain_load.proofs.Joined.{tables-are}
 use Rattle.domain_load.proofs.Loading.{understood, no-domain, no-problem, understands, same-model, both-loaded}

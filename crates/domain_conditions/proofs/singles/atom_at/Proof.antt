@@ -2,10 +2,11 @@
 use mathlib.Core.Path.{refl, sym, _∙_}
 use denote.Ref.{now}
 use native.Mathlib.Omega.{arith}
+use Rattle.domain_terms.proofs.Signatures.{predicates-signed}
 use Rattle.domain_terms.proofs.Kept.{found-below}
 use Rattle.domain_expressions.proofs.Ends.{written-refused, spent-refused, spent-passed}
 use Rattle.domain_stored_meaning.specs.Cells.{condCells}
-use Rattle.domain_conditions.proofs.Facts.{fact-missing, fact-many, fact-written, facts-signed, fact-tag}
+use Rattle.domain_conditions.proofs.Facts.{fact-missing, fact-many, fact-written, fact-tag}
 use borrow.Author.Needs.{needs}
 use Rattle.domain_conditions.proofs.singles.atom_at.Statement.{statement}
 use Rattle.domain_conditions.proofs.singles.atom_at.Tie as tie
@@ -32,7 +33,7 @@ chosen-requires : tie.Need-chosen-requires
 chosen-requires c κs = search needs
 
 reference-at-requires : tie.Need-reference-at-requires
-reference-at-requires c κs = let x = (c .before .before .before .before .before .before .before .before .before .before .before .pre .1 .0) in let h = (c .before .before .before .before .before .before .before .before .before .before .before .pre .1 .1) in (c .before .before .before .before .before .before .before .before .before .before .before .pre .0, c .before .before .before .before .before .before .before .before .before .before .before .pre .1, facts-signed _ _ x h, omega (arith, found-below (x .predicates) _ _ (sym (rw (c .before .before .before .before .before .before .before .part-of .ensures) at (c .before .before .before .before .before .before .find-in .ensures 32 (x .predicates) (h .predicates))) ∙ c .before .before .before .before .f .given .1), h .predicates .count), rw (c .before .chosen .ensures) (fact-tag (c .before .before .before .before .before .before .before .before .before .before .before .args .yes)), c .before .before .before .before .before .before .before .before .before .before .before .pre .2)
+reference-at-requires c κs = let x = (c .before .before .before .before .before .before .before .before .before .before .before .pre .1 .0) in let h = (c .before .before .before .before .before .before .before .before .before .before .before .pre .1 .1) in (c .before .before .before .before .before .before .before .before .before .before .before .pre .0, c .before .before .before .before .before .before .before .before .before .before .before .pre .1, predicates-signed _ _ x h, omega (arith, found-below (x .predicates) _ _ (sym (rw (c .before .before .before .before .before .before .before .part-of .ensures) at (c .before .before .before .before .before .before .find-in .ensures 32 (x .predicates) (h .predicates))) ∙ c .before .before .before .before .f .given .1), h .predicates .count), rw (c .before .chosen .ensures) (fact-tag (c .before .before .before .before .before .before .before .before .before .before .before .args .yes)), c .before .before .before .before .before .before .before .before .before .before .before .pre .2)
 
 sub-progress-of : tie.Need-sub-progress-of
 sub-progress-of c = search needs

@@ -2,10 +2,11 @@
 use mathlib.Core.Path.{refl, sym, _∙_}
 use denote.Ref.{now}
 use native.Mathlib.Omega.{arith}
+use Rattle.domain_terms.proofs.Signatures.{predicates-signed}
 use Rattle.domain_stored_meaning.specs.Cells.{effectsCells}
 use Rattle.domain_expressions.proofs.Ends.{written-refused, spent-refused, spent-passed}
 use Rattle.domain_terms.proofs.Kept.{found-below}
-use Rattle.domain_effects.proofs.Facts.{predicates-signed, fact-missing, fact-many, fact-stored}
+use Rattle.domain_effects.proofs.Facts.{fact-missing, fact-many, fact-stored}
 use borrow.Author.Needs.{needs}
 use Rattle.domain_effects.proofs.singles.becomes_at.Statement.{statement}
 use Rattle.domain_effects.proofs.singles.becomes_at.Tie as tie

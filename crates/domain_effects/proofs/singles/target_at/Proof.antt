@@ -2,10 +2,10 @@
 use mathlib.Core.Path.{refl, sym, _∙_}
 use denote.Ref.{now}
 use native.Mathlib.Omega.{arith}
+use Rattle.domain_terms.proofs.Signatures.{functions-signed}
 use Rattle.domain_due.proofs.Dues.{ahead-done, ahead-refused}
 use Rattle.domain_terms.proofs.Kept.{found-below}
 use Rattle.domain_terms.proofs.Wanted.{room-refused}
-use Rattle.domain_expressions.proofs.Ends.{functions-signed}
 use Rattle.domain_effects.proofs.Facts.{opened}
 use Rattle.domain_effects.proofs.Changing.{target-unopened, target-unnamed, target-missing, target-stored, room-from}
 use borrow.Author.Needs.{needs}

@@ -6,7 +6,7 @@ use denote.Ref.{now}
 use native.Mathlib.Omega.{arith}
 use Prim.Native.Nat.{_-_}
 use Rattle.domain_expressions.proofs.Beginning.{bracket-by, begin-refused, begin-number, begin-bracket, expr-none, expr-number, expr-else, expr-deep, expr-open, placed-other, placed-number, placed-inside}
-use Rattle.domain_expressions.proofs.Sizes.{number-fits}
+use Rattle.domain_expressions.proofs.Sizes.{numeral-fits}
 use Rattle.domain_due.proofs.Dues.{open-in}
 use Rattle.domain_meaning.specs.Terms.{expr}
 use borrow.Author.Needs.{needs}
@@ -26,7 +26,7 @@ sub-t12 : tie.Need-sub-t12
 sub-t12 c = search needs
 
 returns-2 : tie.Need-returns-2
-returns-2 c = let w = number-fits (now (c .before .before .before .before .before .before .args .text)) (c .before .before .before .before .before .before .args .from) _ _ _ (c .before .before .before .before .before .before .pre) (sym (c .before .before .before .before .token-at .ensures) ∙ c .before .before .t .given .1) in (λ x. rw (toZ-ofZ w64 (c .before .before .t .given .0 .0) (record { sfits = c .before .known-told .given .0 .1 })) (begin-number (now (c .before .before .before .before .before .before .args .text)) x (c .before .before .before .before .before .before .args .d) (c .before .before .before .before .before .before .args .left) (c .before .before .t .given .0 .0) _ _ _ (expr-number (now (c .before .before .before .before .before .before .args .text)) x (c .before .before .before .before .before .before .args .d) (c .before .before .before .before .before .before .args .left) (c .before .before .before .before .before .before .args .from) _ _ _ (sym (c .before .before .before .before .token-at .ensures) ∙ c .before .before .t .given .1) (c .if1 .left))), rw (toZ-ofZ w64 (c .before .before .t .given .0 .0) (record { sfits = c .before .known-told .given .0 .1 })) (placed-number _ _ _ (c .before .before .t .given .0 .0) _ _ (w .0) (w .1) (w .2) (w .3)))
+returns-2 c = let w = numeral-fits (now (c .before .before .before .before .before .before .args .text)) (c .before .before .before .before .before .before .args .from) _ _ _ (sym (c .before .before .before .before .token-at .ensures) ∙ c .before .before .t .given .1) in (λ x. rw (toZ-ofZ w64 (c .before .before .t .given .0 .0) (record { sfits = c .before .known-told .given .0 .1 })) (begin-number (now (c .before .before .before .before .before .before .args .text)) x (c .before .before .before .before .before .before .args .d) (c .before .before .before .before .before .before .args .left) (c .before .before .t .given .0 .0) _ _ _ (expr-number (now (c .before .before .before .before .before .before .args .text)) x (c .before .before .before .before .before .before .args .d) (c .before .before .before .before .before .before .args .left) (c .before .before .before .before .before .before .args .from) _ _ _ (sym (c .before .before .before .before .token-at .ensures) ∙ c .before .before .t .given .1) (c .if1 .left))), rw (toZ-ofZ w64 (c .before .before .t .given .0 .0) (record { sfits = c .before .known-told .given .0 .1 })) (placed-number _ _ _ (c .before .before .t .given .0 .0) _ _ (w .0) (w .1) (w .2) (omega (arith, w .3))))
 
 enum-known-t-2 : tie.Need-enum-known-t-2
 enum-known-t-2 c = search needs

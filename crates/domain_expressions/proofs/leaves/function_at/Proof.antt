@@ -2,8 +2,9 @@
 use mathlib.Core.Path.{refl, sym, _∙_}
 use denote.Ref.{now}
 use native.Mathlib.Omega.{arith}
+use Rattle.domain_terms.proofs.Signatures.{functions-signed}
 use Rattle.domain_expressions.specs.Codes.{cellsOf}
-use Rattle.domain_expressions.proofs.Ends.{written-refused, spent-refused, spent-passed, functions-signed, function-missing, function-many, function-written}
+use Rattle.domain_expressions.proofs.Ends.{written-refused, spent-refused, spent-passed, function-missing, function-many, function-written}
 use Rattle.domain_terms.proofs.Kept.{found-below}
 use borrow.Author.Needs.{needs}
 use Rattle.domain_expressions.proofs.leaves.function_at.Statement.{statement}

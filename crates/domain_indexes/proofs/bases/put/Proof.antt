@@ -1,7 +1,7 @@
 -- `bases::put` meets its contract. Assumes nothing.
 use mathlib.Core.Path.{sym}
-use Rattle.domain_literals.proofs.Cells.{set-past}
 use borrow.Author.Needs.{needs}
+use lib.Seq.{set-out}
 use Rattle.domain_indexes.proofs.bases.put.Statement.{statement}
 use Rattle.domain_indexes.proofs.bases.put.Tie as tie
 
@@ -18,7 +18,7 @@ returns : tie.Need-returns
 returns c = search needs
 
 returns-2 : tie.Need-returns-2
-returns-2 c = sym (set-past (c .before .args .out .now) (c .before .args .at) (c .before .args .x) (c .if1 .left))
+returns-2 c = sym (set-out (c .before .args .out .now) (c .before .args .at) (c .before .args .x) (c .if1 .left))
 
 pub put-spec : {M : Type 1} → statement M
 put-spec = tie.close (tie.spec mul-out slice-write-out same-length returns returns-2)

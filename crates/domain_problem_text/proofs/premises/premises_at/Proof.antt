@@ -6,7 +6,7 @@ use Rattle.text_words.specs.Bytes.{bytes}
 use Rattle.domain_due.proofs.Dues.{ahead-done, answer-done, answer-refused}
 use Rattle.domain_problem_text.proofs.Grounding.{grounded-by, grounded-refused}
 use Rattle.domain_problem_text.proofs.Naming.{onwards-further, onwards-refused, titled-end, headed, unheaded, before-heading, before-domain, behind-domain}
-use Rattle.domain_problem_text.proofs.Reaching.{heading-past}
+use Rattle.domain_meaning.proofs.Headings.{heading-past}
 use borrow.Author.Needs.{needs}
 use Rattle.domain_problem_text.proofs.premises.premises_at.Statement.{statement}
 use Rattle.domain_problem_text.proofs.premises.premises_at.Tie as tie

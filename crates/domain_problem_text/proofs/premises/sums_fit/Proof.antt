@@ -1,6 +1,7 @@
 -- `premises::sums_fit` meets its contract. Assumes nothing.
 use denote.Ref.{now}
-use Rattle.domain_problem_text.proofs.Judging.{predicates-signed, functions-signed, predicates-passed, functions-judged}
+use Rattle.domain_terms.proofs.Signatures.{predicates-signed, functions-signed}
+use Rattle.domain_problem_text.proofs.Judging.{predicates-passed, functions-judged}
 use Rattle.domain_problem_text.proofs.premises.sums_fit.Statement.{statement}
 use Rattle.domain_problem_text.proofs.premises.sums_fit.Tie as tie
 

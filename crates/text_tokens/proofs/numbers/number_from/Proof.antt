@@ -6,7 +6,7 @@ use denote.Ref.{now}
 use lib.ListN.{drop}
 use borrow.Author.Tests.{eq-eqb, ne-eqb}
 use lib.ListN.{drop-of-length-le}
-use Rattle.text_words.proofs.Steps.{at-cons}
+use Rattle.base_laws.proofs.Lists.{at-cons}
 use Rattle.text_tokens.specs.Numbers.{digitsEnd}
 use Rattle.text_tokens.proofs.Steps.{digits-bounds}
 use Rattle.text_tokens.proofs.Values.{number-none, number-large, number-read}

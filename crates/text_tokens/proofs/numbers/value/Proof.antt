@@ -3,9 +3,10 @@ use mathlib.Core.Path.{_≡_, refl, sym, _∙_}
 use Prim.Native.Nat.{_-_, _+_, _*_, _^_, _≤_}
 use native.Mathlib.Omega.{arith}
 use denote.Ref.{now}
+use Rattle.base_laws.proofs.Numerals.{ten-to}
 use Rattle.text_tokens.specs.Runs.{part}
 use Rattle.text_tokens.specs.Numbers.{decimal}
-use Rattle.text_tokens.proofs.Values.{decimal-next, decimal-end, grows, ten-to}
+use Rattle.text_tokens.proofs.Values.{decimal-next, decimal-end, grows}
 use Rattle.text_tokens.proofs.numbers.value.Statement.{statement}
 use Rattle.text_tokens.proofs.numbers.value.Tie as tie
 
