@@ -37,7 +37,7 @@ pub record Stored (code m : List ℕ) (a v : ℕ) (x : Read (List Arg)) : Type 0
   pub cells : v ≤ length code → take v m ≡ argCells args
   pub long : length m ≡ length code
 
-module _ (code : List ℕ) (r : Answer) (m : List ℕ) where
+module _ (code : List ℕ) (r : Parsed) (m : List ℕ) where
   stored-done : (x : Read (List Arg)) (a v : ℕ) → Wrote argCells code 0 r m x → r ≡ Done a v → Stored code m a v x
   unfolding Wrote
   stored-done (got as′ n) a v h e =
