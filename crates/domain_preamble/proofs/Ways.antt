@@ -24,8 +24,7 @@ use Rattle.domain_typed_lists.proofs.Outcomes.{As, outcome-refused}
 use Rattle.domain_terms.specs.Scoped.{AllSigned}
 use Rattle.domain_terms.proofs.Signing.{section-signed}
 use Rattle.domain_meaning.proofs.Given.{given-got}
-use Rattle.domain_preamble.specs.Beginning.{begunOf, Listed, Declares}
-use Rattle.domain_preamble.specs.declared.Preamble.{Preamble}
+use Rattle.domain_preamble.specs.Beginning.{Listed, Declares}
 use Rattle.domain_preamble.specs.declared.Preamble.the-variants.{Done, Refused}
 
 -- ---- the heading, and the flags
