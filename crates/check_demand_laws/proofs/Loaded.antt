@@ -16,7 +16,7 @@ use Rattle.plan_meaning.specs.Lines.{reader, limits}
 use Rattle.domain_load.specs.Decode.{Reading, decode, readingOf}
 use Rattle.domain_load.specs.Load.{modelOf, loadedOf}
 use Rattle.domain_load.proofs.Back.{model-back}
-use Rattle.domain_fit_laws.proofs.Whole.{read-fits}
+use Rattle.domain_read_laws.proofs.Whole.{read-fits}
 use Rattle.happening_grounds.specs.Grounded.{groundsIn}
 use Rattle.check_grounding.specs.Grounding.{groundFor}
 use Rattle.check_grounding.specs.declared.Ground.{Ground}

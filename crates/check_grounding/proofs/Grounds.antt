@@ -16,7 +16,7 @@ use Rattle.domain_meaning.specs.Indexes.{arity, sumOf, basesFrom, basesOf, padd
 use Rattle.domain_rows.proofs.Rows.{length-padded}
 use Rattle.happening_grounds.specs.Grounded.{firstsIn, groundsIn}
 use Rattle.domain_load.specs.Load.{zeros, modelOf}
-use Rattle.domain_fit_laws.proofs.Whole.{Fitting, read-fits}
+use Rattle.domain_read_laws.proofs.Whole.{Fitting, read-fits}
 use Rattle.check_meaning.specs.Answer.{groundsOf}
 use Rattle.check_grounding.specs.Grounding.{narrowed, firstsOf, groundFor}
 use Rattle.check_grounding.proofs.Laying.{narrow-low, over-zeros, padded-low}

@@ -19,8 +19,8 @@ use Rattle.domain_stored_meaning.specs.Entries.{AllTyped, typedIn, signedIn}
 use Rattle.domain_stored_meaning.proofs.Back.{typed-back, signed-back}
 use Rattle.domain_terms.specs.Scoped.{AllSigned}
 use Rattle.domain_actions.specs.Acted.{declarations}
-use Rattle.domain_fit_laws.proofs.Tables.{Fit, Declared}
-use Rattle.domain_fit_laws.proofs.Whole.{read-fits, domain-back, goal-back}
+use Rattle.domain_read_laws.proofs.Tables.{Fit, Declared}
+use Rattle.domain_read_laws.proofs.Whole.{read-fits, domain-back, goal-back}
 use Rattle.domain_load.specs.Load.{zeros, modelOf, loadedOf, loadOf}
 use Rattle.domain_load.specs.Decode.{Reading, decode, readingOf}
 use Rattle.domain_load.proofs.Apart.{types-part, objects-part, predicates-part, functions-part}

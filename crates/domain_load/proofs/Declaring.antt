@@ -17,7 +17,7 @@ use Rattle.domain_load.specs.declared.Loaded.{Loaded}
 use Rattle.domain_load.specs.declared.Verdict.{Verdict}
 use Rattle.domain_load.specs.declared.Verdict.the-variants as Is
 use Rattle.domain_load.proofs.Apart.{predicates-part, functions-part}
-use Rattle.domain_fit_laws.proofs.Whole.{read-fits}
+use Rattle.domain_read_laws.proofs.Whole.{read-fits}
 use Rattle.domain_load.proofs.Loading.{both-loaded}
 use Rattle.domain_load.proofs.Back.{model-back}
 

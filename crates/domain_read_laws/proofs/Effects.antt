@@ -20,7 +20,7 @@ use Rattle.domain_meaning.proofs.Steps.{opening-fits, closing-fits, any-name-fi
 use Rattle.domain_expressions.specs.Codes.{refCells, cellsOf}
 use Rattle.domain_stored_meaning.specs.Cells.{changeCell, effectCells, effectsCells, listCells}
 use Rattle.domain_stored_meaning.specs.Good.{GoodRef, GoodEffect, GoodEffects, Sized}
-use Rattle.domain_fit_laws.proofs.Terms.{ref-size, declared-fits, reference-fits, expression-fits}
+use Rattle.domain_read_laws.proofs.Terms.{ref-size, declared-fits, reference-fits, expression-fits}
 
 abbrev GoodOf : Counted (List Effect) → Type 0
 GoodOf x = GoodEffects (x .tree)

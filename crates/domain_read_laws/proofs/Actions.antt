@@ -26,10 +26,10 @@ use Rattle.domain_terms.proofs.Signing.{signed-signature, signed-more}
 use Rattle.domain_expressions.specs.Codes.{cellsOf}
 use Rattle.domain_stored_meaning.specs.Cells.{condCells, listCells, partsCells, lastingCells, actionCells, actionsCells}
 use Rattle.domain_stored_meaning.specs.Good.{GoodExpr, GoodCond, GoodEffects, GoodParts, GoodLasting, GoodAction, GoodActions, Sized}
-use Rattle.domain_fit_laws.proofs.Tables.{Fit, fit-more}
-use Rattle.domain_fit_laws.proofs.Terms.{expression-fits}
-use Rattle.domain_fit_laws.proofs.Conditions.{condition-fits}
-use Rattle.domain_fit_laws.proofs.Effects.{listed-fits}
+use Rattle.domain_read_laws.proofs.Tables.{Fit, fit-more}
+use Rattle.domain_read_laws.proofs.Terms.{expression-fits}
+use Rattle.domain_read_laws.proofs.Conditions.{condition-fits}
+use Rattle.domain_read_laws.proofs.Effects.{listed-fits}
 
 -- ---- parts, g writing what stands in one
 

@@ -12,7 +12,7 @@ use Rattle.domain_stored_meaning.specs.Decode.{decoded, conditionAt, actionsAt}
 use Rattle.domain_stored_meaning.proofs.Standing.{Stands}
 use Rattle.domain_stored_meaning.proofs.Conditions.{cond-read}
 use Rattle.domain_stored_meaning.proofs.Actions.{actions-back}
-use Rattle.domain_fit_laws.proofs.Texts.{DomainRead, domain-read, ProblemRead, problem-read}
+use Rattle.domain_read_laws.proofs.Texts.{DomainRead, domain-read, ProblemRead, problem-read}
 
 pub record Fitting (d : Domain) (p : Problem) : Type 0 where
   pub domain : DomainRead d

@@ -25,9 +25,9 @@ use Rattle.domain_terms.specs.Scoped.{AllSigned}
 use Rattle.domain_stored_meaning.specs.Cells.{condCells, actionsCells}
 use Rattle.domain_stored_meaning.specs.Entries.{AllTyped}
 use Rattle.domain_stored_meaning.specs.Good.{GoodCond, GoodActions, Sized}
-use Rattle.domain_fit_laws.proofs.Tables.{Fit, Declared, names-fit, types-section-fits, constants-fit, declared-section-fits}
-use Rattle.domain_fit_laws.proofs.Conditions.{condition-fits}
-use Rattle.domain_fit_laws.proofs.Actions.{Acting, heads, action-fits}
+use Rattle.domain_read_laws.proofs.Tables.{Fit, Declared, names-fit, types-section-fits, constants-fit, declared-section-fits}
+use Rattle.domain_read_laws.proofs.Conditions.{condition-fits}
+use Rattle.domain_read_laws.proofs.Actions.{Acting, heads, action-fits}
 
 -- where the text's end was read, its last bracket stands within the text, which is not too long
 ending-in : (s : List ℕ) (at q a : ℕ) → ending s at ≡ got q a → at ≤ 32768

@@ -19,7 +19,7 @@ use Rattle.domain_meaning.proofs.Steps.{opening-fits, closing-fits, counted-fit
 use Rattle.domain_expressions.specs.Codes.{cellsOf}
 use Rattle.domain_stored_meaning.specs.Cells.{condCells, condsCells}
 use Rattle.domain_stored_meaning.specs.Good.{Below, GoodCond, GoodConds, Sized}
-use Rattle.domain_fit_laws.proofs.Terms.{ref-size, declared-fits, argument-fits, reference-fits, expression-fits}
+use Rattle.domain_read_laws.proofs.Terms.{ref-size, declared-fits, argument-fits, reference-fits, expression-fits}
 
 -- ---- more levels are as good
 
