@@ -4,7 +4,7 @@ use mathlib.Core.List.{List}
 use Prim.Native.Nat.{ℕ, _+_, _-_, _*_, _≤_, _<_}
 use lib.ListN.{length, getD, drop, drop-of-length-le}
 use borrow.Author.Tests.{lt-ltb, le-ltb}
-use Rattle.program_quotes.proofs.Steps.{at-cons}
+use Rattle.base_laws.proofs.Lists.{at-cons}
 use Rattle.program_arguments.specs.Arguments.{sizeFrom}
 
 pub size-low : (n : ℕ) (w : List ℕ) (i : ℕ) → i < length w → getD w i 0 < 48 → sizeFrom n (drop i w) ≡ 0
