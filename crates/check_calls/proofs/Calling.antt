@@ -60,7 +60,7 @@ pub ready-for : (c : Check) → wellFormed c ≡ true → Long c → c .progress
     × (length (c .model .code) ≤ 32768)
     × (c .numbers ≡ c .numbers)
 ready-for c good h free =
-    let g = formed-parts (c .progress) (c .model .counts) (c .model .acting) (c .ground .facts) (c .ground .numbers) (c .queue) good in (
+    let g = formed-parts (c .progress) (c .model .counts) (c .model .acting) (c .model .sizes .facts) (c .model .sizes .numbers) (c .queue) good in (
       (omega (arith, h .tables), g .sizes .types, g .sizes .objects),
       (omega (arith, h .heads), g .sizes .actions),
       (formed-sound g, g .counters .timely, g .counters .short, g .counters .first, g .counters .lines),
@@ -74,15 +74,14 @@ ready-for c good h free =
 
 abbrev pub rulesBy : Check → Rules State Act Outcome
 rulesBy c =
-    rulesIn (c .model .code) (c .model .starts) (c .ground .firsts) (conditionAt (c .model .goal) 0 .tree)
-    (signedIn (c .model .actions) (c .model .acting)) anyState
+    rulesIn (c .model .code) (c .model .starts) (c .model .firsts) (conditionAt (c .model .goal) 0 .tree) (signedIn (c .model .actions) (c .model .acting)) anyState
 
 abbrev pub knownBy : Check → Known
 knownBy c = knownIn (c .model .tables) (c .model .counts) (c .model .actions) (c .model .acting) (c .model .code) (c .model .starts)
 
 pub rules-on : (c : Check) → rulesBy c ≡ rulesOn c
 unfolding rulesOn
-rules-on c = λ i. rulesOf (promises (groundsIn (c .ground .firsts)) (goal-in (c .model) i)) (actions-in (c .model) i) anyState
+rules-on c = λ i. rulesOf (promises (groundsIn (c .model .firsts)) (goal-in (c .model) i)) (actions-in (c .model) i) anyState
 
 pub known-on : (c : Check) → knownBy c ≡ knownOn c
 unfolding knownOn
@@ -119,19 +118,19 @@ module _ (c : Check) (good : wellFormed c ≡ true) (going : c .finished ≡ fal
       ap (λ x. answering (ended c x)) (h ∙ (λ i. close (rules-on c i) limits (reader (known-on c i)) (heldBy c)))
       ∙ rw (good, going, free)
 
-  standing-refused : (p : Progress) (done : Bool) → p .refused ≡ true → standing p ≡ standing (refusedFrom (c .model) (c .ground) (refusedIn p) done .progress)
+  standing-refused : (p : Progress) (done : Bool) → p .refused ≡ true → standing p ≡ standing (refusedFrom (c .model) (refusedIn p) done .progress)
   standing-refused p done h = rw (h)
 
   pub feed-stopped : (part : List ℕ) (s : State) (line : List ℕ) (q : Queue) (p : Progress)
       → heldIn s line q p ≡ feed (rulesBy c) limits (reader (knownBy c)) (heldBy c) part → p .refused ≡ true
-      → (x : Check) → x ≡ refusedFrom (c .model) (c .ground) (refusedIn p) false → (a : Answer) → a ≡ standing p → fed x a ≡ feedOf c part
+      → (x : Check) → x ≡ refusedFrom (c .model) (refusedIn p) false → (a : Answer) → a ≡ standing p → fed x a ≡ feedOf c part
   feed-stopped part s line q p h stopped x e a f =
       (λ i. fed (e i) ((f ∙ standing-refused p false stopped) i))
       ∙ sym (ap answering (stored-refused c s line q p stopped))
       ∙ feed-is part (heldIn s line q p) h
 
   pub finish-stopped : (s : State) (p : Progress) → closedIn s p ≡ close (rulesBy c) limits (reader (knownBy c)) (heldBy c) → p .refused ≡ true
-      → (x : Check) → x ≡ refusedFrom (c .model) (c .ground) (refusedIn p) true → (a : Answer) → a ≡ standing p → fed x a ≡ finishOf c
+      → (x : Check) → x ≡ refusedFrom (c .model) (refusedIn p) true → (a : Answer) → a ≡ standing p → fed x a ≡ finishOf c
   finish-stopped s p h stopped x e a f =
       (λ i. fed (e i) ((f ∙ standing-refused p true stopped) i))
       ∙ sym (ap answering (ended-refused c s p stopped))
@@ -141,21 +140,12 @@ module _ (c : Check) (good : wellFormed c ≡ true) (going : c .finished ≡ fal
       → heldIn s line q p ≡ feed (rulesBy c) limits (reader (knownBy c)) (heldBy c) part → p .refused ≡ false → p .used ≤ 256 → length line ≡ 257
       → (queue : Queue) (tidied : List ℕ) (after : Progress) → queue ≡ queueOf (used q) → tidied ≡ padded 257 (take (p .used) line) → after ≡ settled p
       → fed
-      (record {
-        model = c .model;
-        ground = c .ground;
-        facts = s .facts;
-        numbers = s .numbers;
-        queue = queue;
-        line = tidied;
-        progress = after;
-        finished = c .finished;
-      })
+      (record { model = c .model; facts = s .facts; numbers = s .numbers; queue = queue; line = tidied; progress = after; finished = c .finished })
       (A.Done 0)
       ≡ feedOf c part
   feed-goes part s line q p h goes few long queue tidied after eq el ep =
       (λ i. fed
-      (record { model = c .model; ground = c .ground; facts = s .facts; numbers = s .numbers; queue = eq i; line = el i; progress = ep i; finished = going i })
+      (record { model = c .model; facts = s .facts; numbers = s .numbers; queue = eq i; line = el i; progress = ep i; finished = going i })
       (A.Done 0))
       ∙ sym (ap answering (stored-held c s line q p goes few long))
       ∙ feed-is part (heldIn s line q p) h
@@ -163,12 +153,12 @@ module _ (c : Check) (good : wellFormed c ≡ true) (going : c .finished ≡ fal
   pub finish-goes : (s : State) (p : Progress) → closedIn s p ≡ close (rulesBy c) limits (reader (knownBy c)) (heldBy c) → p .refused ≡ false
       → (queue : Queue) (tidied : List ℕ) (after : Progress) → queue ≡ queueOf [] → tidied ≡ emptyLine → after ≡ endedFrom (p .past)
       → fed
-      (record { model = c .model; ground = c .ground; facts = s .facts; numbers = s .numbers; queue = queue; line = tidied; progress = after; finished = true })
+      (record { model = c .model; facts = s .facts; numbers = s .numbers; queue = queue; line = tidied; progress = after; finished = true })
       (A.Done 0)
       ≡ finishOf c
   finish-goes s p h goes queue tidied after eq el ep =
       (λ i. fed
-      (record { model = c .model; ground = c .ground; facts = s .facts; numbers = s .numbers; queue = eq i; line = el i; progress = ep i; finished = true })
+      (record { model = c .model; facts = s .facts; numbers = s .numbers; queue = eq i; line = el i; progress = ep i; finished = true })
       (A.Done 0))
       ∙ sym (ap answering (ended-run c s p goes))
       ∙ finish-is (closedIn s p) h

@@ -26,21 +26,21 @@ pub record Answers (p : Progress) : Type 0 where
   pub verdict : listedVerdict (p .past .outcome) ≡ true
   pub time : p .past .time < 2000000000000
 
-pub record Sizes (counts : Counts) (acting facts numbers : ℕ) : Type 0 where
+pub record Sizes (counts : Counts) (acting factCount numberCount : ℕ) : Type 0 where
   pub types : counts .types ≤ 17
   pub objects : counts .objects ≤ 64
   pub actions : acting ≤ 32
-  pub fewFacts : facts ≤ 16384
-  pub fewNumbers : numbers ≤ 1024
+  pub fewFacts : factCount ≤ 16384
+  pub fewNumbers : numberCount ≤ 1024
 
-pub record Formed (p : Progress) (counts : Counts) (acting facts numbers : ℕ) (q : Queue) : Type 0 where
+pub record Formed (p : Progress) (counts : Counts) (acting factCount numberCount : ℕ) (q : Queue) : Type 0 where
   pub counters : Counters p
   pub answers : Answers p
-  pub sizes : Sizes counts acting facts numbers
+  pub sizes : Sizes counts acting factCount numberCount
   pub few : q .count ≤ 64
   pub slots : slotsFit acting (used q) ≡ true
 
-pub formed-sound : {p : Progress} {counts : Counts} {acting facts numbers : ℕ} {q : Queue} → Formed p counts acting facts numbers q → Sound acting q
+pub formed-sound : {p : Progress} {counts : Counts} {acting factCount numberCount : ℕ} {q : Queue} → Formed p counts acting factCount numberCount q → Sound acting q
 formed-sound {acting = acting} {q = q} h = (h .few, fit-sound acting (used q) (h .slots))
 
 -- ---- the parts
@@ -102,14 +102,14 @@ answers-parts p h =
       time = ltb-true (p .past .time) 2000000000000 (and-right (a && b) c h);
     }
 
-pub sizes-parts : (counts : Counts) (acting facts numbers : ℕ) → sizesFit counts acting facts numbers ≡ true → Sizes counts acting facts numbers
+pub sizes-parts : (counts : Counts) (acting factCount numberCount : ℕ) → sizesFit counts acting factCount numberCount ≡ true → Sizes counts acting factCount numberCount
 unfolding sizesFit
-sizes-parts counts acting facts numbers h =
+sizes-parts counts acting factCount numberCount h =
     let a = leb (counts .types) 17 in
     let b = leb (counts .objects) 64 in
     let c = leb acting 32 in
-    let d = leb facts 16384 in
-    let e = leb numbers 1024 in
+    let d = leb factCount 16384 in
+    let e = leb numberCount 1024 in
     let abcd = and-left (a && b && c && d) e h in
     let abc = and-left (a && b && c) d abcd in
     let ab = and-left (a && b) c abc in
@@ -117,8 +117,8 @@ sizes-parts counts acting facts numbers h =
       types = leb-true (counts .types) 17 (and-left a b ab);
       objects = leb-true (counts .objects) 64 (and-right a b ab);
       actions = leb-true acting 32 (and-right (a && b) c abc);
-      fewFacts = leb-true facts 16384 (and-right (a && b && c) d abcd);
-      fewNumbers = leb-true numbers 1024 (and-right (a && b && c && d) e h);
+      fewFacts = leb-true factCount 16384 (and-right (a && b && c) d abcd);
+      fewNumbers = leb-true numberCount 1024 (and-right (a && b && c && d) e h);
     }
 
 -- ---- from the parts
@@ -141,26 +141,26 @@ answers-of p h = rw (standing (p .refused) refl, h .verdict, lt-ltb (p .past .ti
     standing true e = rw e (h .refusal e)
     standing false e = rw e
 
-pub sizes-of : (counts : Counts) (acting facts numbers : ℕ) → Sizes counts acting facts numbers → sizesFit counts acting facts numbers ≡ true
+pub sizes-of : (counts : Counts) (acting factCount numberCount : ℕ) → Sizes counts acting factCount numberCount → sizesFit counts acting factCount numberCount ≡ true
 unfolding sizesFit
-sizes-of counts acting facts numbers h =
+sizes-of counts acting factCount numberCount h =
     rw (
       le-leb (counts .types) 17 (h .types),
       le-leb (counts .objects) 64 (h .objects),
       le-leb acting 32 (h .actions),
-      le-leb facts 16384 (h .fewFacts),
-      le-leb numbers 1024 (h .fewNumbers),
+      le-leb factCount 16384 (h .fewFacts),
+      le-leb numberCount 1024 (h .fewNumbers),
     )
 
 -- ---- the whole
 
-module _ (p : Progress) (counts : Counts) (acting facts numbers : ℕ) (q : Queue) where
-  pub formed-parts : formed p counts acting facts numbers q ≡ true → Formed p counts acting facts numbers q
+module _ (p : Progress) (counts : Counts) (acting factCount numberCount : ℕ) (q : Queue) where
+  pub formed-parts : formed p counts acting factCount numberCount q ≡ true → Formed p counts acting factCount numberCount q
   unfolding formed
   formed-parts h =
       let a = countersFit p in
       let b = answersFit p in
-      let c = sizesFit counts acting facts numbers in
+      let c = sizesFit counts acting factCount numberCount in
       let d = leb (q .count) 64 in
       let e = slotsFit acting (used q) in
       let abcd = and-left (a && b && c && d) e h in
@@ -169,18 +169,18 @@ module _ (p : Progress) (counts : Counts) (acting facts numbers : ℕ) (q : Queu
       record {
         counters = counters-parts p (and-left a b ab);
         answers = answers-parts p (and-right a b ab);
-        sizes = sizes-parts counts acting facts numbers (and-right (a && b) c abc);
+        sizes = sizes-parts counts acting factCount numberCount (and-right (a && b) c abc);
         few = leb-true (q .count) 64 (and-right (a && b && c) d abcd);
         slots = and-right (a && b && c && d) e h;
       }
 
-  pub formed-of : Formed p counts acting facts numbers q → formed p counts acting facts numbers q ≡ true
+  pub formed-of : Formed p counts acting factCount numberCount q → formed p counts acting factCount numberCount q ≡ true
   unfolding formed
   formed-of h =
       rw (
         counters-of p (h .counters),
         answers-of p (h .answers),
-        sizes-of counts acting facts numbers (h .sizes),
+        sizes-of counts acting factCount numberCount (h .sizes),
         le-leb (q .count) 64 (h .few),
         h .slots,
       )

@@ -46,13 +46,13 @@ module _ {X : Type 0} (c : Check) (out : List X) (least : ℕ) (w : List X) wher
 -- ---- the facts and the numbers
 
 module _ (c : Check) (good : wellFormed c ≡ true) where
-  parts : Formed (c .progress) (c .model .counts) (c .model .acting) (c .ground .facts) (c .ground .numbers) (c .queue)
-  parts = formed-parts (c .progress) (c .model .counts) (c .model .acting) (c .ground .facts) (c .ground .numbers) (c .queue) good
+  parts : Formed (c .progress) (c .model .counts) (c .model .acting) (c .model .sizes .facts) (c .model .sizes .numbers) (c .queue)
+  parts = formed-parts (c .progress) (c .model .counts) (c .model .acting) (c .model .sizes .facts) (c .model .sizes .numbers) (c .queue) good
 
-  pub few-facts : length (c .facts) ≡ 16384 → c .ground .facts ≤ length (c .facts)
+  pub few-facts : length (c .facts) ≡ 16384 → c .model .sizes .facts ≤ length (c .facts)
   few-facts h = omega (arith, h, parts .sizes .fewFacts)
 
-  pub few-numbers : length (c .numbers) ≡ 1024 → c .ground .numbers ≤ length (c .numbers)
+  pub few-numbers : length (c .numbers) ≡ 1024 → c .model .sizes .numbers ≤ length (c .numbers)
   few-numbers h = omega (arith, h, parts .sizes .fewNumbers)
 
 module _ {X : Type 0} (c : Check) (out : List X) (least : ℕ) (w : List X) (good : wellFormed c ≡ true) (f : c .finished ≡ true) (r : c .progress .refused ≡ false) where
@@ -64,25 +64,25 @@ module _ {X : Type 0} (c : Check) (out : List X) (least : ℕ) (w : List X) (goo
   kept-written h after l e = written c out least w h least after l e ∙ stated c out _ r ∙ done c out _ good f
 
 module _ (c : Check) (out : List ℕ) (good : wellFormed c ≡ true) (f : c .finished ≡ true) (r : c .progress .refused ≡ false) where
-  pub facts-short : length out < c .ground .facts → (fed c A.Short, out) ≡ factsOf c out
+  pub facts-short : length out < c .model .sizes .facts → (fed c A.Short, out) ≡ factsOf c out
   unfolding factsOf
-  facts-short h = kept-short c out (c .ground .facts) (map bit (take (c .ground .facts) (c .facts))) good f r h
+  facts-short h = kept-short c out (c .model .sizes .facts) (map bit (take (c .model .sizes .facts) (c .facts))) good f r h
 
-  pub facts-written : length (c .facts) ≡ 16384 → c .ground .facts ≤ length out → (after : List ℕ)
-      → after ≡ sets out 0 (map bit (take (c .ground .facts) (c .facts))) → (fed c (A.Done (c .ground .facts)), after) ≡ factsOf c out
+  pub facts-written : length (c .facts) ≡ 16384 → c .model .sizes .facts ≤ length out → (after : List ℕ)
+      → after ≡ sets out 0 (map bit (take (c .model .sizes .facts) (c .facts))) → (fed c (A.Done (c .model .sizes .facts)), after) ≡ factsOf c out
   unfolding factsOf
   facts-written long h after e =
-      kept-written c out (c .ground .facts) (map bit (take (c .ground .facts) (c .facts))) good f r h after
-      (sym (taken-length bit (c .ground .facts) (c .facts) (few-facts c good long))) e
+      kept-written c out (c .model .sizes .facts) (map bit (take (c .model .sizes .facts) (c .facts))) good f r h after
+      (sym (taken-length bit (c .model .sizes .facts) (c .facts) (few-facts c good long))) e
 
 module _ (c : Check) (out : List ℤ) (good : wellFormed c ≡ true) (f : c .finished ≡ true) (r : c .progress .refused ≡ false) where
-  pub numbers-short : length out < c .ground .numbers → (fed c A.Short, out) ≡ numbersOf c out
+  pub numbers-short : length out < c .model .sizes .numbers → (fed c A.Short, out) ≡ numbersOf c out
   unfolding numbersOf
-  numbers-short h = kept-short c out (c .ground .numbers) (map shown (take (c .ground .numbers) (c .numbers))) good f r h
+  numbers-short h = kept-short c out (c .model .sizes .numbers) (map shown (take (c .model .sizes .numbers) (c .numbers))) good f r h
 
-  pub numbers-written : length (c .numbers) ≡ 1024 → c .ground .numbers ≤ length out → (after : List ℤ)
-      → after ≡ sets out 0 (map shown (take (c .ground .numbers) (c .numbers))) → (fed c (A.Done (c .ground .numbers)), after) ≡ numbersOf c out
+  pub numbers-written : length (c .numbers) ≡ 1024 → c .model .sizes .numbers ≤ length out → (after : List ℤ)
+      → after ≡ sets out 0 (map shown (take (c .model .sizes .numbers) (c .numbers))) → (fed c (A.Done (c .model .sizes .numbers)), after) ≡ numbersOf c out
   unfolding numbersOf
   numbers-written long h after e =
-      kept-written c out (c .ground .numbers) (map shown (take (c .ground .numbers) (c .numbers))) good f r h after
-      (sym (taken-length shown (c .ground .numbers) (c .numbers) (few-numbers c good long))) e
+      kept-written c out (c .model .sizes .numbers) (map shown (take (c .model .sizes .numbers) (c .numbers))) good f r h after
+      (sym (taken-length shown (c .model .sizes .numbers) (c .numbers) (few-numbers c good long))) e

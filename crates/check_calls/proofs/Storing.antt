@@ -69,7 +69,6 @@ module _ (c : Check) (s : State) (line : List ℕ) (q : Queue) (p : Progress) wh
       → stored c (heldIn s line q p)
       ≡ record {
         model = c .model;
-        ground = c .ground;
         facts = s .facts;
         numbers = s .numbers;
         queue = queueOf (used q);
@@ -80,7 +79,6 @@ module _ (c : Check) (s : State) (line : List ℕ) (q : Queue) (p : Progress) wh
   unfolding stored checkIn
   stored-held free h k = rw (free) (λ i. record {
     model = c .model;
-    ground = c .ground;
     facts = last-back (p .past) s i .facts;
     numbers = last-back (p .past) s i .numbers;
     queue = queueOf (slots-back (used q) i);
@@ -98,31 +96,21 @@ module _ (c : Check) (s : State) (line : List ℕ) (q : Queue) (p : Progress) wh
     finished = false;
   })
 
-  pub stored-refused : p .refused ≡ true → stored c (heldIn s line q p) ≡ refusedFrom (c .model) (c .ground) (refusedIn p) false
+  pub stored-refused : p .refused ≡ true → stored c (heldIn s line q p) ≡ refusedFrom (c .model) (refusedIn p) false
   unfolding stored checkIn
   stored-refused stopped = rw (stopped)
 
 module _ (c : Check) (s : State) (p : Progress) where
-  pub ended-refused : p .refused ≡ true → ended c (closedIn s p) ≡ refusedFrom (c .model) (c .ground) (refusedIn p) true
+  pub ended-refused : p .refused ≡ true → ended c (closedIn s p) ≡ refusedFrom (c .model) (refusedIn p) true
   unfolding ended
   ended-refused stopped = rw (stopped)
 
   pub ended-run : p .refused ≡ false
       → ended c (closedIn s p)
-      ≡ record {
-        model = c .model;
-        ground = c .ground;
-        facts = s .facts;
-        numbers = s .numbers;
-        queue = queueOf [];
-        line = emptyLine;
-        progress = endedFrom (p .past);
-        finished = true;
-      }
+      ≡ record { model = c .model; facts = s .facts; numbers = s .numbers; queue = queueOf []; line = emptyLine; progress = endedFrom (p .past); finished = true }
   unfolding ended
   ended-run free = rw (free) (λ i. record {
     model = c .model;
-    ground = c .ground;
     facts = last-back (p .past) s i .facts;
     numbers = last-back (p .past) s i .numbers;
     queue = queueOf [];

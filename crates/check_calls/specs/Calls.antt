@@ -5,7 +5,7 @@ use mathlib.Core.List.{List, [], map}
 use mathlib.Core.Bool.{Bool, true, false, cond, _&&_}
 use lib.Dec.{ltb, leb, eqb}
 use lib.IntN.{ℤ}
-use lib.ListN.{length, take, replicate}
+use lib.ListN.{length, take}
 use lib.Seq.{sets}
 use Rattle.text_words.specs.Bytes.{bytes}
 use Rattle.domain_meaning.specs.Indexes.{padded}
@@ -14,8 +14,8 @@ use Rattle.domain_load.specs.Decode.{decode}
 use Rattle.domain_load.specs.Load.{loadOf}
 use Rattle.domain_load.specs.declared.Loaded.{Loaded}
 use Rattle.domain_load.specs.declared.Model.{Model}
-use Rattle.domain_load.specs.declared.Verdict.{Verdict}
-use Rattle.domain_load.specs.declared.Verdict.the-variants as Is
+use Rattle.domain_load.specs.declared.LoadAnswer.{LoadAnswer}
+use Rattle.domain_load.specs.declared.LoadAnswer.the-variants as Is
 use Rattle.domain_terms.specs.declared.scope.Counts.{Counts}
 use Rattle.happening_grounds.specs.Grounded.{groundsIn}
 use Rattle.happening_meaning.specs.State.{State}
@@ -34,8 +34,6 @@ use Rattle.plan_waiting.specs.declared.Queue.{Queue}
 use Rattle.plan_running.specs.declared.Past.{Past}
 use Rattle.plan_feeding.specs.Feeding.{heldIn}
 use Rattle.plan_feeding.specs.declared.Progress.{Progress}
-use Rattle.check_grounding.specs.Grounding.{groundFor}
-use Rattle.check_grounding.specs.declared.Ground.{Ground}
 use Rattle.check_wording.specs.Wording.{verdictLine, refusalLine}
 use Rattle.check_meaning.specs.Answer.{bit, shown, lastState}
 use Rattle.check_meaning.specs.Listed.{listedInPlan, listedVerdict, listedTime}
@@ -58,14 +56,15 @@ answersFit p =
     cond (p .refused) (listedInPlan (p .refusal) (p .at) (p .column)) true && listedVerdict (p .past .outcome) && listedTime (p .past .time)
 
 unfoldable pub sizesFit : Counts → ℕ → ℕ → ℕ → Bool
-sizesFit counts acting facts numbers = leb (counts .types) 17 && leb (counts .objects) 64 && leb acting 32 && leb facts 16384 && leb numbers 1024
+sizesFit counts acting factCount numberCount =
+    leb (counts .types) 17 && leb (counts .objects) 64 && leb acting 32 && leb factCount 16384 && leb numberCount 1024
 
 unfoldable pub formed : Progress → Counts → ℕ → ℕ → ℕ → Queue → Bool
-formed p counts acting facts numbers q =
-    countersFit p && answersFit p && sizesFit counts acting facts numbers && leb (q .count) 64 && slotsFit acting (used q)
+formed p counts acting factCount numberCount q =
+    countersFit p && answersFit p && sizesFit counts acting factCount numberCount && leb (q .count) 64 && slotsFit acting (used q)
 
 abbrev pub wellFormed : Check → Bool
-wellFormed c = formed (c .progress) (c .model .counts) (c .model .acting) (c .ground .facts) (c .ground .numbers) (c .queue)
+wellFormed c = formed (c .progress) (c .model .counts) (c .model .acting) (c .model .sizes .facts) (c .model .sizes .numbers) (c .queue)
 
 -- ---- what a check stands for: the rules and the names that its model's numbers say, and the machine's state
 
@@ -77,7 +76,7 @@ abbrev pub anyState : State
 anyState = record { facts = []; numbers = [] }
 
 unfoldable pub rulesOn : Check → Rules State Act Outcome
-rulesOn c = rulesOf (promises (groundsIn (c .ground .firsts)) (decode (c .model) .goal)) (decode (c .model) .actions) anyState
+rulesOn c = rulesOf (promises (groundsIn (c .model .firsts)) (decode (c .model) .goal)) (decode (c .model) .actions) anyState
 
 unfoldable pub knownOn : Check → Known
 knownOn c = record { types = decode (c .model) .types; objects = decode (c .model) .objects; actions = decode (c .model) .actions }
@@ -106,11 +105,10 @@ settled p =
     record { used = p .used; number = p .number; start = p .start; past = p .past; refused = false; refusal = 0; at = 0; column = 0 }
 
 -- after a refusal nothing of the run is kept
-abbrev pub refusedFrom : Model → Ground → Refused → Bool → Check
-refusedFrom m g e done =
+abbrev pub refusedFrom : Model → Refused → Bool → Check
+refusedFrom m e done =
     record {
       model = m;
-      ground = g;
       facts = noFacts;
       numbers = noNumbers;
       queue = queueOf [];
@@ -120,14 +118,13 @@ refusedFrom m g e done =
     }
 
 abbrev pub refusedCheck : Check → Refused → Bool → Check
-refusedCheck c e done = refusedFrom (c .model) (c .ground) e done
+refusedCheck c e done = refusedFrom (c .model) e done
 
 unfoldable pub stored : Check → Feed State Act Outcome Refused → Check
 stored c (reading (halted e) n part) = refusedCheck c e false
 stored c (reading (waits run s q) n part) =
     record {
       model = c .model;
-      ground = c .ground;
       facts = lastState run .facts;
       numbers = lastState run .numbers;
       queue = queueOf (map slotOf q);
@@ -144,7 +141,6 @@ ended c (P.refused e) = refusedCheck c e true
 ended c (P.ended run) =
     record {
       model = c .model;
-      ground = c .ground;
       facts = lastState run .facts;
       numbers = lastState run .numbers;
       queue = queueOf [];
@@ -169,7 +165,6 @@ abbrev pub withFinish : Check → Check
 withFinish c =
     record {
       model = c .model;
-      ground = c .ground;
       facts = c .facts;
       numbers = c .numbers;
       queue = c .queue;
@@ -209,24 +204,17 @@ abbrev pub unlessRefused : {A : Type 0} → Check → A → Fed × A → Fed × 
 unlessRefused c out next = cond (c .progress .refused) (fed c A.Stateless, out) next
 
 unfoldable pub factsOf : Check → List ℕ → Fed × List ℕ
-factsOf c out = whenDone c out (unlessRefused c out (writing c out (c .ground .facts) (map bit (take (c .ground .facts) (c .facts)))))
+factsOf c out = whenDone c out (unlessRefused c out (writing c out (c .model .sizes .facts) (map bit (take (c .model .sizes .facts) (c .facts)))))
 
 unfoldable pub numbersOf : Check → List ℤ → Fed × List ℤ
-numbersOf c out = whenDone c out (unlessRefused c out (writing c out (c .ground .numbers) (map shown (take (c .ground .numbers) (c .numbers)))))
+numbersOf c out = whenDone c out (unlessRefused c out (writing c out (c .model .sizes .numbers) (map shown (take (c .model .sizes .numbers) (c .numbers)))))
 
 -- ---- load: "A refused load hands back one fixed check that 19 refuses"
 
-abbrev pub noGround : Ground
-noGround = record { firsts = replicate 49 0; facts = 0; numbers = 0 }
-
-unfoldable pub groundOf : Model → Ground
-groundOf m = groundFor (m .counts .objects) (m .facts) (m .numbers) (decode m .predicates) (decode m .functions)
-
-abbrev pub checkFor : Loaded → Ground → ℕ → Check
-checkFor l g n =
+abbrev pub checkFor : Loaded → ℕ → Check
+checkFor l n =
     record {
       model = l .model;
-      ground = g;
       facts = l .facts;
       numbers = l .numbers;
       queue = queueOf [];
@@ -235,10 +223,10 @@ checkFor l g n =
       finished = false;
     }
 
-abbrev pub openedBy : Verdict → Loaded → Opened
-openedBy Is.Loaded l = record { check = checkFor l (groundOf (l .model)) 1; answer = Is.Loaded }
-openedBy (Is.Domain k p) l = record { check = checkFor l noGround 0; answer = Is.Domain k p }
-openedBy (Is.Problem k p) l = record { check = checkFor l noGround 0; answer = Is.Problem k p }
+abbrev pub openedBy : LoadAnswer → Loaded → Opened
+openedBy Is.Loaded l = record { check = checkFor l 1; answer = Is.Loaded }
+openedBy (Is.Domain k p) l = record { check = checkFor l 0; answer = Is.Domain k p }
+openedBy (Is.Problem k p) l = record { check = checkFor l 0; answer = Is.Problem k p }
 
 unfoldable pub openOf : List ℕ → List ℕ → Opened
 openOf domain problem = openedBy (loadOf domain problem .answer) (loadOf domain problem)
@@ -247,7 +235,7 @@ abbrev pub writingLine : List ℕ → List ℕ → Answer × List ℕ
 writingLine w out = cond (ltb (length out) 64) (A.Short, out) (A.Done (length w), sets out 0 w)
 
 -- "A refused load's line is written from its answer, without a check"; a load that is not refused has no line yet: 22
-unfoldable pub lineOf : Verdict → List ℕ → Answer × List ℕ
+unfoldable pub lineOf : LoadAnswer → List ℕ → Answer × List ℕ
 lineOf Is.Loaded out = (A.Early, out)
 lineOf (Is.Domain k p) out = writingLine (refusalLine (bytes "domain") k p 0) out
 lineOf (Is.Problem k p) out = writingLine (refusalLine (bytes "problem") k p 0) out

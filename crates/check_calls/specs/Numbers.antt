@@ -1,8 +1,8 @@
 -- Document 01's number and place for each answer of the calls. "Where an answer is an enum, a definition gives this paper's number and values for each of
 -- its cases. The promises use that definition."
 use Prim.Native.Nat.{ℕ}
-use Rattle.domain_load.specs.declared.Verdict.{Verdict}
-use Rattle.domain_load.specs.declared.Verdict.the-variants as Is
+use Rattle.domain_load.specs.declared.LoadAnswer.{LoadAnswer}
+use Rattle.domain_load.specs.declared.LoadAnswer.the-variants as Is
 use Rattle.check_calls.specs.declared.Answer.{Answer}
 use Rattle.check_calls.specs.declared.Answer.the-variants as A
 
@@ -37,12 +37,12 @@ onRefused A.Early f x = x
 onRefused A.Stateless f x = x
 
 -- the same of load: which number, and at which byte of the text that is refused
-abbrev pub loadNumber : Verdict → ℕ
+abbrev pub loadNumber : LoadAnswer → ℕ
 loadNumber Is.Loaded = 0
 loadNumber (Is.Domain k p) = k
 loadNumber (Is.Problem k p) = k
 
-abbrev pub loadPlace : Verdict → ℕ
+abbrev pub loadPlace : LoadAnswer → ℕ
 loadPlace Is.Loaded = 0
 loadPlace (Is.Domain k p) = p
 loadPlace (Is.Problem k p) = p

@@ -1,9 +1,9 @@
 // "Well formed": the test of a check's numbers; and what is kept of a check between calls.
 use crate::Check;
 use crate::listing;
-use check_grounding::Ground;
 use domain_load::Loaded;
 use domain_load::Model;
+use domain_load::Sizes;
 use domain_terms::scope::Counts;
 use happening_meaning::Outcome;
 use plan_feeding::Progress;
@@ -16,7 +16,7 @@ ghost use lib.Dec.{eqb};
 ghost use lib.ListN.{length, take};
 ghost use Rattle.domain_meaning.specs.Indexes.{padded};
 ghost use Rattle.plan_feeding.specs.Feeding.{refusedIn};
-ghost use Rattle.check_calls.specs.Calls.{countersFit, sizesFit, formed, ready, settled, noGround, checkFor, refusedFrom, endedFrom};
+ghost use Rattle.check_calls.specs.Calls.{countersFit, sizesFit, formed, ready, settled, checkFor, refusedFrom, endedFrom};
 
 // The last line that can have so many bytes.
 fn most_lines(used: usize) -> usize
@@ -41,14 +41,14 @@ fn counters_fit(p: Progress) -> bool
     false
 }
 
-fn sizes_fit(counts: Counts, acting: usize, facts: usize, numbers: usize) -> bool
-    ensures { λ r. ⌜ r ≡ sizesFit counts acting facts numbers ⌝ }
+fn sizes_fit(counts: Counts, acting: usize, sizes: Sizes) -> bool
+    ensures { λ r. ⌜ r ≡ sizesFit counts acting (sizes .facts) (sizes .numbers) ⌝ }
 {
     if counts.types <= 17 {
         if counts.objects <= 64 {
             if acting <= 32 {
-                if facts <= 16384 {
-                    return numbers <= 1024;
+                if sizes.facts <= 16384 {
+                    return sizes.numbers <= 1024;
                 }
             }
         }
@@ -57,19 +57,12 @@ fn sizes_fit(counts: Counts, acting: usize, facts: usize, numbers: usize) -> boo
 }
 
 // Whether a check is well formed.
-pub fn is_formed(
-    p: Progress,
-    counts: Counts,
-    acting: usize,
-    facts: usize,
-    numbers: usize,
-    queue: Queue,
-) -> bool
-    ensures { λ r. ⌜ r ≡ formed p counts acting facts numbers queue ⌝ }
+pub fn is_formed(p: Progress, counts: Counts, acting: usize, sizes: Sizes, queue: Queue) -> bool
+    ensures { λ r. ⌜ r ≡ formed p counts acting (sizes .facts) (sizes .numbers) queue ⌝ }
 {
     if counters_fit(p) {
         if listing::answers_fit(p) {
-            if sizes_fit(counts, acting, facts, numbers) {
+            if sizes_fit(counts, acting, sizes) {
                 if queue.count <= 64 {
                     return plan_waiting::slots_fit(queue, acting);
                 }
@@ -129,26 +122,15 @@ pub fn tidy_line(line: &[u8], used: usize) -> [u8; 257]
     out
 }
 
-pub fn no_ground() -> Ground
-    ensures { λ r. ⌜ r ≡ noGround ⌝ }
-{
-    Ground {
-        firsts: [0u16; 49],
-        facts: 0,
-        numbers: 0,
-    }
-}
-
 // The check before a plan, at line `number`: 0 for a refused load, which 19 refuses.
-pub fn check_for(loaded: Loaded, ground: Ground, number: usize) -> Check
-    ensures { λ r. ⌜ r ≡ checkFor loaded ground number ⌝ }
+pub fn check_for(loaded: Loaded, number: usize) -> Check
+    ensures { λ r. ⌜ r ≡ checkFor loaded number ⌝ }
 {
     let model = loaded.model;
     let facts = loaded.facts;
     let numbers = loaded.numbers;
     Check {
         model,
-        ground,
         facts,
         numbers,
         queue: plan_waiting::nobody(),
@@ -159,12 +141,11 @@ pub fn check_for(loaded: Loaded, ground: Ground, number: usize) -> Check
 }
 
 // The check of a refused plan: nothing of the run is kept.
-pub fn refused_check(model: Model, ground: Ground, p: Progress, finished: bool) -> Check
-    ensures { λ r. ⌜ r ≡ refusedFrom model ground (refusedIn p) finished ⌝ }
+pub fn refused_check(model: Model, p: Progress, finished: bool) -> Check
+    ensures { λ r. ⌜ r ≡ refusedFrom model (refusedIn p) finished ⌝ }
 {
     Check {
         model,
-        ground,
         facts: [0u8; 16384],
         numbers: [-1000000000001i64; 1024],
         queue: plan_waiting::nobody(),

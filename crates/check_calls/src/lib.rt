@@ -3,9 +3,8 @@ mod forming;
 mod listing;
 mod outputs;
 
-use check_grounding::Ground;
+use domain_load::LoadAnswer;
 use domain_load::Model;
-use domain_load::Verdict;
 use plan_bytes::bytes;
 use plan_feeding::Progress;
 use plan_feeding::stepping;
@@ -16,7 +15,6 @@ ghost use Rattle.check_calls.specs.Calls.{wellFormed, fed, feedOf, finis
 
 pub struct Check {
     pub model: Model,
-    pub ground: Ground,
     pub facts: [u8; 16384],
     pub numbers: [i64; 1024],
     pub queue: Queue,
@@ -46,7 +44,7 @@ pub enum Answer {
 
 pub struct Opened {
     pub check: Check,
-    pub answer: Verdict,
+    pub answer: LoadAnswer,
 }
 
 pub struct Fed {
@@ -60,29 +58,22 @@ pub fn load(domain: &[u8], problem: &[u8]) -> Opened
 {
     let loaded = domain_load::load(domain, problem);
     let answer = loaded.answer;
-    let Verdict::Loaded = answer else {
-        let check = forming::check_for(loaded, forming::no_ground(), 0);
+    let LoadAnswer::Loaded = answer else {
+        let check = forming::check_for(loaded, 0);
         return Opened { check, answer };
     };
-    let counts = loaded.model.counts;
-    let ground = check_grounding::ground_of(
-        &loaded.model.tables,
-        counts,
-        &loaded.model.facts,
-        &loaded.model.numbers,
-    );
-    let check = forming::check_for(loaded, ground, 1);
+    let check = forming::check_for(loaded, 1);
     Opened { check, answer }
 }
 
 // A refused load's line, from its answer.
-pub fn refused_line(answer: Verdict, line: &mut [u8]) -> Answer
+pub fn refused_line(answer: LoadAnswer, line: &mut [u8]) -> Answer
     ensures { λ r. ⌜ (r, now (line .exit)) ≡ lineOf answer (now (line .entry)) ⌝ }
 {
     match answer {
-        Verdict::Loaded => Answer::Early,
-        Verdict::Domain(k, p) => outputs::write_refusal(line, b"domain", k, p),
-        Verdict::Problem(k, p) => outputs::write_refusal(line, b"problem", k, p),
+        LoadAnswer::Loaded => Answer::Early,
+        LoadAnswer::Domain(k, p) => outputs::write_refusal(line, b"domain", k, p),
+        LoadAnswer::Problem(k, p) => outputs::write_refusal(line, b"problem", k, p),
     }
 }
 
@@ -94,8 +85,7 @@ impl Check {
             self.progress,
             self.model.counts,
             self.model.acting,
-            self.ground.facts,
-            self.ground.numbers,
+            self.model.sizes,
             self.queue,
         )
     }
@@ -127,7 +117,7 @@ impl Check {
             acting,
             &self.model.code,
             &self.model.starts,
-            &self.ground.firsts,
+            &self.model.firsts,
             &mut facts,
             &mut numbers,
             &mut fresh,
@@ -139,7 +129,7 @@ impl Check {
         let after = t.progress;
         let stopped = after.refused;
         if stopped {
-            let check = forming::refused_check(self.model, self.ground, after, false);
+            let check = forming::refused_check(self.model, after, false);
             return check.answered(outputs::standing_answer(after));
         }
         self.facts = facts;
@@ -186,7 +176,7 @@ impl Check {
             &self.model.code,
             &self.model.starts,
             &self.model.goal,
-            &self.ground.firsts,
+            &self.model.firsts,
             &mut facts,
             &mut numbers,
             &mut fresh,
@@ -196,7 +186,7 @@ impl Check {
         );
         let stopped = after.refused;
         if stopped {
-            let check = forming::refused_check(self.model, self.ground, after, true);
+            let check = forming::refused_check(self.model, after, true);
             return check.answered(outputs::standing_answer(after));
         }
         self.facts = facts;
@@ -260,7 +250,7 @@ impl Check {
         if refused {
             return self.answered(Answer::Stateless);
         }
-        let n = self.ground.facts;
+        let n = self.model.sizes.facts;
         if out.len() < n {
             return self.answered(Answer::Short);
         }
@@ -283,7 +273,7 @@ impl Check {
         if refused {
             return self.answered(Answer::Stateless);
         }
-        let n = self.ground.numbers;
+        let n = self.model.sizes.numbers;
         if out.len() < n {
             return self.answered(Answer::Short);
         }

@@ -94,8 +94,8 @@ unfolding resultOf factsOf numbersOf
 listed c (feed p) = taken-listed (feedOf c p .answer) (feed-listed c p)
 listed c finish = taken-listed (finishOf c .answer) (finish-listed c)
 listed c (result out) = asked-listed c out 64 (C.lineIn (c .progress))
-listed c (facts out) = state-listed c out (c .ground .facts) (map bit (take (c .ground .facts) (c .facts)))
-listed c (numbers out) = state-listed c out (c .ground .numbers) (map shown (take (c .ground .numbers) (c .numbers)))
+listed c (facts out) = state-listed c out (c .model .sizes .facts) (map bit (take (c .model .sizes .facts) (c .facts)))
+listed c (numbers out) = state-listed c out (c .model .sizes .numbers) (map shown (take (c .model .sizes .numbers) (c .numbers)))
 
 -- ---- the line that is written is whole
 

@@ -22,8 +22,8 @@ use Rattle.plan_meaning.specs.Lines.{Refused, reader, limits}
 use Rattle.text_words.specs.Bytes.{bytes}
 use Rattle.check_wording.specs.Wording.{refusalLine}
 use Rattle.check_meaning.specs.Answer.{bit, shown}
-use Rattle.domain_load.specs.declared.Verdict.{Verdict}
-use Rattle.domain_load.specs.declared.Verdict.the-variants as Is
+use Rattle.domain_load.specs.declared.LoadAnswer.{LoadAnswer}
+use Rattle.domain_load.specs.declared.LoadAnswer.the-variants as Is
 use Rattle.plan_feeding.specs.declared.Progress.{Progress}
 use Rattle.check_calls.specs.Calls as C
 use Rattle.check_calls.specs.Calls.{wellFormed, rulesOn, knownOn, heldBy, standing, feedOf, finishOf, resultOf, factsOf, numbersOf, openOf}
@@ -141,8 +141,8 @@ ruled c (result out) = done-ruled c out (C.writing c out 64 w) ((ltb (length out
   where
     w : List ℕ
     w = C.lineIn (c .progress)
-ruled c (facts out) = state-ruled c out (c .ground .facts) (map bit (take (c .ground .facts) (c .facts)))
-ruled c (numbers out) = state-ruled c out (c .ground .numbers) (map shown (take (c .ground .numbers) (c .numbers)))
+ruled c (facts out) = state-ruled c out (c .model .sizes .facts) (map bit (take (c .model .sizes .facts) (c .facts)))
+ruled c (numbers out) = state-ruled c out (c .model .sizes .numbers) (map shown (take (c .model .sizes .numbers) (c .numbers)))
 
 -- the line of a refused load
 module _ (w out : List ℕ) where
@@ -153,7 +153,7 @@ module _ (w out : List ℕ) where
       go true = (refl, refl)
       go false = (refl, refl)
 
-pub line-ruled : (v : Verdict) (out : List ℕ) → Same (C.lineOf v out .0) (ranked (lineRules v out) (A.Done 0))
+pub line-ruled : (v : LoadAnswer) (out : List ℕ) → Same (C.lineOf v out .0) (ranked (lineRules v out) (A.Done 0))
 unfolding C.lineOf
 line-ruled Is.Loaded out = (refl, refl)
 line-ruled (Is.Domain k p) out = refused-ruled (refusalLine (bytes "domain") k p 0) out
@@ -188,19 +188,19 @@ output-kept c (result out) n = ap (λ o. Lent.bytes o) (done-stays c out (C.writ
 output-kept c (facts out) n = ap (λ o. Lent.bytes o) (done-stays c out (C.unlessRefused c out (C.writing c out k w)) (stated-stays c out (C.writing c out k w) (written-stays c out k w)) n)
   where
     k : ℕ
-    k = c .ground .facts
+    k = c .model .sizes .facts
 
     w : List ℕ
-    w = map bit (take (c .ground .facts) (c .facts))
+    w = map bit (take (c .model .sizes .facts) (c .facts))
 output-kept c (numbers out) n = ap (λ o. Lent.amounts o) (done-stays c out (C.unlessRefused c out (C.writing c out k w)) (stated-stays c out (C.writing c out k w) (written-stays c out k w)) n)
   where
     k : ℕ
-    k = c .ground .numbers
+    k = c .model .sizes .numbers
 
     w : List ℤ
-    w = map shown (take (c .ground .numbers) (c .numbers))
+    w = map shown (take (c .model .sizes .numbers) (c .numbers))
 
-pub line-kept : (v : Verdict) (out : List ℕ) → Refuses (C.lineOf v out .0) → C.lineOf v out .1 ≡ out
+pub line-kept : (v : LoadAnswer) (out : List ℕ) → Refuses (C.lineOf v out .0) → C.lineOf v out .1 ≡ out
 unfolding C.lineOf
 line-kept Is.Loaded out n = refl
 line-kept (Is.Domain k p) out n = either (λ (r : Answer × List ℕ). Refuses (r .0) → r .1 ≡ out) (ltb (length out) 64) (λ m. refl) (λ m. absurd (m refl)) n

@@ -18,11 +18,11 @@ use Rattle.plan_meaning.specs.Feed.{Feed, reading, close}
 use Rattle.plan_meaning.specs.Promised.{Act}
 use Rattle.plan_meaning.specs.Lines.{Refused, reader, limits}
 use Rattle.domain_load.specs.Load.{fixedOf}
-use Rattle.domain_load.specs.declared.Verdict.{Verdict}
-use Rattle.domain_load.specs.declared.Verdict.the-variants as Is
+use Rattle.domain_load.specs.declared.LoadAnswer.{LoadAnswer}
+use Rattle.domain_load.specs.declared.LoadAnswer.the-variants as Is
 use Rattle.check_meaning.specs.Answer.{bit, shown}
 use Rattle.check_calls.specs.Calls as C
-use Rattle.check_calls.specs.Calls.{wellFormed, rulesOn, knownOn, heldBy, stored, noGround, checkFor, feedOf, finishOf, resultOf, factsOf, numbersOf, openOf}
+use Rattle.check_calls.specs.Calls.{wellFormed, rulesOn, knownOn, heldBy, stored, checkFor, feedOf, finishOf, resultOf, factsOf, numbersOf, openOf}
 use Rattle.check_calls.specs.declared.Check.{Check}
 use Rattle.check_calls.specs.declared.Fed.{Fed}
 use Rattle.check_calls.specs.declared.Answer.the-variants as A
@@ -120,10 +120,10 @@ facts-asked c out =
     done-asked c out (C.unlessRefused c out (C.writing c out n w)) (stated-asked c out (C.writing c out n w) (written-asked c out n w))
   where
     n : ℕ
-    n = c .ground .facts
+    n = c .model .sizes .facts
 
     w : List ℕ
-    w = map bit (take (c .ground .facts) (c .facts))
+    w = map bit (take (c .model .sizes .facts) (c .facts))
 
 pub numbers-asked : (c : Check) (out : List ℤ) → Asked c out (numbersOf c out)
 unfolding numbersOf
@@ -131,22 +131,22 @@ numbers-asked c out =
     done-asked c out (C.unlessRefused c out (C.writing c out n w)) (stated-asked c out (C.writing c out n w) (written-asked c out n w))
   where
     n : ℕ
-    n = c .ground .numbers
+    n = c .model .sizes .numbers
 
     w : List ℤ
-    w = map shown (take (c .ground .numbers) (c .numbers))
+    w = map shown (take (c .model .sizes .numbers) (c .numbers))
 
 -- ---- a load gives a well-formed check if it is not refused, else one fixed check that is not
 
 abbrev pub fixedCheck : Check
-fixedCheck = checkFor (fixedOf Is.Loaded) noGround 0
+fixedCheck = checkFor (fixedOf Is.Loaded) 0
 
-abbrev pub Opens : Verdict → Check → Type 0
+abbrev pub Opens : LoadAnswer → Check → Type 0
 Opens Is.Loaded c = wellFormed c ≡ true
 Opens (Is.Domain k p) c = (c ≡ fixedCheck) × (wellFormed c ≡ false)
 Opens (Is.Problem k p) c = (c ≡ fixedCheck) × (wellFormed c ≡ false)
 
-pub fixed-one : (v : Verdict) → checkFor (fixedOf v) noGround 0 ≡ fixedCheck
+pub fixed-one : (v : LoadAnswer) → checkFor (fixedOf v) 0 ≡ fixedCheck
 unfolding fixedOf
 fixed-one v = refl
 

@@ -36,7 +36,7 @@ use Rattle.check_demand_laws.proofs.Asking.{ended-formed}
 use Rattle.check_demand_laws.proofs.Kept.{stored-kept}
 
 formed-answers : (c : Check) → wellFormed c ≡ true → Answers (c .progress)
-formed-answers c f = formed-parts (c .progress) (c .model .counts) (c .model .acting) (c .ground .facts) (c .ground .numbers) (c .queue) f .answers
+formed-answers c f = formed-parts (c .progress) (c .model .counts) (c .model .acting) (c .model .sizes .facts) (c .model .sizes .numbers) (c .queue) f .answers
 
 -- ---- feed and finish: done, a plan refusal of the table, 19 or 21
 
@@ -176,12 +176,12 @@ module _ {X : Type 0} (c : Check) (out : List X) (size : ℕ) (w : List X) (h : 
       (λ _. tt)
 
 -- the arrays of a check are as long as their types say
-pub facts-listed : (c : Check) (out : List ℕ) → length (c .facts) ≡ 16384 → Showed (c .ground .facts) (factsOf c out .0 .answer)
+pub facts-listed : (c : Check) (out : List ℕ) → length (c .facts) ≡ 16384 → Showed (c .model .sizes .facts) (factsOf c out .0 .answer)
 unfolding factsOf
 facts-listed c out long =
-    shown-listed c out (c .ground .facts) (map bit (take (c .ground .facts) (c .facts))) (λ f. taken-length bit (c .ground .facts) (c .facts) (few-facts c f long))
+    shown-listed c out (c .model .sizes .facts) (map bit (take (c .model .sizes .facts) (c .facts))) (λ f. taken-length bit (c .model .sizes .facts) (c .facts) (few-facts c f long))
 
-pub numbers-listed : (c : Check) (out : List ℤ) → length (c .numbers) ≡ 1024 → Showed (c .ground .numbers) (numbersOf c out .0 .answer)
+pub numbers-listed : (c : Check) (out : List ℤ) → length (c .numbers) ≡ 1024 → Showed (c .model .sizes .numbers) (numbersOf c out .0 .answer)
 unfolding numbersOf
 numbers-listed c out long =
-    shown-listed c out (c .ground .numbers) (map shown (take (c .ground .numbers) (c .numbers))) (λ f. taken-length shown (c .ground .numbers) (c .numbers) (few-numbers c f long))
+    shown-listed c out (c .model .sizes .numbers) (map shown (take (c .model .sizes .numbers) (c .numbers))) (λ f. taken-length shown (c .model .sizes .numbers) (c .numbers) (few-numbers c f long))

@@ -4,7 +4,7 @@ use Prim.Native.Nat.{ℕ}
 use mathlib.Core.List.{List}
 use mathlib.Core.Path.{_≡_, sym, ap, _∙_}
 use lib.IntN.{ℤ}
-use Rattle.domain_load.specs.declared.Verdict.{Verdict}
+use Rattle.domain_load.specs.declared.LoadAnswer.{LoadAnswer}
 use Rattle.check_calls.specs.Calls.{openOf, feedOf, finishOf, resultOf, factsOf, numbersOf, lineOf}
 use Rattle.check_calls.specs.declared.Check.{Check}
 use Rattle.check_calls.specs.declared.Opened.{Opened}
@@ -36,6 +36,6 @@ pub one-numbers : (c : Check) (out : List ℤ) (r q : Fed) (now′ other : List 
     → (r ≡ q) × (now′ ≡ other)
 one-numbers c out r q now′ other e f = both-once r q now′ other e f
 
-pub one-line : (v : Verdict) (line : List ℕ) (r q : Answer) (now′ other : List ℕ) → (r, now′) ≡ lineOf v line → (q, other) ≡ lineOf v line
+pub one-line : (v : LoadAnswer) (line : List ℕ) (r q : Answer) (now′ other : List ℕ) → (r, now′) ≡ lineOf v line → (q, other) ≡ lineOf v line
     → (r ≡ q) × (now′ ≡ other)
 one-line v line r q now′ other e f = both-once r q now′ other e f

@@ -51,7 +51,7 @@ open-kept c o = subst (λ (n : ℕ). KeptFeed n (heldBy c)) (sym (acting-known c
 pub fed-kept : (c : Check) (p : List ℕ) → Open c → KeptFeed (c .model .acting) (fedBy c p)
 unfolding rulesOn
 fed-kept c p o =
-    let g = groundsIn (c .ground .firsts) in
+    let g = groundsIn (c .model .firsts) in
     let goal = decode (c .model) .goal in
     subst (λ (n : ℕ). KeptFeed n (fedBy c p)) (acting-known c)
     (feed-kept (promises g goal) (named g goal) (decode (c .model) .actions) anyState (knownOn c) p (heldBy c) (open-kept c o))
@@ -61,7 +61,7 @@ pub closed-kept : (c : Check) (ps : List (List ℕ)) → Open c
     → KeptResult (close (rulesOn c) limits (reader (knownOn c)) (feeds (rulesOn c) limits (reader (knownOn c)) (heldBy c) ps))
 unfolding rulesOn
 closed-kept c ps o =
-    let g = groundsIn (c .ground .firsts) in
+    let g = groundsIn (c .model .firsts) in
     let goal = decode (c .model) .goal in
     let P = promises g goal in
     close-kept P (named g goal) (decode (c .model) .actions) anyState (knownOn c) (feeds (rulesOn c) limits (reader (knownOn c)) (heldBy c) ps)

@@ -1,8 +1,8 @@
 -- A whole session: load, feed the plan's parts, finish; then ask for the line, the facts and the numbers.
 use Prim.Native.Nat.{ℕ}
 use mathlib.Core.List.{List, [], _∷_}
-use Rattle.domain_load.specs.declared.Verdict.{Verdict}
-use Rattle.domain_load.specs.declared.Verdict.the-variants as Is
+use Rattle.domain_load.specs.declared.LoadAnswer.{LoadAnswer}
+use Rattle.domain_load.specs.declared.LoadAnswer.the-variants as Is
 use Rattle.check_calls.specs.Calls.{feedOf, finishOf, resultOf, openOf, lineOf}
 use Rattle.check_calls.specs.declared.Check.{Check}
 use Rattle.check_calls.specs.declared.Answer.{Answer}
@@ -17,7 +17,7 @@ abbrev pub sessionOf : List ℕ → List ℕ → List (List ℕ) → Check
 sessionOf domain problem parts = finishOf (feedsOf (openOf domain problem .check) parts) .check
 
 -- the lent line: a refused load's is written from its answer
-abbrev pub askedLine : Verdict → Check → List ℕ → List ℕ
+abbrev pub askedLine : LoadAnswer → Check → List ℕ → List ℕ
 askedLine Is.Loaded c line = resultOf c line .1
 askedLine (Is.Domain k p) c line = lineOf (Is.Domain k p) line .1
 askedLine (Is.Problem k p) c line = lineOf (Is.Problem k p) line .1

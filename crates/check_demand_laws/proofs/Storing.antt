@@ -82,8 +82,8 @@ module _ (c : Check) (r : Run State Why.Outcome) (s : ℕ) (q : List (Point Act)
   pub stored-formed : wellFormed c ≡ true → Kept (c .model .acting) r s q → Line k part → wellFormed (stored c m) ≡ true
   unfolding stored
   stored-formed f h l =
-      let g = formed-parts (c .progress) (c .model .counts) (c .model .acting) (c .ground .facts) (c .ground .numbers) (c .queue) f in
-      formed-of (stored c m .progress) (c .model .counts) (c .model .acting) (c .ground .facts) (c .ground .numbers) (queueOf (map slotOf q))
+      let g = formed-parts (c .progress) (c .model .counts) (c .model .acting) (c .model .sizes .facts) (c .model .sizes .numbers) (c .queue) f in
+      formed-of (stored c m .progress) (c .model .counts) (c .model .acting) (c .model .sizes .facts) (c .model .sizes .numbers) (queueOf (map slotOf q))
       (record {
         counters = record { first = l .first; lines = l .last; empty = l .empty; short = l .short; timely = h .start };
         answers = record { refusal = λ e. absurd (false≢true e); verdict = told-answers r (h .told) .0; time = told-answers r (h .told) .1 };
@@ -111,7 +111,7 @@ points-sound n (x ∷ l) h = ((ap pointIn (slot-back x), rw (slot-back x) (fit-f
 pub held-kept : (c : Check) → wellFormed c ≡ true → c .progress .refused ≡ false → KeptFeed (c .model .acting) (heldBy c)
 unfolding checkIn
 held-kept c f e =
-    let g = formed-parts (c .progress) (c .model .counts) (c .model .acting) (c .ground .facts) (c .ground .numbers) (c .queue) f in
+    let g = formed-parts (c .progress) (c .model .counts) (c .model .acting) (c .model .sizes .facts) (c .model .sizes .numbers) (c .queue) f in
     rw e (
       record {
         told = past-told (c .progress .past) (stateOf c) (g .answers .verdict) (g .answers .time);
@@ -149,10 +149,10 @@ fresh-counters p n u s =
 
 module _ (c : Check) (f : wellFormed c ≡ true) where
   pub fresh-formed : (p : Progress) → p .number ≡ 1 → p .used ≡ 0 → p .start ≡ 0 → Answers p
-      → formed p (c .model .counts) (c .model .acting) (c .ground .facts) (c .ground .numbers) (queueOf []) ≡ true
+      → formed p (c .model .counts) (c .model .acting) (c .model .sizes .facts) (c .model .sizes .numbers) (queueOf []) ≡ true
   fresh-formed p n u s a =
-      let g = formed-parts (c .progress) (c .model .counts) (c .model .acting) (c .ground .facts) (c .ground .numbers) (c .queue) f in
-      formed-of p (c .model .counts) (c .model .acting) (c .ground .facts) (c .ground .numbers) (queueOf [])
+      let g = formed-parts (c .progress) (c .model .counts) (c .model .acting) (c .model .sizes .facts) (c .model .sizes .numbers) (c .queue) f in
+      formed-of p (c .model .counts) (c .model .acting) (c .model .sizes .facts) (c .model .sizes .numbers) (queueOf [])
       (record {
         counters = fresh-counters p n u s;
         answers = a;

@@ -21,8 +21,8 @@ use Rattle.plan_meaning.specs.Feed.{joined}
 use Rattle.plan_meaning.specs.Lines.{Refused}
 use Rattle.check_wording.specs.Wording.{refusalLine}
 use Rattle.check_meaning.specs.Answer.{bit, shown, lastState, ofPlan, answer}
-use Rattle.domain_load.specs.declared.Verdict.{Verdict}
-use Rattle.domain_load.specs.declared.Verdict.the-variants as Is
+use Rattle.domain_load.specs.declared.LoadAnswer.{LoadAnswer}
+use Rattle.domain_load.specs.declared.LoadAnswer.the-variants as Is
 use Rattle.check_calls.specs.Calls as C
 use Rattle.check_calls.specs.Calls.{wellFormed, feedOf, finishOf, resultOf, factsOf, numbersOf, openOf, writingLine}
 use Rattle.check_calls.specs.declared.Check.{Check}
@@ -51,7 +51,7 @@ same-session s t ps = ap (λ c. finishOf c .check) (same-feeds ps (openOf s t .c
 same-finish : (s t : List ℕ) (ps : List (List ℕ)) → session ours s t ps .1 ≡ finishOf (feedsOf (openOf s t .check) ps) .answer
 same-finish s t ps = ap (λ c. finishOf c .answer) (same-feeds ps (openOf s t .check))
 
-same-line : (v : Verdict) (c : Check) (out : List ℕ) → lineOf ours v c out .1 ≡ askedLine v c out
+same-line : (v : LoadAnswer) (c : Check) (out : List ℕ) → lineOf ours v c out .1 ≡ askedLine v c out
 same-line Is.Loaded c out = refl
 same-line (Is.Domain k p) c out = refl
 same-line (Is.Problem k p) c out = refl
@@ -106,27 +106,27 @@ module _ (s t : List ℕ) (ps : List (List ℕ)) (out : List ℕ) (h : 64 ≤ le
 -- ---- the final facts and numbers
 
 module _ (c : Check) (f : wellFormed c ≡ true) where
-  shown-facts : (x : Result State Why.Outcome Refused) → KeptResult x → (k : ℕ) (out : List ℕ) → c .ground .facts ≤ length out
-      → Shows ours (ofPlan (c .ground .facts) k x .final) (λ y. y .facts) out (ours .facts (C.ended c x) out)
+  shown-facts : (x : Result State Why.Outcome Refused) → KeptResult x → (k : ℕ) (out : List ℕ) → c .model .sizes .facts ≤ length out
+      → Shows ours (ofPlan (c .model .sizes .facts) k x .final) (λ y. y .facts) out (ours .facts (C.ended c x) out)
   unfolding factsOf C.ended ofPlan
   shown-facts (P.refused e) l k out h = rw (ended-formed c f (P.refused e) l) refl
   shown-facts (P.ended r) l k out h =
-      rw (ended-formed c f (P.ended r) l, le-ltb (length out) (c .ground .facts) h)
-      (ap (λ o. ((C.ended c (P.ended r), A.Done (length w)), o)) (sets-first w out (omega (arith, length-map (take (c .ground .facts) (lastState r .facts)) bit, length-take (c .ground .facts) (lastState r .facts)))))
+      rw (ended-formed c f (P.ended r) l, le-ltb (length out) (c .model .sizes .facts) h)
+      (ap (λ o. ((C.ended c (P.ended r), A.Done (length w)), o)) (sets-first w out (omega (arith, length-map (take (c .model .sizes .facts) (lastState r .facts)) bit, length-take (c .model .sizes .facts) (lastState r .facts)))))
     where
       w : List ℕ
-      w = map bit (take (c .ground .facts) (lastState r .facts))
+      w = map bit (take (c .model .sizes .facts) (lastState r .facts))
 
-  shown-numbers : (x : Result State Why.Outcome Refused) → KeptResult x → (j : ℕ) (out : List ℤ) → c .ground .numbers ≤ length out
-      → Shows ours (ofPlan j (c .ground .numbers) x .final) (λ y. y .numbers) out (ours .numbers (C.ended c x) out)
+  shown-numbers : (x : Result State Why.Outcome Refused) → KeptResult x → (j : ℕ) (out : List ℤ) → c .model .sizes .numbers ≤ length out
+      → Shows ours (ofPlan j (c .model .sizes .numbers) x .final) (λ y. y .numbers) out (ours .numbers (C.ended c x) out)
   unfolding numbersOf C.ended ofPlan
   shown-numbers (P.refused e) l j out h = rw (ended-formed c f (P.refused e) l) refl
   shown-numbers (P.ended r) l j out h =
-      rw (ended-formed c f (P.ended r) l, le-ltb (length out) (c .ground .numbers) h)
-      (ap (λ o. ((C.ended c (P.ended r), A.Done (length w)), o)) (sets-first w out (omega (arith, length-map (take (c .ground .numbers) (lastState r .numbers)) shown, length-take (c .ground .numbers) (lastState r .numbers)))))
+      rw (ended-formed c f (P.ended r) l, le-ltb (length out) (c .model .sizes .numbers) h)
+      (ap (λ o. ((C.ended c (P.ended r), A.Done (length w)), o)) (sets-first w out (omega (arith, length-map (take (c .model .sizes .numbers) (lastState r .numbers)) shown, length-take (c .model .sizes .numbers) (lastState r .numbers)))))
     where
       w : List ℤ
-      w = map shown (take (c .ground .numbers) (lastState r .numbers))
+      w = map shown (take (c .model .sizes .numbers) (lastState r .numbers))
 
 module _ (s t : List ℕ) (d : Domain) (p : Problem) (r : Reads s t d p) (ps : List (List ℕ)) where
   abbrev check : Check

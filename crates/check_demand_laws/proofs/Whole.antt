@@ -28,9 +28,9 @@ use Rattle.check_wording.specs.Wording.{refusalLine}
 use Rattle.domain_load.specs.Load.{loadedOf, fixedOf, loadOf}
 use Rattle.check_meaning.specs.Answer.{Answered, groundsOf, firstState, rulesFor, knownFor, ofPlan, planAnswer, refusedText, answer}
 use Rattle.check_calls.specs.Calls as C
-use Rattle.check_calls.specs.Calls.{countersFit, formed, wellFormed, anyState, rulesOn, knownOn, heldBy, resultOf, noGround, checkFor, openOf, writingLine, lineOf}
-use Rattle.domain_load.specs.declared.Verdict.{Verdict}
-use Rattle.domain_load.specs.declared.Verdict.the-variants as Is
+use Rattle.check_calls.specs.Calls.{countersFit, formed, wellFormed, anyState, rulesOn, knownOn, heldBy, resultOf, checkFor, openOf, writingLine, lineOf}
+use Rattle.domain_load.specs.declared.LoadAnswer.{LoadAnswer}
+use Rattle.domain_load.specs.declared.LoadAnswer.the-variants as Is
 use Rattle.check_calls.specs.declared.Check.{Check}
 use Rattle.check_calls.specs.declared.Opened.{Opened}
 use Rattle.check_demand_laws.proofs.Sessions.{feedsOf, sessionOf, askedLine}
@@ -102,7 +102,7 @@ module _ (s t : List ℕ) (d : Domain) (p : Problem) (m n : ℕ) (e : readDomain
 -- ---- a text that is refused
 
 module _ (s t : List ℕ) (k q : ℕ) where
-  pub domain-opened : readDomain s ≡ refused k q → openOf s t ≡ record { check = checkFor (fixedOf (Is.Domain k q)) noGround 0; answer = Is.Domain k q }
+  pub domain-opened : readDomain s ≡ refused k q → openOf s t ≡ record { check = checkFor (fixedOf (Is.Domain k q)) 0; answer = Is.Domain k q }
   unfolding openOf loadOf fixedOf
   domain-opened e = rw e
 
@@ -111,7 +111,7 @@ module _ (s t : List ℕ) (k q : ℕ) where
   domain-answered plan e = rw e
 
   module _ (d : Domain) (m : ℕ) (e : readDomain s ≡ got d m) (f : readProblem t d ≡ refused k q) where
-    pub problem-opened : openOf s t ≡ record { check = checkFor (fixedOf (Is.Problem k q)) noGround 0; answer = Is.Problem k q }
+    pub problem-opened : openOf s t ≡ record { check = checkFor (fixedOf (Is.Problem k q)) 0; answer = Is.Problem k q }
     unfolding openOf loadOf fixedOf
     problem-opened = rw (e, f)
 
@@ -120,7 +120,7 @@ module _ (s t : List ℕ) (k q : ℕ) where
     problem-answered plan = rw (e, f)
 
 -- the line of a refused text
-refused-line : (v : Verdict) (w : List ℕ) (k q : ℕ) (c : Check) (line : List ℕ) → 64 ≤ length line → lineOf v line ≡ writingLine (refusalLine w k q 0) line
+refused-line : (v : LoadAnswer) (w : List ℕ) (k q : ℕ) (c : Check) (line : List ℕ) → 64 ≤ length line → lineOf v line ≡ writingLine (refusalLine w k q 0) line
     → lineOf v line .1 ≡ sets line 0 (refusalLine w k q 0)
 refused-line v w k q c line h e = ap (λ x. x .1) e ∙ rw (le-ltb (length line) 64 h) refl
 
@@ -167,20 +167,20 @@ module _ (s t : List ℕ) (d : Domain) (p : Problem) (m n : ℕ) (e : readDomain
   abbrev check : Check
   check = L.loaded s t d p m n e f
 
-  abbrev facts : ℕ
-  facts = sumOf (length (p .objects)) (d .predicates)
+  abbrev fact-count : ℕ
+  fact-count = sumOf (length (p .objects)) (d .predicates)
 
-  abbrev numbers : ℕ
-  numbers = sumOf (length (p .objects)) (d .functions)
+  abbrev number-count : ℕ
+  number-count = sumOf (length (p .objects)) (d .functions)
 
   pub ended-session : sessionOf s t ps ≡ C.ended check (means s t d p m n e f ps)
   ended-session = ap (λ (o : Opened). C.finishOf (feedsOf (o .check) ps) .check) (opened s t d p m n e f ps) ∙ finished s t d p m n e f ps
 
-  pub answered : answer s t (joined ps) ≡ ofPlan facts numbers (means s t d p m n e f ps)
+  pub answered : answer s t (joined ps) ≡ ofPlan fact-count number-count (means s t d p m n e f ps)
   unfolding answer planAnswer
   answered = rw (e, f)
 
 -- the one fixed check of a refused load isn't well formed
-pub fixed-unformed : (v : Verdict) → wellFormed (checkFor (fixedOf v) noGround 0) ≡ false
+pub fixed-unformed : (v : LoadAnswer) → wellFormed (checkFor (fixedOf v) 0) ≡ false
 unfolding formed countersFit
 fixed-unformed v = refl

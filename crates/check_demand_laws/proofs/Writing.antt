@@ -98,13 +98,13 @@ output-written c (facts out) n e =
     (w .room, w .size, w .rest)
   where
     k : ℕ
-    k = c .ground .facts
+    k = c .model .sizes .facts
 output-written c (numbers out) n e =
     let w = state-says c out k (map shown (take k (c .numbers))) (omega (arith, length-map (take k (c .numbers)) shown, length-take k (c .numbers))) n e in
     (w .room, w .size, w .rest)
   where
     k : ℕ
-    k = c .ground .numbers
+    k = c .model .sizes .numbers
 
 -- ---- 19 to 23 return the check unchanged
 

@@ -5,8 +5,8 @@ use mathlib.Core.List.{List, [], _∷_}
 use mathlib.Core.Option.{Option}
 use lib.IntN.{ℤ}
 use Rattle.plan_meaning.specs.Lines.{Refused}
-use Rattle.domain_load.specs.declared.Verdict.{Verdict}
-use Rattle.domain_load.specs.declared.Verdict.the-variants as Is
+use Rattle.domain_load.specs.declared.LoadAnswer.{LoadAnswer}
+use Rattle.domain_load.specs.declared.LoadAnswer.the-variants as Is
 use Rattle.check_calls.specs.declared.Answer.{Answer}
 
 -- ---- "a call takes the check and hands back the check after it"
@@ -14,9 +14,9 @@ use Rattle.check_calls.specs.declared.Answer.{Answer}
 -- a checker: its calls, and what can be seen of a check (C)
 pub record Calls (C : Type 0) : Type 0 where
   -- domain and problem
-  pub load : List ℕ → List ℕ → C × Verdict
+  pub load : List ℕ → List ℕ → C × LoadAnswer
   -- the line of a refused load, "written from its answer, without a check", to a lent output
-  pub line : Verdict → List ℕ → Answer × List ℕ
+  pub line : LoadAnswer → List ℕ → Answer × List ℕ
   pub feed : C → List ℕ → C × Answer
   pub finish : C → C × Answer
   -- these three with a lent output
@@ -87,7 +87,7 @@ module _ {C : Type 0} (K : Calls C) where
   session domain problem parts = K .finish (feeds (K .load domain problem .0) parts)
 
   -- the line of a session and what asking for it answered: of a refused load from its answer, else from the check after finish
-  abbrev pub lineOf : Verdict → C → List ℕ → Answer × List ℕ
+  abbrev pub lineOf : LoadAnswer → C → List ℕ → Answer × List ℕ
   lineOf Is.Loaded c out = (K .result c out .0 .1, K .result c out .1)
   lineOf (Is.Domain k p) c out = K .line (Is.Domain k p) out
   lineOf (Is.Problem k p) c out = K .line (Is.Problem k p) out

@@ -19,8 +19,8 @@ use Rattle.plan_meaning.specs.Lines.{Refused}
 use Rattle.domain_refusal_laws.specs.Lowest.{LowestInDomain, LowestInProblem}
 use Rattle.check_wording.specs.Wording.{verdictLine}
 use Rattle.check_meaning.specs.Answer.{Final, answer}
-use Rattle.domain_load.specs.declared.Verdict.{Verdict}
-use Rattle.domain_load.specs.declared.Verdict.the-variants as Is
+use Rattle.domain_load.specs.declared.LoadAnswer.{LoadAnswer}
+use Rattle.domain_load.specs.declared.LoadAnswer.the-variants as Is
 use Rattle.check_calls.specs.declared.Answer.{Answer}
 use Rattle.check_calls.specs.declared.Answer.the-variants as A
 use Rattle.check_calls.specs.Numbers.{numberOf, placeOf}
@@ -37,7 +37,7 @@ abbrev pub Same : Answer → Answer → Type 0
 Same a b = (numberOf a ≡ numberOf b) × (placeOf a ≡ placeOf b)
 
 module _ {C : Type 0} (K : Calls C) where
-  abbrev pub Opens : Verdict → C → Type 0
+  abbrev pub Opens : LoadAnswer → C → Type 0
   Opens Is.Loaded c = (K .formed c ≡ true) × (K .finished c ≡ false) × (K .standing c ≡ none)
   Opens (Is.Domain k p) c = (K .formed c ≡ false) × (c ≡ K .fixed)
   Opens (Is.Problem k p) c = (K .formed c ≡ false) × (c ≡ K .fixed)
@@ -57,10 +57,10 @@ module _ {C : Type 0} (K : Calls C) where
     pub load-ruled : (s t : List ℕ) → K .load s t .1 ≡ loadAnswer s t
     pub lowest : LowestInDomain × LowestInProblem
     pub ruled : (c : C) (x : Call) → Same (make K c x .answer) (ranked (rules K c x) (otherwise K c x))
-    pub line-ruled : (v : Verdict) (out : List ℕ) → Same (K .line v out .0) (ranked (lineRules v out) (A.Done 0))
+    pub line-ruled : (v : LoadAnswer) (out : List ℕ) → Same (K .line v out .0) (ranked (lineRules v out) (A.Done 0))
     -- nothing that was lent is changed by a refusal, and no more is written than is said
     pub output-kept : (c : C) (x : Call) → ¬ (numberOf (make K c x .answer) ≡ 0) → make K c x .output ≡ lent x
-    pub line-kept : (v : Verdict) (out : List ℕ) → ¬ (numberOf (K .line v out .0) ≡ 0) → K .line v out .1 ≡ out
+    pub line-kept : (v : LoadAnswer) (out : List ℕ) → ¬ (numberOf (K .line v out .0) ≡ 0) → K .line v out .1 ≡ out
     pub output-written : (c : C) (x : Call) (n : ℕ) → make K c x .answer ≡ A.Done n → Written n (lent x) (make K c x .output)
     -- a line has at most 64 bytes, its LF the last of them
     pub line-whole : (c : C) (out : List ℕ) (n : ℕ) → K .result c out .0 .1 ≡ A.Done n → (n ≤ 64) × (w : List ℕ) × (take n (K .result c out .1) ≡ w ++ 10 ∷ [])

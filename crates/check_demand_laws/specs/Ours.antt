@@ -3,10 +3,10 @@ use mathlib.Core.Bool.{cond}
 use mathlib.Core.Option.{Option, some, none}
 use Rattle.plan_meaning.specs.Lines.{Refused}
 use Rattle.domain_load.specs.Load.{fixedOf}
-use Rattle.domain_load.specs.declared.Verdict.the-variants as Is
+use Rattle.domain_load.specs.declared.LoadAnswer.the-variants as Is
 use Rattle.plan_feeding.specs.declared.Progress.{Progress}
 use Rattle.check_calls.specs.declared.Check.{Check}
-use Rattle.check_calls.specs.Calls.{wellFormed, openOf, lineOf, feedOf, finishOf, resultOf, factsOf, numbersOf, noGround, checkFor}
+use Rattle.check_calls.specs.Calls.{wellFormed, openOf, lineOf, feedOf, finishOf, resultOf, factsOf, numbersOf, checkFor}
 use Rattle.check_demand_laws.specs.Calling.{Calls}
 
 abbrev pub refusalIn : Progress → Option Refused
@@ -23,8 +23,8 @@ ours =
       facts = λ c out. ((factsOf c out .0 .check, factsOf c out .0 .answer), factsOf c out .1);
       numbers = λ c out. ((numbersOf c out .0 .check, numbersOf c out .0 .answer), numbersOf c out .1);
       formed = wellFormed;
-      fixed = checkFor (fixedOf Is.Loaded) noGround 0;
+      fixed = checkFor (fixedOf Is.Loaded) 0;
       finished = λ c. c .finished;
       standing = λ c. refusalIn (c .progress);
-      sizes = λ c. (c .ground .facts, c .ground .numbers);
+      sizes = λ c. (c .model .sizes .facts, c .model .sizes .numbers);
     }

@@ -12,8 +12,8 @@ use Rattle.domain_meaning.specs.Problem.{Problem, readProblem}
 use Rattle.plan_meaning.specs.Lines.{Refused}
 use Rattle.text_words.specs.Bytes.{isOneOf}
 use Rattle.check_meaning.specs.Listed.{listedInDomain, listedInProblem, listedInPlan}
-use Rattle.domain_load.specs.declared.Verdict.{Verdict}
-use Rattle.domain_load.specs.declared.Verdict.the-variants as Is
+use Rattle.domain_load.specs.declared.LoadAnswer.{LoadAnswer}
+use Rattle.domain_load.specs.declared.LoadAnswer.the-variants as Is
 use Rattle.check_calls.specs.declared.Answer.{Answer}
 use Rattle.check_calls.specs.declared.Answer.the-variants as A
 use Rattle.check_calls.specs.Numbers.{numberOf, loadNumber, loadPlace, onRefused}
@@ -21,28 +21,28 @@ use Rattle.check_demand_laws.specs.Calling.{Calls, Call, feed, finish, r
 
 -- ---- load: "The domain's refusals come before the problem's"
 
-abbrev pub ofProblem : Read Problem → Verdict
+abbrev pub ofProblem : Read Problem → LoadAnswer
 ofProblem (got p n) = Is.Loaded
 ofProblem (refused k q) = Is.Problem k q
 
-abbrev pub ofDomain : Read Domain → List ℕ → Verdict
+abbrev pub ofDomain : Read Domain → List ℕ → LoadAnswer
 ofDomain (got d n) problem = ofProblem (readProblem problem d)
 ofDomain (refused k q) problem = Is.Domain k q
 
-abbrev pub loadAnswer : List ℕ → List ℕ → Verdict
+abbrev pub loadAnswer : List ℕ → List ℕ → LoadAnswer
 loadAnswer domain problem = ofDomain (readDomain domain) problem
 
 -- which text an answer is about: none, the domain, the problem
-abbrev pub onText : {X : Type 0} → Verdict → X → X → X → X
+abbrev pub onText : {X : Type 0} → LoadAnswer → X → X → X → X
 onText Is.Loaded x y z = x
 onText (Is.Domain k p) x y z = y
 onText (Is.Problem k p) x y z = z
 
-abbrev pub isLoaded : Verdict → Bool
+abbrev pub isLoaded : LoadAnswer → Bool
 isLoaded v = onText v true false false
 
 -- texts of so many bytes: 0 where none is refused
-abbrev pub listedLoad : ℕ → ℕ → Verdict → Bool
+abbrev pub listedLoad : ℕ → ℕ → LoadAnswer → Bool
 listedLoad domain problem v = onText v (λ k p. eqb k 0) (listedInDomain domain) (listedInProblem problem) (loadNumber v) (loadPlace v)
 
 -- ---- the calls on a check
@@ -97,7 +97,7 @@ module _ {C : Type 0} (K : Calls C) where
   otherwise c (numbers out) = A.Done 0
 
 -- the line of a refused load: a load that is not refused has no line yet
-abbrev pub lineRules : Verdict → List ℕ → List (Bool × Answer)
+abbrev pub lineRules : LoadAnswer → List ℕ → List (Bool × Answer)
 lineRules v out = (isLoaded v, A.Early) ∷ (ltb (length out) 64, A.Short) ∷ []
 
 -- whether a check is finished after a call on it

@@ -36,7 +36,19 @@ unfolding firstOf sumOf
 first-all n [] = refl
 first-all n (e ∷ t) = ap (λ (k : ℕ). n ^ arity e + k) (first-all n t)
 
+-- no first index is above the sum
+pub first-low : (n : ℕ) (t : Table) (i : ℕ) → i ≤ length t → firstOf n t i ≤ sumOf n t
+unfolding firstOf sumOf
+first-low n t zero h = omega (arith, first-zero n t)
+first-low n [] (suc i) h = absurd (let z : ⊥ = omega arith in z)
+first-low n (e ∷ t) (suc i) h = omega (arith, first-low n t i (omega arith))
+
 -- ---- the first indexes of all names, as a list
+
+pub length-bases : (n sum : ℕ) (t : Table) → length (basesFrom n sum t) ≡ length t
+unfolding basesFrom
+length-bases n sum [] = refl
+length-bases n sum (e ∷ t) = ap suc (length-bases n (sum + n ^ arity e) t)
 
 behind-sum : (n sum : ℕ) (t : Table) (i : ℕ) → i < length t → getD (basesFrom n sum t) i 0 ≡ sum + firstOf n t i
 unfolding basesFrom firstOf

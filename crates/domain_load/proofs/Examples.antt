@@ -26,10 +26,10 @@ unfolding open-bench signBase sizeOf bytesOf numberCells cellsOf condCells
 bench-goal = refl
 
 -- with two objects
-bench-facts : basesOf 2 (bench .predicates) ≡ 0 ∷ 2 ∷ []
+predicate-firsts : basesOf 2 (bench .predicates) ≡ 0 ∷ 2 ∷ []
 unfolding open-bench basesFrom
-bench-facts = refl
+predicate-firsts = refl
 
-bench-numbers : basesOf 2 (bench .functions) ≡ 0 ∷ 2 ∷ []
+function-firsts : basesOf 2 (bench .functions) ≡ 0 ∷ 2 ∷ []
 unfolding open-bench basesFrom
-bench-numbers = refl
+function-firsts = refl

@@ -1,8 +1,9 @@
 -- Laws that the proofs use, and what is said of load: its model is read back; and the bench as numbers.
 pub mod Joined
+pub mod Sums
+pub mod Laying
 pub mod Loading
 pub mod Apart
 pub mod Back
 pub mod Examples
 pub mod Decoded
-pub mod Declaring

@@ -1,6 +1,7 @@
 -- The ways through load. Assumes nothing.
 use mathlib.Core.Path.{_≡_, refl, sym, ap, _∙_}
 use mathlib.Core.List.{List}
+use mathlib.Core.Bool.{true}
 use Prim.Native.Nat.{ℕ}
 use native.Mathlib.Omega.{arith}
 use lib.IntN.{ℤ}
@@ -9,13 +10,14 @@ use lib.Seq.{sets}
 use Rattle.text_tokens.specs.Runs.{part}
 use Rattle.domain_meaning.specs.Read.{Read, got, refused}
 use Rattle.domain_meaning.specs.Domain.{Domain, readDomain}
-use Rattle.domain_meaning.specs.Problem.{Problem, readProblem, scopeOf}
+use Rattle.domain_meaning.specs.Problem.{Problem, readProblem, scopeOf, sumsFit}
 use Rattle.domain_rows.specs.Held.{rowsOf}
 use Rattle.domain_terms.specs.Scoped.{Scoped}
 use Rattle.domain_terms.specs.declared.scope.Counts.{Counts}
 use Rattle.domain_stored_meaning.specs.Cells.{condCells, actionsCells, startsOf}
 use Rattle.domain_meaning.specs.First.{firstFacts, firstNumbers}
-use Rattle.domain_meaning.specs.Indexes.{basesOf}
+use Rattle.domain_meaning.specs.Indexes.{sumOf}
+use Rattle.domain_indexes.specs.Firsts.{firstsOf}
 use Rattle.domain_problem_text.specs.Grounded.{withObjects}
 use Rattle.domain_actions.specs.Acted.{declarations}
 use Rattle.domain_domain_text.specs.Knowing.{countsIn, Knows}
@@ -25,30 +27,42 @@ use Rattle.domain_due.specs.declared.Parsed.{Parsed}
 use Rattle.domain_due.specs.declared.Parsed.the-variants as A
 use Rattle.domain_due.proofs.Dues.{never-done}
 use Rattle.domain_problem_text.specs.Posed.{Poses, Posed}
-use Rattle.domain_load.specs.declared.Verdict.{Verdict}
-use Rattle.domain_load.specs.declared.Verdict.the-variants as Is
+use Rattle.domain_load.specs.declared.Model.{Model}
+use Rattle.domain_load.specs.declared.LoadAnswer.the-variants as Is
 use Rattle.domain_load.specs.declared.Loaded.{Loaded}
-use Rattle.domain_load.specs.Load.{zeros, tablesOf, modelOf, loadedOf, fixedOf, domainVerdict, problemVerdict, loadOf}
+use Rattle.domain_load.specs.Load.{zeros, tablesOf, modelOf, loadedOf, Models, fixedOf, ofProblem, loadOf}
+use Rattle.domain_load.proofs.Joined.{tables-are}
 
 -- ---- the domain, by its answer
 
--- it was read: d is what it says, and what was stored of it is d's
-pub record Understood (s code starts : List ℕ) (p e : ℕ) (counts : Counts) (n : ℕ) (tables rows code′ starts′ : List ℕ) : Type 0 where
+-- it was read, and what was stored of it is its model
+pub record Understood (s name : List ℕ) (m : Model) : Type 0 where
   pub domain : Domain
   pub end : ℕ
   pub is : readDomain s ≡ got domain end
-  pub name : part s p e ≡ domain .name
-  pub counted : counts ≡ countsIn domain
-  pub acting : n ≡ length (domain .actions)
-  pub scope : Scoped tables counts (scopeOf domain (domain .constants))
-  pub long : length tables ≡ 5054
-  pub rowed : rows ≡ rowsOf 32 (declarations (domain .actions))
-  pub cells : code′ ≡ sets code 0 (actionsCells (domain .actions))
-  pub places : starts′ ≡ sets starts 0 (startsOf 0 (domain .actions))
+  pub model : Models domain name m
 
-module _ (s code starts : List ℕ) (r : Known) (tables rows code′ starts′ : List ℕ) where
-  knows-got : (x : Read Domain) (p e : ℕ) (c : Counts) (n : ℕ) → readDomain s ≡ x → Knows s code starts r tables rows code′ starts′ x → r ≡ K.Done p e c n
-      → Understood s code starts p e c n tables rows code′ starts′
+-- what is stored of a domain alone
+abbrev pub domainModel : List ℕ → List ℕ → List ℕ → List ℕ → Counts → ℕ → Model
+domainModel tables actions code starts c n =
+    record {
+      tables = tables;
+      actions = actions;
+      starts = starts;
+      code = code;
+      goal = zeros 32768;
+      firsts = zeros 49;
+      sizes = record { facts = 0; numbers = 0 };
+      counts = c;
+      acting = n;
+    }
+
+module _ (s : List ℕ) (r : Known) (tables actions code starts : List ℕ) where
+  abbrev Answers : Read Domain → Type 0
+  Answers x = Knows s (zeros 32768) (zeros 96) r tables actions code starts x
+
+  knows-got : (x : Read Domain) (p e : ℕ) (c : Counts) (n : ℕ) → readDomain s ≡ x → Answers x → r ≡ K.Done p e c n
+      → Understood s (part s p e) (domainModel tables actions code starts c n)
   unfolding Knows
   knows-got (got d m) p e c n i h q =
       let g : K.Done (h .from) (h .to) (countsIn d) (length (d .actions)) ≡ K.Done p e c n = sym (h .is) ∙ q in
@@ -60,19 +74,21 @@ module _ (s code starts : List ℕ) (r : Known) (tables rows code′ starts′ :
         domain = d;
         end = m;
         is = i;
-        name = ap (λ (k : ℕ). part s k e) (sym ep) ∙ ap (λ (k : ℕ). part s (h .from) k) (sym ee) ∙ h .name;
-        counted = sym ec;
-        acting = sym en;
-        scope = rw (← ec) (h .scope);
-        long = h .long;
-        rowed = h .rows .are;
-        cells = h .cells;
-        places = h .places;
+        model = record {
+          named = ap (λ (k : ℕ). part s k e) (sym ep) ∙ ap (λ (k : ℕ). part s (h .from) k) (sym ee) ∙ h .name;
+          scope = rw (← ec) (h .scope);
+          long = h .long;
+          rows = h .rows .are;
+          places = h .places;
+          cells = h .cells;
+          counted = sym ec;
+          acts = sym en;
+        };
       }
   knows-got (refused k j) p e c n i h q =
       absurd (let g : K.Refused k j ≡ K.Done p e c n = sym h ∙ q in let z : _≡_ {A = ℕ} 0 1 = cc in let y : ⊥ = omega arith in y)
 
-  knows-not : (x : Read Domain) (k p : ℕ) → Knows s code starts r tables rows code′ starts′ x → r ≡ K.Refused k p → x ≡ refused k p
+  knows-not : (x : Read Domain) (k p : ℕ) → Answers x → r ≡ K.Refused k p → x ≡ refused k p
   unfolding Knows
   knows-not (got d m) k p h q =
       absurd (let g : K.Done (h .from) (h .to) (countsIn d) (length (d .actions)) ≡ K.Refused k p = sym (h .is) ∙ q in let z : _≡_ {A = ℕ} 0 1 = cc in let y : ⊥ = omega arith in y)
@@ -82,13 +98,13 @@ module _ (s code starts : List ℕ) (r : Known) (tables rows code′ starts′ :
       let y : i ≡ p = cc in
       rw (z, y)
 
-  module _ (h : Knows s code starts r tables rows code′ starts′ (readDomain s)) where
-    pub understood : (p e : ℕ) (c : Counts) (n : ℕ) → r ≡ K.Done p e c n → Understood s code starts p e c n tables rows code′ starts′
-    understood p e c n q = knows-got (readDomain s) p e c n refl h q
+  module _ (h : Answers (readDomain s)) where
+    pub understood : (p e : ℕ) (c : Counts) (n : ℕ) → r ≡ K.Done p e c n → (name : List ℕ) → name ≡ part s p e → Understood s name (domainModel tables actions code starts c n)
+    understood p e c n q name i = rw i (knows-got (readDomain s) p e c n refl h q)
 
-    pub no-domain : (t : List ℕ) (k p : ℕ) (v : Verdict) (x : Loaded) → r ≡ K.Refused k p → v ≡ domainVerdict r → x ≡ fixedOf v → x ≡ loadOf s t
+    pub no-domain : (t : List ℕ) (k p : ℕ) (x : Loaded) → r ≡ K.Refused k p → x ≡ fixedOf (Is.Domain k p) → x ≡ loadOf s t
     unfolding loadOf
-    no-domain t k p v x q e f = f ∙ ap fixedOf (e ∙ ap domainVerdict q) ∙ rw (knows-not (readDomain s) k p h q) refl
+    no-domain t k p x q f = f ∙ rw (knows-not (readDomain s) k p h q) refl
 
 -- ---- the problem, by its answer
 
@@ -112,11 +128,10 @@ posed-not t d c r tables facts numbers was goal (refused j i) k p h q =
     let y : i ≡ p = cc in
     rw (z, y)
 
-module _ (s t : List ℕ) (d : Domain) (end : ℕ) (i : readDomain s ≡ got d end) (c : Counts) (r : Parsed) (tables facts : List ℕ) (numbers : List ℤ) (was goal : List ℕ)
+module _ (t : List ℕ) (d : Domain) (c : Counts) (r : Parsed) (tables facts : List ℕ) (numbers : List ℤ) (was goal : List ℕ)
     (h : Posed t d c r tables facts numbers was goal (readProblem t d)) where
-  pub no-problem : (k p : ℕ) (v : Verdict) (x : Loaded) → r ≡ A.Refused k p → v ≡ problemVerdict r → x ≡ fixedOf v → x ≡ loadOf s t
-  unfolding loadOf
-  no-problem k p v x q e f = f ∙ ap fixedOf (e ∙ ap problemVerdict q) ∙ rw (i, posed-not t d c r tables facts numbers was goal (readProblem t d) k p h q) refl
+  pub no-problem : (k p : ℕ) (x : Loaded) → r ≡ A.Refused k p → x ≡ fixedOf (Is.Problem k p) → x ≡ ofProblem d (readProblem t d)
+  no-problem k p x q f = f ∙ rw (posed-not t d c r tables facts numbers was goal (readProblem t d) k p h q) refl
 
   module _ (a v : ℕ) (q : r ≡ A.Done a v) where
     -- the problem, whose objects are v
@@ -125,6 +140,7 @@ module _ (s t : List ℕ) (d : Domain) (end : ℕ) (i : readDomain s ≡ got d e
       pub is : readProblem t d ≡ got problem a
       pub objects : v ≡ length (problem .objects)
       pub scope : Scoped tables (withObjects c v) (scopeOf d (problem .objects))
+      pub fits : sumsFit (scopeOf d (problem .objects)) ≡ true
       pub long : length tables ≡ 5054
       pub facted : facts ≡ firstFacts (problem .init)
       pub numbered : numbers ≡ firstNumbers (problem .init)
@@ -133,7 +149,17 @@ module _ (s t : List ℕ) (d : Domain) (end : ℕ) (i : readDomain s ≡ got d e
     pub understands : Understands
     understands =
         let g = posed-got t d c r tables facts numbers was goal (readProblem t d) a v h q in
-        record { problem = g .0; is = g .1; objects = g .3; scope = scope-by (g .0) (g .3) (g .2 .scope); long = g .2 .long; facted = g .2 .facts; numbered = g .2 .numbers; aimed = g .2 .goal }
+        record {
+          problem = g .0;
+          is = g .1;
+          objects = g .3;
+          scope = scope-by (g .0) (g .3) (g .2 .scope);
+          fits = g .2 .fits;
+          long = g .2 .long;
+          facted = g .2 .facts;
+          numbered = g .2 .numbers;
+          aimed = g .2 .goal;
+        }
       where
         scope-by : (p : Problem) → v ≡ length (p .objects) → Scoped tables (withObjects c (length (p .objects))) (scopeOf d (p .objects)) → Scoped tables (withObjects c v) (scopeOf d (p .objects))
         scope-by p e k = rw e k
@@ -141,19 +167,42 @@ module _ (s t : List ℕ) (d : Domain) (end : ℕ) (i : readDomain s ≡ got d e
 -- ---- both
 
 -- the arrays of a domain and a problem are those of their model
-pub same-model : (d : Domain) (p : Problem) (tables actions starts code goal fs ns facts : List ℕ) (numbers : List ℤ) (c : Counts) (n : ℕ) → tables ≡ tablesOf d (p .objects)
-    → actions ≡ rowsOf 32 (declarations (d .actions)) → starts ≡ sets (zeros 96) 0 (startsOf 0 (d .actions)) → code ≡ sets (zeros 32768) 0 (actionsCells (d .actions))
-    → goal ≡ sets (zeros 32768) 0 (condCells (p .goal)) → fs ≡ sets (zeros 32) 0 (basesOf (length (p .objects)) (d .predicates)) → ns ≡ sets (zeros 16) 0 (basesOf (length (p .objects)) (d .functions))
-    → facts ≡ firstFacts (p .init) → numbers ≡ firstNumbers (p .init) → c ≡ withObjects (countsIn d) (length (p .objects)) → n ≡ length (d .actions)
+same-model : (d : Domain) (p : Problem) (tables actions starts code goal firsts : List ℕ) (i j : ℕ) (facts : List ℕ) (numbers : List ℤ) (c : Counts) (n : ℕ)
+    → tables ≡ tablesOf d (p .objects) → actions ≡ rowsOf 32 (declarations (d .actions)) → starts ≡ sets (zeros 96) 0 (startsOf 0 (d .actions))
+    → code ≡ sets (zeros 32768) 0 (actionsCells (d .actions)) → goal ≡ sets (zeros 32768) 0 (condCells (p .goal)) → firsts ≡ firstsOf (length (p .objects)) (d .predicates) (d .functions)
+    → i ≡ sumOf (length (p .objects)) (d .predicates) → j ≡ sumOf (length (p .objects)) (d .functions) → facts ≡ firstFacts (p .init) → numbers ≡ firstNumbers (p .init)
+    → c ≡ withObjects (countsIn d) (length (p .objects)) → n ≡ length (d .actions)
     → record {
-      model = record { tables = tables; actions = actions; starts = starts; code = code; goal = goal; facts = fs; numbers = ns; counts = c; acting = n };
+      model = record { tables = tables; actions = actions; starts = starts; code = code; goal = goal; firsts = firsts; sizes = record { facts = i; numbers = j }; counts = c; acting = n };
       facts = facts;
       numbers = numbers;
       answer = Is.Loaded;
     } ≡ loadedOf d p
 unfolding loadedOf modelOf
-same-model d p tables actions starts code goal fs ns facts numbers c n et ea es ec eg ef en ei ev eo em = rw (et, ea, es, ec, eg, ef, en, ei, ev, eo, em) refl
+same-model d p tables actions starts code goal firsts i j facts numbers c n et ea es ec eg ef ei ej es′ ev eo em = rw (et, ea, es, ec, eg, ef, ei, ej, es′, ev, eo, em) refl
+
+-- the problem's arrays and numbers beside a model of its domain
+pub both-read : (t name : List ℕ) (d : Domain) (m : Model) → Models d name m → (p : Problem) (a : ℕ) → readProblem t d ≡ got p a
+    → (tables goal firsts : List ℕ) (i j : ℕ) (facts : List ℕ) (numbers : List ℤ) (v : ℕ) → v ≡ length (p .objects)
+    → Scoped tables (withObjects (m .counts) v) (scopeOf d (p .objects)) → length tables ≡ 5054 → goal ≡ sets (zeros 32768) 0 (condCells (p .goal))
+    → firsts ≡ firstsOf (length (p .objects)) (d .predicates) (d .functions) → i ≡ sumOf v (d .predicates) → j ≡ sumOf v (d .functions)
+    → facts ≡ firstFacts (p .init) → numbers ≡ firstNumbers (p .init)
+    → record {
+      model = record { tables = tables; actions = m .actions; starts = m .starts; code = m .code; goal = goal; firsts = firsts; sizes = record { facts = i; numbers = j }; counts = withObjects (m .counts) v; acting = m .acting };
+      facts = facts;
+      numbers = numbers;
+      answer = Is.Loaded;
+    } ≡ ofProblem d (readProblem t d)
+both-read t name d m k p a e tables goal firsts i j facts numbers v o sc long eg ef ei ej es ev =
+    same-model d p tables (m .actions) (m .starts) (m .code) goal firsts i j facts numbers (withObjects (m .counts) v) (m .acting)
+    (tables-are tables (withObjects (m .counts) v) d (p .objects) sc long) (k .rows) (k .places) (k .cells) eg ef
+    (ei ∙ ap (λ (n : ℕ). sumOf n (d .predicates)) o) (ej ∙ ap (λ (n : ℕ). sumOf n (d .functions)) o) es ev
+    (ap (λ (n : Counts). withObjects n v) (k .counted) ∙ ap (withObjects (countsIn d)) o) (k .acts)
+    ∙ rw e refl
+
+pub domain-loaded : (s t : List ℕ) (d : Domain) (end : ℕ) → readDomain s ≡ got d end → (x : Loaded) → x ≡ ofProblem d (readProblem t d) → x ≡ loadOf s t
+unfolding loadOf
+domain-loaded s t d end i x e = e ∙ rw i refl
 
 pub both-loaded : (s t : List ℕ) (d : Domain) (end : ℕ) → readDomain s ≡ got d end → (p : Problem) (a : ℕ) → readProblem t d ≡ got p a → (x : Loaded) → x ≡ loadedOf d p → x ≡ loadOf s t
-unfolding loadOf
-both-loaded s t d end i p a j x e = e ∙ rw (i, j) refl
+both-loaded s t d end i p a j x e = domain-loaded s t d end i x (e ∙ rw j refl)

@@ -1,4 +1,5 @@
 -- What load gives, by what the grammar says is read: the model of both trees and the first state, or the refusal of the first text that has one.
+use mathlib.Core.Path.{_≡_}
 use Prim.Native.Nat.{ℕ}
 use mathlib.Core.List.{List, [], _++_}
 use mathlib.Core.Bool.{false}
@@ -7,21 +8,19 @@ use lib.Seq.{sets}
 use Rattle.domain_meaning.specs.Read.{Read, got, refused}
 use Rattle.domain_meaning.specs.Tables.{Table}
 use Rattle.domain_meaning.specs.Domain.{Domain, readDomain}
-use Rattle.domain_meaning.specs.Problem.{Problem, readProblem}
+use Rattle.domain_meaning.specs.Problem.{Problem, readProblem, scopeOf}
 use Rattle.domain_rows.specs.Held.{rowsOf}
+use Rattle.domain_terms.specs.Scoped.{Scoped}
 use Rattle.domain_stored_meaning.specs.Cells.{condCells, actionsCells, startsOf}
-use Rattle.domain_meaning.specs.Indexes.{basesOf}
+use Rattle.domain_meaning.specs.Indexes.{sumOf}
+use Rattle.domain_indexes.specs.Firsts.{firstsOf}
 use Rattle.domain_problem_text.specs.Grounded.{withObjects}
 use Rattle.domain_meaning.specs.First.{noFacts, noNumbers, firstFacts, firstNumbers}
 use Rattle.domain_actions.specs.Acted.{declarations}
 use Rattle.domain_domain_text.specs.Knowing.{countsIn}
-use Rattle.domain_domain_text.specs.declared.Known.{Known}
-use Rattle.domain_domain_text.specs.declared.Known.the-variants as K
-use Rattle.domain_due.specs.declared.Parsed.{Parsed}
-use Rattle.domain_due.specs.declared.Parsed.the-variants as A
 use Rattle.domain_load.specs.declared.Model.{Model}
-use Rattle.domain_load.specs.declared.Verdict.{Verdict}
-use Rattle.domain_load.specs.declared.Verdict.the-variants as Is
+use Rattle.domain_load.specs.declared.LoadAnswer.{LoadAnswer}
+use Rattle.domain_load.specs.declared.LoadAnswer.the-variants as Is
 use Rattle.domain_load.specs.declared.Loaded.{Loaded}
 
 -- an array of zeros
@@ -42,8 +41,8 @@ modelOf d p =
       starts = sets (zeros 96) 0 (startsOf 0 (d .actions));
       code = sets (zeros 32768) 0 (actionsCells (d .actions));
       goal = sets (zeros 32768) 0 (condCells (p .goal));
-      facts = sets (zeros 32) 0 (basesOf (length (p .objects)) (d .predicates));
-      numbers = sets (zeros 16) 0 (basesOf (length (p .objects)) (d .functions));
+      firsts = firstsOf (length (p .objects)) (d .predicates) (d .functions);
+      sizes = record { facts = sumOf (length (p .objects)) (d .predicates); numbers = sumOf (length (p .objects)) (d .functions) };
       counts = withObjects (countsIn d) (length (p .objects));
       acting = length (d .actions);
     }
@@ -51,9 +50,20 @@ modelOf d p =
 unfoldable pub loadedOf : Domain → Problem → Loaded
 loadedOf d p = record { model = modelOf d p; facts = firstFacts (p .init); numbers = firstNumbers (p .init); answer = Is.Loaded }
 
+-- the model of a domain that was read and has that name, before its problem is: its tables hold the domain's constants
+pub record Models (d : Domain) (name : List ℕ) (m : Model) : Type 0 where
+  pub named : name ≡ d .name
+  pub scope : Scoped (m .tables) (m .counts) (scopeOf d (d .constants))
+  pub long : length (m .tables) ≡ 5054
+  pub rows : m .actions ≡ rowsOf 32 (declarations (d .actions))
+  pub places : m .starts ≡ sets (zeros 96) 0 (startsOf 0 (d .actions))
+  pub cells : m .code ≡ sets (zeros 32768) 0 (actionsCells (d .actions))
+  pub counted : m .counts ≡ countsIn d
+  pub acts : m .acting ≡ length (d .actions)
+
 -- ---- a refused load: "A refused load hands back one fixed check"
 
-unfoldable pub fixedOf : Verdict → Loaded
+unfoldable pub fixedOf : LoadAnswer → Loaded
 fixedOf answer =
     record {
       model = record {
@@ -62,8 +72,8 @@ fixedOf answer =
         starts = zeros 96;
         code = zeros 32768;
         goal = zeros 32768;
-        facts = zeros 32;
-        numbers = zeros 16;
+        firsts = zeros 49;
+        sizes = record { facts = 0; numbers = 0 };
         counts = record { types = 0; objects = 0; predicates = 0; functions = 0; variables = 0; in_action = false };
         acting = 0;
       };
@@ -71,14 +81,6 @@ fixedOf answer =
       numbers = noNumbers;
       answer = answer;
     }
-
-abbrev pub domainVerdict : Known → Verdict
-domainVerdict (K.Done p e c n) = Is.Loaded
-domainVerdict (K.Refused k p) = Is.Domain k p
-
-abbrev pub problemVerdict : Parsed → Verdict
-problemVerdict (A.Done a v) = Is.Loaded
-problemVerdict (A.Refused k p) = Is.Problem k p
 
 -- ---- "The domain's refusals come before the problem's"
 

@@ -1,11 +1,25 @@
 // Domain and problem, both read whole: the model of what they say and the first state, or the one refusal.
 use domain_domain_text::Known;
 use domain_due::Parsed;
+use domain_indexes::bases;
+use domain_rows::layout;
 use domain_terms::scope::Counts;
 use text_tokens::runs;
 ghost use mathlib.Core.Path.{_≡_};
-ghost use Rattle.domain_problem_text.specs.Grounded.{withObjects};
-ghost use Rattle.domain_load.specs.Load.{fixedOf, domainVerdict, problemVerdict, loadOf};
+ghost use mathlib.Core.Bool.{true};
+ghost use lib.ListN.{length};
+ghost use Rattle.domain_meaning.specs.Terms.{Scope};
+ghost use Rattle.domain_meaning.specs.Domain.{Domain};
+ghost use Rattle.domain_meaning.specs.Problem.{sumsFit, readProblem};
+ghost use Rattle.domain_terms.specs.Scoped.{Scoped};
+ghost use Rattle.domain_indexes.specs.Firsts.{firstsOf};
+ghost use Rattle.domain_load.specs.Load.{Models, fixedOf, ofProblem, loadOf};
+
+// How many facts and how many numbers there are.
+pub struct Sizes {
+    pub facts: usize,
+    pub numbers: usize,
+}
 
 // What domain and problem say, as numbers.
 pub struct Model {
@@ -18,15 +32,16 @@ pub struct Model {
     pub code: [u8; 32768],
     // the goal's cells
     pub goal: [u8; 32768],
-    // the first index of each predicate and of each function
-    pub facts: [usize; 32],
-    pub numbers: [usize; 16],
+    // the first indexes of 32 predicates and of 16 functions, then the number of objects
+    pub firsts: [u16; 49],
+    pub sizes: Sizes,
     pub counts: Counts,
     // how many actions there are
     pub acting: usize,
 }
 
-pub enum Verdict {
+// What load answers.
+pub enum LoadAnswer {
     Loaded,
     // a refusal of one of the texts: its number and place
     Domain(u8, usize),
@@ -38,11 +53,11 @@ pub struct Loaded {
     // the first state: a fact is true where its byte is 1, a number undefined where it is -1,000,000,000,001
     pub facts: [u8; 16384],
     pub numbers: [i64; 1024],
-    pub answer: Verdict,
+    pub answer: LoadAnswer,
 }
 
 // What a refused load gives: the same whatever the texts are, but for the answer.
-fn fixed(answer: Verdict) -> Loaded
+fn fixed(answer: LoadAnswer) -> Loaded
     ensures { λ r. ⌜ r ≡ fixedOf answer ⌝ }
 {
     let counts = Counts {
@@ -53,14 +68,18 @@ fn fixed(answer: Verdict) -> Loaded
         variables: 0,
         in_action: false,
     };
+    let sizes = Sizes {
+        facts: 0,
+        numbers: 0,
+    };
     let model = Model {
         tables: [0u8; 5054],
         actions: [0u8; 1216],
         starts: [0usize; 96],
         code: [0u8; 32768],
         goal: [0u8; 32768],
-        facts: [0usize; 32],
-        numbers: [0usize; 16],
+        firsts: [0u16; 49],
+        sizes,
         counts,
         acting: 0,
     };
@@ -72,37 +91,83 @@ fn fixed(answer: Verdict) -> Loaded
     }
 }
 
-// The refusal of a domain.
-fn domain_verdict(d: Known) -> Verdict
-    ensures { λ r. ⌜ r ≡ domainVerdict d ⌝ }
+// The first indexes of predicates and functions, and the number of objects.
+fn firsts_of(tables: &[u8], counts: Counts) -> [u16; 49]
+    requires { ⌜ ((c : Scope) × Scoped (now tables) counts c × (sumsFit c ≡ true)) ⌝ }
+    ensures { λ r. ⌜ ((c : Scope) → Scoped (now (tables .entry)) counts c → r ≡ firstsOf (length (c .objects)) (c .predicates) (c .functions)) ⌝ }
 {
-    match d {
-        Known::Done(_, _, _, _) => Verdict::Loaded,
-        Known::Refused(k, p) => Verdict::Domain(k, p),
-    }
-}
-
-// The refusal of a problem.
-fn problem_verdict(a: Parsed) -> Verdict
-    ensures { λ r. ⌜ r ≡ problemVerdict a ⌝ }
-{
-    match a {
-        Parsed::Done(_, _) => Verdict::Loaded,
-        Parsed::Refused(k, p) => Verdict::Problem(k, p),
-    }
-}
-
-// The counts with the problem's objects.
-fn grounded(counts: Counts, objects: usize) -> Counts
-    ensures { λ r. ⌜ r ≡ withObjects counts objects ⌝ }
-{
-    Counts {
-        types: counts.types,
+    let objects = counts.objects;
+    let mut firsts = [0u16; 49];
+    bases::bases_at(
+        tables,
+        layout::PREDICATES_AT,
+        counts.predicates,
         objects,
-        predicates: counts.predicates,
-        functions: counts.functions,
-        variables: counts.variables,
-        in_action: counts.in_action,
+        &mut firsts,
+        0,
+    );
+    bases::bases_at(
+        tables,
+        layout::FUNCTIONS_AT,
+        counts.functions,
+        objects,
+        &mut firsts,
+        32,
+    );
+    firsts[48] = objects as u16;
+    firsts
+}
+
+// The problem of a domain, whose model and name are given: what it says beside the domain, or its refusal.
+fn load_problem(mut model: Model, name: &[u8], problem: &[u8]) -> Loaded
+    requires { ⌜ ((d : Domain) × Models d (now name) model) ⌝ }
+    ensures { λ r. ⌜ ((d : Domain) → Models d (now (name .entry)) model → r ≡ ofProblem d (readProblem (now (problem .entry)) d)) ⌝ }
+{
+    let mut tables = model.tables;
+    let mut counts = model.counts;
+    let mut facts = [0u8; 16384];
+    let mut numbers = [-1000000000001i64; 1024];
+    let mut goal = [0u8; 32768];
+    let p = domain_problem_text::problem_at(
+        problem,
+        &mut tables,
+        counts,
+        name,
+        &mut facts,
+        &mut numbers,
+        &mut goal,
+    );
+    match p {
+        Parsed::Refused(k, at) => fixed(LoadAnswer::Problem(k, at)),
+        Parsed::Done(_, objects) => {
+            counts.objects = objects;
+            let firsts = firsts_of(&tables, counts);
+            let sizes = Sizes {
+                facts: domain_indexes::sum_of(
+                    &tables,
+                    layout::PREDICATES_AT,
+                    counts.predicates,
+                    objects,
+                ),
+                numbers: domain_indexes::sum_of(
+                    &tables,
+                    layout::FUNCTIONS_AT,
+                    counts.functions,
+                    objects,
+                ),
+            };
+            model.firsts = firsts;
+            model.sizes = sizes;
+            model.tables = tables;
+            model.goal = goal;
+            model.counts = counts;
+            Loaded {
+                model,
+                facts,
+                numbers,
+                answer: LoadAnswer::Loaded,
+            }
+        }
     }
 }
 
@@ -121,45 +186,25 @@ pub fn load(domain: &[u8], problem: &[u8]) -> Loaded
         &mut code,
         &mut starts,
     );
-    let Known::Done(from, to, counts, acting) = d else {
-        return fixed(domain_verdict(d));
-    };
-    let mut first = [0u8; 16384];
-    let mut values = [-1000000000001i64; 1024];
-    let mut goal = [0u8; 32768];
-    let name = runs::part_of(domain, from, to);
-    let p = domain_problem_text::problem_at(
-        problem,
-        &mut tables,
-        counts,
-        name,
-        &mut first,
-        &mut values,
-        &mut goal,
-    );
-    let Parsed::Done(_, objects) = p else {
-        return fixed(problem_verdict(p));
-    };
-    let mut facts = [0usize; 32];
-    domain_indexes::bases::bases_at(&tables, 3078, counts.predicates, objects, &mut facts);
-    let mut numbers = [0usize; 16];
-    domain_indexes::bases::bases_at(&tables, 4294, counts.functions, objects, &mut numbers);
-    let counts = grounded(counts, objects);
-    let model = Model {
-        tables,
-        actions,
-        starts,
-        code,
-        goal,
-        facts,
-        numbers,
-        counts,
-        acting,
-    };
-    Loaded {
-        model,
-        facts: first,
-        numbers: values,
-        answer: Verdict::Loaded,
+    match d {
+        Known::Refused(k, at) => fixed(LoadAnswer::Domain(k, at)),
+        Known::Done(from, to, counts, acting) => {
+            let sizes = Sizes {
+                facts: 0,
+                numbers: 0,
+            };
+            let model = Model {
+                tables,
+                actions,
+                starts,
+                code,
+                goal: [0u8; 32768],
+                firsts: [0u16; 49],
+                sizes,
+                counts,
+                acting,
+            };
+            load_problem(model, runs::part_of(domain, from, to), problem)
+        }
     }
 }

@@ -31,8 +31,8 @@ fn texts(head: Head) -> bool {
     let fed = plan::feed(opened.check, head.plan, part);
     let whole = fed.whole;
     if whole {
-        let verdict = opened.answer;
-        replies::write(verdict, fed.check);
+        let load = opened.answer;
+        replies::write(load, fed.check);
     }
     whole
 }

@@ -1,22 +1,22 @@
 // What is written for a record: the line and, unless something is refused, the facts and the numbers; then `--`.
 use check_calls::Answer;
 use check_calls::Check;
-use domain_load::Verdict;
+use domain_load::LoadAnswer;
 use program_records::listing;
 use program_records::output;
 use text_tokens::runs;
 
-pub fn write(verdict: Verdict, check: Check) {
+pub fn write(load: LoadAnswer, check: Check) {
     let mut out = [0u8; 4096];
-    let mut at = answer(verdict, check, &mut out);
+    let mut at = answer(load, check, &mut out);
     at = output::word(&mut out, at, b"--\n");
     output::flush(&out, at);
 }
 
-fn answer(verdict: Verdict, check: Check, out: &mut [u8]) -> usize {
+fn answer(load: LoadAnswer, check: Check, out: &mut [u8]) -> usize {
     let mut line = [0u8; 64];
-    let Verdict::Loaded = verdict else {
-        let told = check_calls::refused_line(verdict, &mut line);
+    let LoadAnswer::Loaded = load else {
+        let told = check_calls::refused_line(load, &mut line);
         return put_line(told, &line, out, 0);
     };
     let finished = check.finish();

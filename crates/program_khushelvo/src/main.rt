@@ -4,7 +4,7 @@ mod reply;
 mod texts;
 
 use check_calls::Check;
-use domain_load::Verdict;
+use domain_load::LoadAnswer;
 use program_arguments::arguments;
 use program_arguments::arguments::Options;
 use program_arguments::files;
@@ -40,8 +40,8 @@ fn judge(options: Options, plan: i32, check: Check) {
 }
 
 // A refusal of domain or problem, which argument `name` names.
-fn refuse(options: Options, verdict: Verdict, name: usize, text: &[u8], number: u8, place: usize) {
-    reply::refuse(verdict);
+fn refuse(options: Options, load: LoadAnswer, name: usize, text: &[u8], number: u8, place: usize) {
+    reply::refuse(load);
     let quiet = options.quiet;
     if !quiet {
         message::of_text(name, text, number, place);
@@ -65,11 +65,11 @@ fn check(options: Options, domain: i32, problem: i32, plan: i32) {
     let domain_text = runs::part_of(&first, 0, d.used);
     let problem_text = runs::part_of(&second, 0, p.used);
     let opened = check_calls::load(domain_text, problem_text);
-    let verdict = opened.answer;
-    match verdict {
-        Verdict::Loaded => judge(options, plan, opened.check),
-        Verdict::Domain(k, at) => refuse(options, verdict, options.domain, domain_text, k, at),
-        Verdict::Problem(k, at) => refuse(options, verdict, options.problem, problem_text, k, at),
+    let load = opened.answer;
+    match load {
+        LoadAnswer::Loaded => judge(options, plan, opened.check),
+        LoadAnswer::Domain(k, at) => refuse(options, load, options.domain, domain_text, k, at),
+        LoadAnswer::Problem(k, at) => refuse(options, load, options.problem, problem_text, k, at),
     }
 }
 

@@ -1,7 +1,7 @@
 // What goes to standard output: document 01's line and, if asked for, the last facts and numbers.
 use check_calls::Answer;
 use check_calls::Check;
-use domain_load::Verdict;
+use domain_load::LoadAnswer;
 use program_records::listing;
 use program_records::output;
 use text_tokens::runs;
@@ -14,9 +14,9 @@ fn write_line(told: Answer, line: &[u8]) {
 }
 
 // The line of a refused domain or problem.
-pub fn refuse(verdict: Verdict) {
+pub fn refuse(load: LoadAnswer) {
     let mut line = [0u8; 64];
-    let told = check_calls::refused_line(verdict, &mut line);
+    let told = check_calls::refused_line(load, &mut line);
     write_line(told, &line);
 }
 

@@ -3,7 +3,7 @@
 use check_calls::Answer;
 use check_calls::Check;
 use check_calls::Fed;
-use domain_load::Verdict;
+use domain_load::LoadAnswer;
 use program_script::compare;
 use program_script::report;
 use text_tokens::runs;
@@ -91,7 +91,7 @@ fn ask_numbers(check: Check, out: &mut [i64], n: usize) -> Fed {
     check.numbers(out)
 }
 
-fn ask_refused(load: Verdict, out: &mut [u8], n: usize) -> Answer {
+fn ask_refused(load: LoadAnswer, out: &mut [u8], n: usize) -> Answer {
     if n <= out.len() {
         return check_calls::refused_line(load, &mut out[..n]);
     }
@@ -114,7 +114,7 @@ pub fn result(check: Check, places: usize) -> Check {
 }
 
 // The line of a refused load.
-pub fn refused(load: Verdict, places: usize) {
+pub fn refused(load: LoadAnswer, places: usize) {
     let mut out = [170u8; 80];
     let answer = ask_refused(load, &mut out, places);
     report::say_answer(answer);

@@ -1,7 +1,7 @@
 // The script: a command to a line, which is written out again with what came of it; other lines are headings.
 use crate::calls;
 use check_calls::Check;
-use domain_load::Verdict;
+use domain_load::LoadAnswer;
 use program_script::compare;
 use program_script::lines;
 use program_script::report;
@@ -14,7 +14,7 @@ use text_words::spelling::Place;
 struct Bench {
     check: Check,
     kept: Check,
-    answer: Verdict,
+    answer: LoadAnswer,
 }
 
 fn load<'a>(domain: &'a [u8], problem: &'a [u8], sizes: &'a [u8], kept: Check) -> Bench {

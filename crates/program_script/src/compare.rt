@@ -1,7 +1,7 @@
 // Whether two checks are the same, part by part, and whether an output still has its mark.
 use check_calls::Check;
-use check_grounding::Ground;
 use domain_load::Model;
+use domain_load::Sizes;
 use domain_terms::scope::Counts;
 use happening_meaning::Outcome;
 use plan_feeding::Progress;
@@ -85,20 +85,20 @@ fn same_counts(a: Counts, b: Counts) -> bool {
         && a.in_action == b.in_action
 }
 
+fn same_sizes(a: Sizes, b: Sizes) -> bool {
+    a.facts == b.facts && a.numbers == b.numbers
+}
+
 fn same_model(a: Model, b: Model) -> bool {
     same_bytes(&a.tables, &b.tables)
         && same_bytes(&a.actions, &b.actions)
         && same_indexes(&a.starts, &b.starts)
         && same_bytes(&a.code, &b.code)
         && same_bytes(&a.goal, &b.goal)
-        && same_indexes(&a.facts, &b.facts)
-        && same_indexes(&a.numbers, &b.numbers)
+        && same_firsts(&a.firsts, &b.firsts)
+        && same_sizes(a.sizes, b.sizes)
         && same_counts(a.counts, b.counts)
         && a.acting == b.acting
-}
-
-fn same_ground(a: Ground, b: Ground) -> bool {
-    same_firsts(&a.firsts, &b.firsts) && a.facts == b.facts && a.numbers == b.numbers
 }
 
 fn same_step(x: Step, y: Step) -> bool {
@@ -185,7 +185,6 @@ fn same_progress(a: Progress, b: Progress) -> bool {
 
 pub fn same_check(a: Check, b: Check) -> bool {
     same_model(a.model, b.model)
-        && same_ground(a.ground, b.ground)
         && same_bytes(&a.facts, &b.facts)
         && same_numbers(&a.numbers, &b.numbers)
         && same_queue(a.queue, b.queue)

@@ -2,7 +2,7 @@
 use crate::compare;
 use check_calls::Answer;
 use check_calls::Check;
-use domain_load::Verdict;
+use domain_load::LoadAnswer;
 use program_records::output;
 use text_tokens::runs;
 ghost use mathlib.Core.Path.{_≡_};
@@ -85,13 +85,13 @@ pub fn say_output(answer: Answer, same: bool) {
 }
 
 // What a load answers.
-pub fn say_load(answer: Verdict) {
+pub fn say_load(answer: LoadAnswer) {
     match answer {
-        Verdict::Loaded => {
+        LoadAnswer::Loaded => {
             io::write_all(1, b" -> loaded");
         }
-        Verdict::Domain(k, p) => say_refused(b" -> domain", k, p),
-        Verdict::Problem(k, p) => say_refused(b" -> problem", k, p),
+        LoadAnswer::Domain(k, p) => say_refused(b" -> domain", k, p),
+        LoadAnswer::Problem(k, p) => say_refused(b" -> problem", k, p),
     }
     io::write_all(1, b"\n");
 }

@@ -1,7 +1,7 @@
 // A check with one of its numbers set to another.
 use check_calls::Check;
-use check_grounding::Ground;
 use domain_load::Model;
+use domain_load::Sizes;
 use domain_terms::scope::Counts;
 use happening_meaning::Outcome;
 use plan_feeding::Progress;
@@ -82,25 +82,27 @@ fn spoil_counts(before: Counts, i: usize, v: usize) -> Counts {
     c
 }
 
+fn spoil_sizes(before: Sizes, i: usize, v: usize) -> Sizes {
+    let mut s = before;
+    if i == 6 {
+        s.facts = v;
+    }
+    if i == 7 {
+        s.numbers = v;
+    }
+    s
+}
+
 fn spoil_model(before: Model, i: usize, v: usize) -> Model {
     let mut m = before;
     if i == 3 {
         m.acting = v;
     }
+    let sizes = spoil_sizes(m.sizes, i, v);
+    m.sizes = sizes;
     let counts = spoil_counts(m.counts, i, v);
     m.counts = counts;
     m
-}
-
-fn spoil_ground(before: Ground, i: usize, v: usize) -> Ground {
-    let mut g = before;
-    if i == 6 {
-        g.facts = v;
-    }
-    if i == 7 {
-        g.numbers = v;
-    }
-    g
 }
 
 fn spoil_step(before: Step, i: usize, v: usize) -> Step {
@@ -148,11 +150,9 @@ pub fn spoil(before: Check, word: &[u8], v: usize) -> Check {
     let mut check = before;
     let progress = spoil_progress(before.progress, i, v);
     let model = spoil_model(before.model, i, v);
-    let ground = spoil_ground(before.ground, i, v);
     let queue = spoil_queue(before.queue, i, v);
     check.progress = progress;
     check.model = model;
-    check.ground = ground;
     check.queue = queue;
     check
 }

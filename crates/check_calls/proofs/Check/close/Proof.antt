@@ -34,7 +34,7 @@ answered-requires : tie.Need-answered-requires
 answered-requires c κs = search needs
 
 returns : tie.Need-returns
-returns c = let s = (c .before .before .before .before .before .before .before .before .before .before .before .before .before .before .before .before .before .before .before .before .before .before .before .before .before .before .before .before .before .before .before .before .before) in let e = c .before .before .before .before .before .before .before .before .before .end-plan in c .answered .ensures ∙ finish-stopped (s .args .t1) (s .pre .0) (s .pre .1) (s .pre .2) (stateIn (e .last .1 .1 .1 .1 .1 .1 .1 .1 .0) (e .last .1 .1 .1 .1 .1 .1 .1 .1 .1 .0)) (e .result) (e .ensures anyState) (c .before .before .before .before .before .if1 .taken) (c .before .before .refused-check .result) (c .before .before .refused-check .ensures) (c .before .standing-answer .result) (c .before .standing-answer .ensures)
+returns c = let s = (c .before .before .before .before .before .before .before .before .before .before .before .before .before .before .before .before .before .before .before .before .before .before .before .before .before .before .before .before .before .before .before .before) in let e = c .before .before .before .before .before .before .before .before .end-plan in c .answered .ensures ∙ finish-stopped (s .args .t1) (s .pre .0) (s .pre .1) (s .pre .2) (stateIn (e .last .1 .1 .1 .1 .1 .1 .1 .1 .0) (e .last .1 .1 .1 .1 .1 .1 .1 .1 .1 .0)) (e .result) (e .ensures anyState) (c .before .before .before .before .if1 .taken) (c .before .before .refused-check .result) (c .before .before .refused-check .ensures) (c .before .standing-answer .result) (c .before .standing-answer .ensures)
 
 nobody-requires : tie.Need-nobody-requires
 nobody-requires c κs = search needs

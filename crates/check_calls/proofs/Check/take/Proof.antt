@@ -37,7 +37,7 @@ answered-requires : tie.Need-answered-requires
 answered-requires c κs = search needs
 
 returns : tie.Need-returns
-returns c = let s = (c .before .before .before .before .before .before .before .before .before .before .before .before .before .before .before .before .before .before .before .before .before .before .before .before .before .before .before .before .before .before .before .before .before .before) in let t = c .before .before .before .before .before .before .before .before .before .before .before .take-part in c .answered .ensures ∙ feed-stopped (s .args .t1) (s .pre .0) (s .pre .1) (s .pre .2) (now (s .args .part)) (stateIn (t .last .1 .1 .1 .1 .1 .1 .1 .0) (t .last .1 .1 .1 .1 .1 .1 .1 .1 .0)) (t .last .1 .1 .1 .1 .1 .1 .1 .1 .1 .1 .0) (t .result .queue) (t .result .progress) (t .ensures .0 (conditionAt (s .args .t1 .model .goal) 0 .tree) anyState) (c .before .before .before .before .before .if1 .taken) (c .before .before .refused-check .result) (c .before .before .refused-check .ensures) (c .before .standing-answer .result) (c .before .standing-answer .ensures)
+returns c = let s = (c .before .before .before .before .before .before .before .before .before .before .before .before .before .before .before .before .before .before .before .before .before .before .before .before .before .before .before .before .before .before .before .before .before) in let t = c .before .before .before .before .before .before .before .before .before .before .take-part in c .answered .ensures ∙ feed-stopped (s .args .t1) (s .pre .0) (s .pre .1) (s .pre .2) (now (s .args .part)) (stateIn (t .last .1 .1 .1 .1 .1 .1 .1 .0) (t .last .1 .1 .1 .1 .1 .1 .1 .1 .0)) (t .last .1 .1 .1 .1 .1 .1 .1 .1 .1 .1 .0) (t .result .queue) (t .result .progress) (t .ensures .0 (conditionAt (s .args .t1 .model .goal) 0 .tree) anyState) (c .before .before .before .before .if1 .taken) (c .before .before .refused-check .result) (c .before .before .refused-check .ensures) (c .before .standing-answer .result) (c .before .standing-answer .ensures)
 
 tidy-requires : tie.Need-tidy-requires
 tidy-requires c κs = search needs

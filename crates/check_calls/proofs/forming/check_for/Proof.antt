@@ -15,7 +15,6 @@ returns : tie.Need-returns
 returns c = λ i.
     record {
       model = c .before .before .before .before .before .args .loaded .model;
-      ground = c .before .before .before .before .before .args .ground;
       facts = c .before .before .before .before .before .args .loaded .facts;
       numbers = c .before .before .before .before .before .args .loaded .numbers;
       queue = c .before .nobody .ensures i;

@@ -15,12 +15,11 @@ unfolding noFacts noNumbers
 returns c = λ i.
     record {
       model = c .before .args .model;
-      ground = c .before .args .ground;
       facts = noFacts;
       numbers = noNumbers;
       queue = c .nobody .ensures i;
       line = zeros-padded 257 i;
-      progress = refusedFrom (c .before .args .model) (c .before .args .ground) (refusedIn (c .before .args .p)) (c .before .args .finished) .progress;
+      progress = refusedFrom (c .before .args .model) (refusedIn (c .before .args .p)) (c .before .args .finished) .progress;
       finished = c .before .args .finished;
     }
 

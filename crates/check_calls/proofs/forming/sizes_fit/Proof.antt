@@ -7,23 +7,23 @@ use Rattle.check_calls.proofs.forming.sizes_fit.Tie as tie
 returns : tie.Need-returns
 unfolding sizesFit
 returns c =
-    let a = c .before .before .before .before .before .before .args in
+    let a = c .before .before .before .before .before .before .before .before .args in
     rw (
-      le-leb (a .counts .types) 17 (c .before .before .before .before .if1 .taken),
-      le-leb (a .counts .objects) 64 (c .before .before .if2 .taken),
-      le-leb (a .acting) 32 (c .before .if3 .taken),
-      le-leb (a .facts) 16384 (c .if4 .taken),
+      le-leb (a .counts .types) 17 (c .before .before .before .before .before .before .if1 .taken),
+      le-leb (a .counts .objects) 64 (c .before .before .before .before .if2 .taken),
+      le-leb (a .acting) 32 (c .before .before .before .if3 .taken),
+      le-leb (a .sizes .facts) 16384 (c .before .if4 .taken),
     )
 
 returns-2 : tie.Need-returns-2
 unfolding sizesFit
 returns-2 c =
-    let a = c .before .before .before .before .before .before .args in
+    let a = c .before .before .before .before .before .before .before .args in
     rw (
-      le-leb (a .counts .types) 17 (c .before .before .before .before .if1 .taken),
-      le-leb (a .counts .objects) 64 (c .before .before .if2 .taken),
-      le-leb (a .acting) 32 (c .before .if3 .taken),
-      lt-leb (a .facts) 16384 (c .if4 .left),
+      le-leb (a .counts .types) 17 (c .before .before .before .before .before .if1 .taken),
+      le-leb (a .counts .objects) 64 (c .before .before .before .if2 .taken),
+      le-leb (a .acting) 32 (c .before .before .if3 .taken),
+      lt-leb (a .sizes .facts) 16384 (c .if4 .left),
     )
 
 returns-3 : tie.Need-returns-3
