@@ -23,9 +23,9 @@ use Rattle.plan_running.specs.Running.{rulesIn}
 use Rattle.plan_lines.specs.Knowing.{Tabled, Headed, knownIn}
 use Rattle.plan_lines.proofs.Knowing.{known-in}
 use Rattle.plan_feeding.specs.Feeding.{refusedIn, heldIn, closedIn, Fit}
-use Rattle.plan_feeding.specs.declared.Progress.{Progress}
+use Rattle.plan_feeding.specs.declared.PlanProgress.{PlanProgress}
 use Rattle.check_calls.specs.declared.Check.{Check}
-use Rattle.check_calls.specs.declared.Fed.{Fed}
+use Rattle.check_calls.specs.declared.Reply.{Reply}
 use Rattle.check_calls.specs.declared.Answer.{Answer}
 use Rattle.check_calls.specs.declared.Answer.the-variants as A
 use Rattle.check_calls.specs.Calls.{wellFormed, anyState, rulesOn, knownOn, heldBy, refusedFrom, settled, endedFrom, emptyLine, stored, ended}
@@ -35,7 +35,7 @@ use Rattle.check_calls.proofs.Storing.{stored-held, stored-refused, end
 
 -- ---- 19 and 21
 
-module _ (c : Check) (next : Fed) where
+module _ (c : Check) (next : Reply) where
   pub unformed : wellFormed c ≡ false → fed c A.Unformed ≡ whileOpen c next
   unformed h = rw (h)
 
@@ -74,7 +74,8 @@ ready-for c good h free =
 
 abbrev pub rulesBy : Check → Rules State Act Outcome
 rulesBy c =
-    rulesIn (c .model .code) (c .model .starts) (c .model .firsts) (conditionAt (c .model .goal) 0 .tree) (signedIn (c .model .actions) (c .model .acting)) anyState
+    rulesIn (c .model .code) (c .model .starts) (c .model .firsts) (conditionAt (c .model .goal) 0 .tree)
+    (signedIn (c .model .actions) (c .model .acting)) anyState
 
 abbrev pub knownBy : Check → Known
 knownBy c = knownIn (c .model .tables) (c .model .counts) (c .model .actions) (c .model .acting) (c .model .code) (c .model .starts)
@@ -118,10 +119,10 @@ module _ (c : Check) (good : wellFormed c ≡ true) (going : c .finished ≡ fal
       ap (λ x. answering (ended c x)) (h ∙ (λ i. close (rules-on c i) limits (reader (known-on c i)) (heldBy c)))
       ∙ rw (good, going, free)
 
-  standing-refused : (p : Progress) (done : Bool) → p .refused ≡ true → standing p ≡ standing (refusedFrom (c .model) (refusedIn p) done .progress)
+  standing-refused : (p : PlanProgress) (done : Bool) → p .refused ≡ true → standing p ≡ standing (refusedFrom (c .model) (refusedIn p) done .progress)
   standing-refused p done h = rw (h)
 
-  pub feed-stopped : (part : List ℕ) (s : State) (line : List ℕ) (q : Queue) (p : Progress)
+  pub feed-stopped : (part : List ℕ) (s : State) (line : List ℕ) (q : Queue) (p : PlanProgress)
       → heldIn s line q p ≡ feed (rulesBy c) limits (reader (knownBy c)) (heldBy c) part → p .refused ≡ true
       → (x : Check) → x ≡ refusedFrom (c .model) (refusedIn p) false → (a : Answer) → a ≡ standing p → fed x a ≡ feedOf c part
   feed-stopped part s line q p h stopped x e a f =
@@ -129,16 +130,16 @@ module _ (c : Check) (good : wellFormed c ≡ true) (going : c .finished ≡ fal
       ∙ sym (ap answering (stored-refused c s line q p stopped))
       ∙ feed-is part (heldIn s line q p) h
 
-  pub finish-stopped : (s : State) (p : Progress) → closedIn s p ≡ close (rulesBy c) limits (reader (knownBy c)) (heldBy c) → p .refused ≡ true
+  pub finish-stopped : (s : State) (p : PlanProgress) → closedIn s p ≡ close (rulesBy c) limits (reader (knownBy c)) (heldBy c) → p .refused ≡ true
       → (x : Check) → x ≡ refusedFrom (c .model) (refusedIn p) true → (a : Answer) → a ≡ standing p → fed x a ≡ finishOf c
   finish-stopped s p h stopped x e a f =
       (λ i. fed (e i) ((f ∙ standing-refused p true stopped) i))
       ∙ sym (ap answering (ended-refused c s p stopped))
       ∙ finish-is (closedIn s p) h
 
-  pub feed-goes : (part : List ℕ) (s : State) (line : List ℕ) (q : Queue) (p : Progress)
+  pub feed-goes : (part : List ℕ) (s : State) (line : List ℕ) (q : Queue) (p : PlanProgress)
       → heldIn s line q p ≡ feed (rulesBy c) limits (reader (knownBy c)) (heldBy c) part → p .refused ≡ false → p .used ≤ 256 → length line ≡ 257
-      → (queue : Queue) (tidied : List ℕ) (after : Progress) → queue ≡ queueOf (used q) → tidied ≡ padded 257 (take (p .used) line) → after ≡ settled p
+      → (queue : Queue) (tidied : List ℕ) (after : PlanProgress) → queue ≡ queueOf (used q) → tidied ≡ padded 257 (take (p .used) line) → after ≡ settled p
       → fed
       (record { model = c .model; facts = s .facts; numbers = s .numbers; queue = queue; line = tidied; progress = after; finished = c .finished })
       (A.Done 0)
@@ -150,8 +151,8 @@ module _ (c : Check) (good : wellFormed c ≡ true) (going : c .finished ≡ fal
       ∙ sym (ap answering (stored-held c s line q p goes few long))
       ∙ feed-is part (heldIn s line q p) h
 
-  pub finish-goes : (s : State) (p : Progress) → closedIn s p ≡ close (rulesBy c) limits (reader (knownBy c)) (heldBy c) → p .refused ≡ false
-      → (queue : Queue) (tidied : List ℕ) (after : Progress) → queue ≡ queueOf [] → tidied ≡ emptyLine → after ≡ endedFrom (p .past)
+  pub finish-goes : (s : State) (p : PlanProgress) → closedIn s p ≡ close (rulesBy c) limits (reader (knownBy c)) (heldBy c) → p .refused ≡ false
+      → (queue : Queue) (tidied : List ℕ) (after : PlanProgress) → queue ≡ queueOf [] → tidied ≡ emptyLine → after ≡ endedFrom (p .past)
       → fed
       (record { model = c .model; facts = s .facts; numbers = s .numbers; queue = queue; line = tidied; progress = after; finished = true })
       (A.Done 0)

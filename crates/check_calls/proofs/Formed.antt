@@ -11,17 +11,17 @@ use Rattle.plan_waiting.specs.Waiting.{used, slotsFit, Sound}
 use Rattle.plan_waiting.specs.declared.Queue.{Queue}
 use Rattle.plan_waiting.proofs.Fitting.{fit-sound}
 use Rattle.check_meaning.specs.Listed.{listedInPlan, listedVerdict, listedTime}
-use Rattle.plan_feeding.specs.declared.Progress.{Progress}
+use Rattle.plan_feeding.specs.declared.PlanProgress.{PlanProgress}
 use Rattle.check_calls.specs.Calls.{countersFit, answersFit, sizesFit, formed}
 
-pub record Counters (p : Progress) : Type 0 where
+pub record Counters (p : PlanProgress) : Type 0 where
   pub first : 0 < p .number
   pub lines : p .number ≤ 1000001
   pub empty : 1000000 < p .number → p .used ≡ 0
   pub short : p .used ≤ 256
   pub timely : p .start < 1000000000000
 
-pub record Answers (p : Progress) : Type 0 where
+pub record Answers (p : PlanProgress) : Type 0 where
   pub refusal : p .refused ≡ true → listedInPlan (p .refusal) (p .at) (p .column) ≡ true
   pub verdict : listedVerdict (p .past .outcome) ≡ true
   pub time : p .past .time < 2000000000000
@@ -33,14 +33,15 @@ pub record Sizes (counts : Counts) (acting factCount numberCount : ℕ) : Type 0
   pub fewFacts : factCount ≤ 16384
   pub fewNumbers : numberCount ≤ 1024
 
-pub record Formed (p : Progress) (counts : Counts) (acting factCount numberCount : ℕ) (q : Queue) : Type 0 where
+pub record Formed (p : PlanProgress) (counts : Counts) (acting factCount numberCount : ℕ) (q : Queue) : Type 0 where
   pub counters : Counters p
   pub answers : Answers p
   pub sizes : Sizes counts acting factCount numberCount
   pub few : q .count ≤ 64
   pub slots : slotsFit acting (used q) ≡ true
 
-pub formed-sound : {p : Progress} {counts : Counts} {acting factCount numberCount : ℕ} {q : Queue} → Formed p counts acting factCount numberCount q → Sound acting q
+pub formed-sound : {p : PlanProgress} {counts : Counts} {acting factCount numberCount : ℕ} {q : Queue} → Formed p counts acting factCount numberCount q
+    → Sound acting q
 formed-sound {acting = acting} {q = q} h = (h .few, fit-sound acting (used q) (h .slots))
 
 -- ---- the parts
@@ -67,7 +68,7 @@ last-of n u h f = go (eqb u 0) refl
         by true i = i
         by false i = absurd (eqb-false u 0 e (f (leb-false n 1000000 i)))
 
-pub counters-parts : (p : Progress) → countersFit p ≡ true → Counters p
+pub counters-parts : (p : PlanProgress) → countersFit p ≡ true → Counters p
 unfolding countersFit
 counters-parts p h =
     let a = ltb 0 (p .number) in
@@ -85,10 +86,10 @@ counters-parts p h =
       timely = ltb-true (p .start) 1000000000000 (and-right (a && b && c) d h);
     }
 
-abbrev standingFits : Progress → Bool
+abbrev standingFits : PlanProgress → Bool
 standingFits p = cond (p .refused) (listedInPlan (p .refusal) (p .at) (p .column)) true
 
-pub answers-parts : (p : Progress) → answersFit p ≡ true → Answers p
+pub answers-parts : (p : PlanProgress) → answersFit p ≡ true → Answers p
 unfolding answersFit listedTime
 answers-parts p h =
     let a = standingFits p in
@@ -102,7 +103,8 @@ answers-parts p h =
       time = ltb-true (p .past .time) 2000000000000 (and-right (a && b) c h);
     }
 
-pub sizes-parts : (counts : Counts) (acting factCount numberCount : ℕ) → sizesFit counts acting factCount numberCount ≡ true → Sizes counts acting factCount numberCount
+pub sizes-parts : (counts : Counts) (acting factCount numberCount : ℕ) → sizesFit counts acting factCount numberCount ≡ true
+    → Sizes counts acting factCount numberCount
 unfolding sizesFit
 sizes-parts counts acting factCount numberCount h =
     let a = leb (counts .types) 17 in
@@ -123,7 +125,7 @@ sizes-parts counts acting factCount numberCount h =
 
 -- ---- from the parts
 
-pub counters-of : (p : Progress) → Counters p → countersFit p ≡ true
+pub counters-of : (p : PlanProgress) → Counters p → countersFit p ≡ true
 unfolding countersFit
 counters-of p h =
     rw (
@@ -133,7 +135,7 @@ counters-of p h =
       lt-ltb (p .start) 1000000000000 (h .timely),
     )
 
-pub answers-of : (p : Progress) → Answers p → answersFit p ≡ true
+pub answers-of : (p : PlanProgress) → Answers p → answersFit p ≡ true
 unfolding answersFit listedTime
 answers-of p h = rw (standing (p .refused) refl, h .verdict, lt-ltb (p .past .time) 2000000000000 (h .time))
   where
@@ -141,7 +143,8 @@ answers-of p h = rw (standing (p .refused) refl, h .verdict, lt-ltb (p .past .ti
     standing true e = rw e (h .refusal e)
     standing false e = rw e
 
-pub sizes-of : (counts : Counts) (acting factCount numberCount : ℕ) → Sizes counts acting factCount numberCount → sizesFit counts acting factCount numberCount ≡ true
+pub sizes-of : (counts : Counts) (acting factCount numberCount : ℕ) → Sizes counts acting factCount numberCount
+    → sizesFit counts acting factCount numberCount ≡ true
 unfolding sizesFit
 sizes-of counts acting factCount numberCount h =
     rw (
@@ -154,7 +157,7 @@ sizes-of counts acting factCount numberCount h =
 
 -- ---- the whole
 
-module _ (p : Progress) (counts : Counts) (acting factCount numberCount : ℕ) (q : Queue) where
+module _ (p : PlanProgress) (counts : Counts) (acting factCount numberCount : ℕ) (q : Queue) where
   pub formed-parts : formed p counts acting factCount numberCount q ≡ true → Formed p counts acting factCount numberCount q
   unfolding formed
   formed-parts h =

@@ -25,10 +25,13 @@ module _ (s t : List ℕ) where
       → record { check = x; answer = l .answer } ≡ openOf s t
   unfolding openOf
   opened-by l e a h x g =
-      ap (λ (v : LoadAnswer). record { check = x; answer = v }) h ∙ g ∙ sym (ap (λ (v : LoadAnswer). openedBy v l) h) ∙ ap (λ (k : Loaded). openedBy (k .answer) k) e
+      ap (λ (v : LoadAnswer). record { check = x; answer = v }) h ∙ g ∙ sym (ap (λ (v : LoadAnswer). openedBy v l) h)
+      ∙ ap (λ (k : Loaded). openedBy (k .answer) k) e
 
-  pub opened-loaded : (l : Loaded) → l ≡ loadOf s t → l .answer ≡ Is.Loaded → (x : Check) → x ≡ checkFor l 1 → record { check = x; answer = l .answer } ≡ openOf s t
+  pub opened-loaded : (l : Loaded) → l ≡ loadOf s t → l .answer ≡ Is.Loaded → (x : Check) → x ≡ checkFor l 1
+      → record { check = x; answer = l .answer } ≡ openOf s t
   opened-loaded l e h x j = opened-by l e Is.Loaded h x (ap (λ (y : Check). record { check = y; answer = Is.Loaded }) j)
 
-  pub opened-refused : (l : Loaded) → l ≡ loadOf s t → Refusing (l .answer) → (x : Check) → x ≡ checkFor l 0 → record { check = x; answer = l .answer } ≡ openOf s t
+  pub opened-refused : (l : Loaded) → l ≡ loadOf s t → Refusing (l .answer) → (x : Check) → x ≡ checkFor l 0
+      → record { check = x; answer = l .answer } ≡ openOf s t
   opened-refused l e h x j = opened-by l e (l .answer) refl x (unloaded l (l .answer) h x j)

@@ -11,16 +11,16 @@ use borrow.Author.Tests.{lt-ltb, le-ltb}
 use Rattle.base_laws.proofs.Lists.{taken-length}
 use Rattle.check_meaning.specs.Answer.{bit, shown}
 use Rattle.check_calls.specs.declared.Check.{Check}
-use Rattle.check_calls.specs.declared.Fed.{Fed}
+use Rattle.check_calls.specs.declared.Reply.{Reply}
 use Rattle.check_calls.specs.declared.Answer.the-variants as A
 use Rattle.check_calls.specs.Calls.{wellFormed, fed, whenDone, unlessRefused, writing, factsOf, numbersOf}
 use Rattle.check_calls.proofs.Formed.{Formed, formed-parts}
 
 -- what is answered, beside the lent output
-pub beside : {X : Type 0} {r s : Fed} → r ≡ s → (out : X) → _≡_ {A = Fed × X} (r, out) (s, out)
+pub beside : {X : Type 0} {r s : Reply} → r ≡ s → (out : X) → _≡_ {A = Reply × X} (r, out) (s, out)
 beside e out = λ i. (e i, out)
 
-module _ {X : Type 0} (c : Check) (out : X) (next : Fed × X) where
+module _ {X : Type 0} (c : Check) (out : X) (next : Reply × X) where
   pub unformed : wellFormed c ≡ false → (fed c A.Unformed, out) ≡ whenDone c out next
   unformed h = rw (h)
 
@@ -55,7 +55,8 @@ module _ (c : Check) (good : wellFormed c ≡ true) where
   pub few-numbers : length (c .numbers) ≡ 1024 → c .model .sizes .numbers ≤ length (c .numbers)
   few-numbers h = omega (arith, h, parts .sizes .fewNumbers)
 
-module _ {X : Type 0} (c : Check) (out : List X) (least : ℕ) (w : List X) (good : wellFormed c ≡ true) (f : c .finished ≡ true) (r : c .progress .refused ≡ false) where
+module _ {X : Type 0} (c : Check) (out : List X) (least : ℕ) (w : List X) (good : wellFormed c ≡ true) (f : c .finished ≡ true)
+    (r : c .progress .refused ≡ false) where
   kept-short : length out < least → (fed c A.Short, out) ≡ whenDone c out (unlessRefused c out (writing c out least w))
   kept-short h = short c out least w h ∙ stated c out _ r ∙ done c out _ good f
 

@@ -18,7 +18,7 @@ use Rattle.plan_meaning.proofs.Stored.{slot-back}
 use Rattle.plan_waiting.specs.Waiting.{used, queueOf}
 use Rattle.plan_waiting.specs.declared.Queue.{Queue}
 use Rattle.plan_feeding.specs.Feeding.{refusedIn, checkIn, heldIn, closedIn}
-use Rattle.plan_feeding.specs.declared.Progress.{Progress}
+use Rattle.plan_feeding.specs.declared.PlanProgress.{PlanProgress}
 use Rattle.check_meaning.specs.Answer.{lastState}
 use Rattle.check_calls.specs.declared.Check.{Check}
 use Rattle.check_calls.specs.Calls.{stored, ended, refusedFrom, settled, endedFrom, emptyLine, pastOf}
@@ -61,7 +61,7 @@ slots-back (s ∷ l) = λ i. slot-back s i ∷ slots-back l i
 
 -- ---- the whole
 
-module _ (c : Check) (s : State) (line : List ℕ) (q : Queue) (p : Progress) where
+module _ (c : Check) (s : State) (line : List ℕ) (q : Queue) (p : PlanProgress) where
   kept-line : p .used ≤ 256 → length line ≡ 257 → length (take (p .used) line) ≡ p .used
   kept-line h k = length-take-le (p .used) line (omega (arith, h, k))
 
@@ -100,14 +100,23 @@ module _ (c : Check) (s : State) (line : List ℕ) (q : Queue) (p : Progress) wh
   unfolding stored checkIn
   stored-refused stopped = rw (stopped)
 
-module _ (c : Check) (s : State) (p : Progress) where
+module _ (c : Check) (s : State) (p : PlanProgress) where
   pub ended-refused : p .refused ≡ true → ended c (closedIn s p) ≡ refusedFrom (c .model) (refusedIn p) true
   unfolding ended
   ended-refused stopped = rw (stopped)
 
   pub ended-run : p .refused ≡ false
       → ended c (closedIn s p)
-      ≡ record { model = c .model; facts = s .facts; numbers = s .numbers; queue = queueOf []; line = emptyLine; progress = endedFrom (p .past); finished = true }
+      ≡ record {
+        model = c .model;
+        facts = s .facts;
+        numbers = s .numbers;
+        queue = queueOf [];
+        line = emptyLine;
+        progress =
+            endedFrom (p .past);
+        finished = true;
+      }
   unfolding ended
   ended-run free = rw (free) (λ i. record {
     model = c .model;

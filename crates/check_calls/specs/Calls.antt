@@ -33,25 +33,25 @@ use Rattle.plan_waiting.specs.Waiting.{used, queueOf, slotsFit}
 use Rattle.plan_waiting.specs.declared.Queue.{Queue}
 use Rattle.plan_running.specs.declared.Past.{Past}
 use Rattle.plan_feeding.specs.Feeding.{heldIn}
-use Rattle.plan_feeding.specs.declared.Progress.{Progress}
+use Rattle.plan_feeding.specs.declared.PlanProgress.{PlanProgress}
 use Rattle.check_wording.specs.Wording.{verdictLine, refusalLine}
 use Rattle.check_meaning.specs.Answer.{bit, shown, lastState}
 use Rattle.check_meaning.specs.Listed.{listedInPlan, listedVerdict, listedTime}
 use Rattle.check_calls.specs.declared.Check.{Check}
 use Rattle.check_calls.specs.declared.Answer.{Answer}
 use Rattle.check_calls.specs.declared.Answer.the-variants as A
-use Rattle.check_calls.specs.declared.Opened.{Opened}
-use Rattle.check_calls.specs.declared.Fed.{Fed}
+use Rattle.check_calls.specs.declared.LoadReply.{LoadReply}
+use Rattle.check_calls.specs.declared.Reply.{Reply}
 
 -- ---- "Well formed" is a test of the check's numbers
 
 -- where the plan is: past the millionth line no byte is kept
-unfoldable pub countersFit : Progress → Bool
+unfoldable pub countersFit : PlanProgress → Bool
 countersFit p =
     ltb 0 (p .number) && leb (p .number) (cond (eqb (p .used) 0) 1000001 1000000) && leb (p .used) 256 && ltb (p .start) 1000000000000
 
 -- what would be answered: a plan refusal that stands, or what came of the plan so far
-unfoldable pub answersFit : Progress → Bool
+unfoldable pub answersFit : PlanProgress → Bool
 answersFit p =
     cond (p .refused) (listedInPlan (p .refusal) (p .at) (p .column)) true && listedVerdict (p .past .outcome) && listedTime (p .past .time)
 
@@ -59,7 +59,7 @@ unfoldable pub sizesFit : Counts → ℕ → ℕ → ℕ → Bool
 sizesFit counts acting factCount numberCount =
     leb (counts .types) 17 && leb (counts .objects) 64 && leb acting 32 && leb factCount 16384 && leb numberCount 1024
 
-unfoldable pub formed : Progress → Counts → ℕ → ℕ → ℕ → Queue → Bool
+unfoldable pub formed : PlanProgress → Counts → ℕ → ℕ → ℕ → Queue → Bool
 formed p counts acting factCount numberCount q =
     countersFit p && answersFit p && sizesFit counts acting factCount numberCount && leb (q .count) 64 && slotsFit acting (used q)
 
@@ -93,14 +93,14 @@ abbrev pub pastOf : Run State Outcome → Past
 pastOf (going s t) = record { outcome = O.Done; time = t }
 pastOf (failed s t w) = record { outcome = w; time = t }
 
-abbrev pub ready : ℕ → Progress
+abbrev pub ready : ℕ → PlanProgress
 ready n = record { used = 0; number = n; start = 0; past = noPast; refused = false; refusal = 0; at = 0; column = 0 }
 
 abbrev pub emptyLine : List ℕ
 emptyLine = padded 257 []
 
 -- no refusal, and zeros for its place
-abbrev pub settled : Progress → Progress
+abbrev pub settled : PlanProgress → PlanProgress
 settled p =
     record { used = p .used; number = p .number; start = p .start; past = p .past; refused = false; refusal = 0; at = 0; column = 0 }
 
@@ -133,7 +133,7 @@ stored c (reading (waits run s q) n part) =
       finished = false;
     }
 
-abbrev pub endedFrom : Past → Progress
+abbrev pub endedFrom : Past → PlanProgress
 endedFrom past = record { used = 0; number = 1; start = 0; past = past; refused = false; refusal = 0; at = 0; column = 0 }
 
 unfoldable pub ended : Check → Result State Outcome Refused → Check
@@ -151,14 +151,14 @@ ended c (P.ended run) =
 
 -- ---- the calls
 
-abbrev pub fed : Check → Answer → Fed
+abbrev pub fed : Check → Answer → Reply
 fed c a = record { check = c; answer = a }
 
 -- "A plan refusal stays: feeding and finishing give it again"
-abbrev pub standing : Progress → Answer
+abbrev pub standing : PlanProgress → Answer
 standing p = cond (p .refused) (A.Refused (p .refusal) (p .at) (p .column)) (A.Done 0)
 
-abbrev pub answering : Check → Fed
+abbrev pub answering : Check → Reply
 answering c = fed c (standing (c .progress))
 
 abbrev pub withFinish : Check → Check
@@ -174,39 +174,39 @@ withFinish c =
     }
 
 -- 19 and 21, else what the call does
-abbrev pub whileOpen : Check → Fed → Fed
+abbrev pub whileOpen : Check → Reply → Reply
 whileOpen c next = cond (wellFormed c) (cond (c .finished) (fed c A.Late) next) (fed c A.Unformed)
 
-unfoldable pub feedOf : Check → List ℕ → Fed
+unfoldable pub feedOf : Check → List ℕ → Reply
 feedOf c part =
     whileOpen c (cond (c .progress .refused) (answering c) (answering (stored c (feed (rulesOn c) limits (reader (knownOn c)) (heldBy c) part))))
 
-unfoldable pub finishOf : Check → Fed
+unfoldable pub finishOf : Check → Reply
 finishOf c =
     whileOpen c (cond (c .progress .refused) (answering (withFinish c)) (answering (ended c (close (rulesOn c) limits (reader (knownOn c)) (heldBy c)))))
 
 -- 19 and 22, else what the call does with the lent output
-abbrev pub whenDone : {A : Type 0} → Check → A → Fed × A → Fed × A
+abbrev pub whenDone : {A : Type 0} → Check → A → Reply × A → Reply × A
 whenDone c out next = cond (wellFormed c) (cond (c .finished) next (fed c A.Early, out)) (fed c A.Unformed, out)
 
 -- 20, else what is written from the first place on
-abbrev pub writing : {A : Type 0} → Check → List A → ℕ → List A → Fed × List A
+abbrev pub writing : {A : Type 0} → Check → List A → ℕ → List A → Reply × List A
 writing c out least w = cond (ltb (length out) least) (fed c A.Short, out) (fed c (A.Done (length w)), sets out 0 w)
 
-abbrev pub lineIn : Progress → List ℕ
+abbrev pub lineIn : PlanProgress → List ℕ
 lineIn p = cond (p .refused) (refusalLine (bytes "plan") (p .refusal) (p .at) (p .column)) (verdictLine (p .past .outcome) (p .past .time))
 
-unfoldable pub resultOf : Check → List ℕ → Fed × List ℕ
+unfoldable pub resultOf : Check → List ℕ → Reply × List ℕ
 resultOf c out = whenDone c out (writing c out 64 (lineIn (c .progress)))
 
 -- 23, else what is written
-abbrev pub unlessRefused : {A : Type 0} → Check → A → Fed × A → Fed × A
+abbrev pub unlessRefused : {A : Type 0} → Check → A → Reply × A → Reply × A
 unlessRefused c out next = cond (c .progress .refused) (fed c A.Stateless, out) next
 
-unfoldable pub factsOf : Check → List ℕ → Fed × List ℕ
+unfoldable pub factsOf : Check → List ℕ → Reply × List ℕ
 factsOf c out = whenDone c out (unlessRefused c out (writing c out (c .model .sizes .facts) (map bit (take (c .model .sizes .facts) (c .facts)))))
 
-unfoldable pub numbersOf : Check → List ℤ → Fed × List ℤ
+unfoldable pub numbersOf : Check → List ℤ → Reply × List ℤ
 numbersOf c out = whenDone c out (unlessRefused c out (writing c out (c .model .sizes .numbers) (map shown (take (c .model .sizes .numbers) (c .numbers)))))
 
 -- ---- load: "A refused load hands back one fixed check that 19 refuses"
@@ -223,12 +223,12 @@ checkFor l n =
       finished = false;
     }
 
-abbrev pub openedBy : LoadAnswer → Loaded → Opened
+abbrev pub openedBy : LoadAnswer → Loaded → LoadReply
 openedBy Is.Loaded l = record { check = checkFor l 1; answer = Is.Loaded }
 openedBy (Is.Domain k p) l = record { check = checkFor l 0; answer = Is.Domain k p }
 openedBy (Is.Problem k p) l = record { check = checkFor l 0; answer = Is.Problem k p }
 
-unfoldable pub openOf : List ℕ → List ℕ → Opened
+unfoldable pub openOf : List ℕ → List ℕ → LoadReply
 openOf domain problem = openedBy (loadOf domain problem .answer) (loadOf domain problem)
 
 abbrev pub writingLine : List ℕ → List ℕ → Answer × List ℕ

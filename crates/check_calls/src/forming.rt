@@ -6,7 +6,7 @@ use domain_load::Model;
 use domain_load::Sizes;
 use domain_terms::scope::Counts;
 use happening_meaning::Outcome;
-use plan_feeding::Progress;
+use plan_feeding::PlanProgress;
 use plan_running::Past;
 use plan_waiting::Queue;
 ghost use mathlib.Core.Path.{_≡_};
@@ -28,7 +28,7 @@ fn most_lines(used: usize) -> usize
     1000000
 }
 
-fn counters_fit(p: Progress) -> bool
+fn counters_fit(p: PlanProgress) -> bool
     ensures { λ r. ⌜ r ≡ countersFit p ⌝ }
 {
     if 0 < p.number {
@@ -57,7 +57,7 @@ fn sizes_fit(counts: Counts, acting: usize, sizes: Sizes) -> bool
 }
 
 // Whether a check is well formed.
-pub fn is_formed(p: Progress, counts: Counts, acting: usize, sizes: Sizes, queue: Queue) -> bool
+pub fn is_formed(p: PlanProgress, counts: Counts, acting: usize, sizes: Sizes, queue: Queue) -> bool
     ensures { λ r. ⌜ r ≡ formed p counts acting (sizes .facts) (sizes .numbers) queue ⌝ }
 {
     if counters_fit(p) {
@@ -73,10 +73,10 @@ pub fn is_formed(p: Progress, counts: Counts, acting: usize, sizes: Sizes, queue
 }
 
 // Before the first byte of line `number`.
-fn begin(number: usize) -> Progress
+fn begin(number: usize) -> PlanProgress
     ensures { λ r. ⌜ r ≡ ready number ⌝ }
 {
-    Progress {
+    PlanProgress {
         used: 0,
         number,
         start: 0,
@@ -92,11 +92,11 @@ fn begin(number: usize) -> Progress
 }
 
 // No refusal, and zeros for its place.
-pub fn settle(p: Progress) -> Progress
+pub fn settle(p: PlanProgress) -> PlanProgress
     ensures { λ r. ⌜ r ≡ settled p ⌝ }
 {
     let past = p.past;
-    Progress {
+    PlanProgress {
         used: p.used,
         number: p.number,
         start: p.start,
@@ -141,7 +141,7 @@ pub fn check_for(loaded: Loaded, number: usize) -> Check
 }
 
 // The check of a refused plan: nothing of the run is kept.
-pub fn refused_check(model: Model, p: Progress, finished: bool) -> Check
+pub fn refused_check(model: Model, p: PlanProgress, finished: bool) -> Check
     ensures { λ r. ⌜ r ≡ refusedFrom model (refusedIn p) finished ⌝ }
 {
     Check {
@@ -150,7 +150,7 @@ pub fn refused_check(model: Model, p: Progress, finished: bool) -> Check
         numbers: [-1000000000001i64; 1024],
         queue: plan_waiting::nobody(),
         line: [0u8; 257],
-        progress: Progress {
+        progress: PlanProgress {
             used: 0,
             number: 1,
             start: 0,
@@ -168,10 +168,10 @@ pub fn refused_check(model: Model, p: Progress, finished: bool) -> Check
 }
 
 // The progress of a plan that has ended: what came of it.
-pub fn end(past: Past) -> Progress
+pub fn end(past: Past) -> PlanProgress
     ensures { λ r. ⌜ r ≡ endedFrom past ⌝ }
 {
-    Progress {
+    PlanProgress {
         used: 0,
         number: 1,
         start: 0,

@@ -6,7 +6,7 @@ mod outputs;
 use domain_load::LoadAnswer;
 use domain_load::Model;
 use plan_bytes::bytes;
-use plan_feeding::Progress;
+use plan_feeding::PlanProgress;
 use plan_feeding::stepping;
 use plan_waiting::Queue;
 ghost use mathlib.Core.Path.{_≡_};
@@ -20,7 +20,7 @@ pub struct Check {
     pub queue: Queue,
     // the bytes of the line so far, and the one past the most that it may have
     pub line: [u8; 257],
-    pub progress: Progress,
+    pub progress: PlanProgress,
     pub finished: bool,
 }
 
@@ -42,28 +42,28 @@ pub enum Answer {
     Stateless,
 }
 
-pub struct Opened {
+pub struct LoadReply {
     pub check: Check,
     pub answer: LoadAnswer,
 }
 
-pub struct Fed {
+pub struct Reply {
     pub check: Check,
     pub answer: Answer,
 }
 
 // Domain and problem: the check to feed, or one that 19 refuses and the texts' refusal.
-pub fn load(domain: &[u8], problem: &[u8]) -> Opened
+pub fn load(domain: &[u8], problem: &[u8]) -> LoadReply
     ensures { λ r. ⌜ r ≡ openOf (now (domain .entry)) (now (problem .entry)) ⌝ }
 {
     let loaded = domain_load::load(domain, problem);
     let answer = loaded.answer;
     let LoadAnswer::Loaded = answer else {
         let check = forming::check_for(loaded, 0);
-        return Opened { check, answer };
+        return LoadReply { check, answer };
     };
     let check = forming::check_for(loaded, 1);
-    Opened { check, answer }
+    LoadReply { check, answer }
 }
 
 // A refused load's line, from its answer.
@@ -90,17 +90,17 @@ impl Check {
         )
     }
 
-    fn answered(self, answer: Answer) -> Fed
+    fn answered(self, answer: Answer) -> Reply
         ensures { λ r. ⌜ r ≡ fed self answer ⌝ }
     {
-        Fed {
+        Reply {
             check: self,
             answer,
         }
     }
 
     // A part of a plan that goes on.
-    fn take(mut self, part: &[u8]) -> Fed
+    fn take(mut self, part: &[u8]) -> Reply
         requires { ⌜ (wellFormed self ≡ true) × (self .finished ≡ false) × (self .progress .refused ≡ false) ⌝ }
         ensures { λ r. ⌜ r ≡ feedOf self (now (part .entry)) ⌝ }
     {
@@ -141,7 +141,7 @@ impl Check {
     }
 
     // A part of the plan, of any size.
-    pub fn feed(self, part: &[u8]) -> Fed
+    pub fn feed(self, part: &[u8]) -> Reply
         ensures { λ r. ⌜ r ≡ feedOf self (now (part .entry)) ⌝ }
     {
         if !self.is_formed() {
@@ -159,7 +159,7 @@ impl Check {
     }
 
     // The end of a plan that goes on.
-    fn close(mut self) -> Fed
+    fn close(mut self) -> Reply
         requires { ⌜ (wellFormed self ≡ true) × (self .finished ≡ false) × (self .progress .refused ≡ false) ⌝ }
         ensures { λ r. ⌜ r ≡ finishOf self ⌝ }
     {
@@ -199,7 +199,7 @@ impl Check {
     }
 
     // No more parts come: the last line, what waits, and the goal.
-    pub fn finish(mut self) -> Fed
+    pub fn finish(mut self) -> Reply
         ensures { λ r. ⌜ r ≡ finishOf self ⌝ }
     {
         if !self.is_formed() {
@@ -218,7 +218,7 @@ impl Check {
     }
 
     // The line: a verdict, or a plan refusal.
-    pub fn result(self, line: &mut [u8]) -> Fed
+    pub fn result(self, line: &mut [u8]) -> Reply
         ensures { λ r. ⌜ (r, now (line .exit)) ≡ resultOf self (now (line .entry)) ⌝ }
     {
         if !self.is_formed() {
@@ -236,7 +236,7 @@ impl Check {
     }
 
     // The final facts.
-    pub fn facts(self, out: &mut [u8]) -> Fed
+    pub fn facts(self, out: &mut [u8]) -> Reply
         ensures { λ r. ⌜ (r, now (out .exit)) ≡ factsOf self (now (out .entry)) ⌝ }
     {
         if !self.is_formed() {
@@ -259,7 +259,7 @@ impl Check {
     }
 
     // The final numbers.
-    pub fn numbers(self, out: &mut [i64]) -> Fed
+    pub fn numbers(self, out: &mut [i64]) -> Reply
         ensures { λ r. ⌜ (r, now (out .exit)) ≡ numbersOf self (now (out .entry)) ⌝ }
     {
         if !self.is_formed() {

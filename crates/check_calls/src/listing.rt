@@ -1,6 +1,6 @@
 // Whether what a check would answer stands in document 01's table.
 use happening_meaning::Outcome;
-use plan_feeding::Progress;
+use plan_feeding::PlanProgress;
 ghost use mathlib.Core.Path.{_≡_};
 ghost use mathlib.Core.Bool.{true, cond};
 ghost use Rattle.text_words.specs.Bytes.{isOneOf};
@@ -90,7 +90,7 @@ fn is_verdict(o: Outcome) -> bool
 }
 
 // A plan refusal that stands is one of the table.
-fn standing_fits(p: Progress) -> bool
+fn standing_fits(p: PlanProgress) -> bool
     ensures { λ r. ⌜ r ≡ cond (p .refused) (listedInPlan (p .refusal) (p .at) (p .column)) true ⌝ }
 {
     let refused = p.refused;
@@ -100,7 +100,7 @@ fn standing_fits(p: Progress) -> bool
     true
 }
 
-pub fn answers_fit(p: Progress) -> bool
+pub fn answers_fit(p: PlanProgress) -> bool
     ensures { λ r. ⌜ r ≡ answersFit p ⌝ }
 {
     if standing_fits(p) {

@@ -1,6 +1,6 @@
 // What the calls answer and write.
 use crate::Answer;
-use plan_feeding::Progress;
+use plan_feeding::PlanProgress;
 ghost use mathlib.Core.Path.{_≡_};
 ghost use mathlib.Core.List.{map};
 ghost use Prim.Native.Nat.{_≤_};
@@ -11,7 +11,7 @@ ghost use Rattle.check_wording.specs.Wording.{refusalLine};
 ghost use Rattle.check_calls.specs.Calls.{standing, lineIn, writingLine};
 
 // A plan refusal that stands, or that all is done.
-pub fn standing_answer(p: Progress) -> Answer
+pub fn standing_answer(p: PlanProgress) -> Answer
     ensures { λ r. ⌜ r ≡ standing p ⌝ }
 {
     let refused = p.refused;
@@ -22,7 +22,7 @@ pub fn standing_answer(p: Progress) -> Answer
 }
 
 // The line of a plan that is finished: how many bytes.
-pub fn write_line(p: Progress, out: &mut [u8]) -> usize
+pub fn write_line(p: PlanProgress, out: &mut [u8]) -> usize
     ensures { λ r. ⌜ (now (out .exit) ≡ sets (now (out .entry)) 0 (lineIn p)) × (r ≡ length (lineIn p)) ⌝ }
 {
     let refused = p.refused;

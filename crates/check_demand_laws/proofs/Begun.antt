@@ -10,7 +10,8 @@ use Rattle.domain_meaning.specs.Actions.{Action}
 use Rattle.happening_meaning.specs.State.{State}
 use Rattle.happening_meaning.specs.Happening.{Promises}
 use Rattle.happening_meaning.specs.declared.Outcome as Why
-use Rattle.plan_meaning.specs.Plan.{Step, Point, Outcome, next, stop, Run, going, failed, Rules, at, from, latest, after, instant, judged, Answer, blank, step, refusal, ended}
+use Rattle.plan_meaning.specs.Plan.{Step, Point, Outcome, next, stop, Run, going, failed, Rules, at, from, latest, after, instant, judged, Answer, blank, step}
+use Rattle.plan_meaning.specs.Plan.{refusal, ended}
 use Rattle.plan_meaning.specs.Machine.{Check, waits, halted, soonest, underWay, drain, drained, take, finish}
 use Rattle.plan_meaning.specs.Feed.{Feed, reading, byte, feed, close}
 use Rattle.plan_meaning.specs.Text.{Reader}
@@ -39,7 +40,8 @@ module _ (P : Promises) (as′ : List Action) (s t : State) where
   drain-same zero b r q = refl
   drain-same (suc n) b r q = go (ltb (soonest b q) b) refl (λ x. drain-same n b x (from (suc (soonest b q)) q))
     where
-      go : (c : Bool) → ltb (soonest b q) b ≡ c → ((x : Run State Why.Outcome) → drain R n b x (from (suc (soonest b q)) q) ≡ drain Q n b x (from (suc (soonest b q)) q))
+      go : (c : Bool) → ltb (soonest b q) b ≡ c → ((x : Run State Why.Outcome)
+          → drain R n b x (from (suc (soonest b q)) q) ≡ drain Q n b x (from (suc (soonest b q)) q))
           → drain R (suc n) b r q ≡ drain Q (suc n) b r q
       go true e ih =
           drain-go R b n r q (ltb-true (soonest b q) b e)

@@ -21,7 +21,7 @@ use Rattle.check_meaning.specs.Listed.{listedInText}
 use Rattle.check_calls.specs.Calls as C
 use Rattle.check_calls.specs.Calls.{wellFormed, feedOf, finishOf, resultOf, factsOf, numbersOf, openOf}
 use Rattle.check_calls.specs.declared.Check.{Check}
-use Rattle.check_calls.specs.declared.Fed.{Fed}
+use Rattle.check_calls.specs.declared.Reply.{Reply}
 use Rattle.check_calls.specs.declared.Answer.{Answer}
 use Rattle.check_calls.specs.declared.Answer.the-variants as A
 use Rattle.check_demand_laws.specs.Calling.{Call, feed, finish, result, facts, numbers, make}
@@ -76,7 +76,7 @@ taken-listed A.Early t = absurd t
 taken-listed A.Stateless t = absurd t
 
 module _ {X : Type 0} (c : Check) (out : List X) (least : ℕ) (w : List X) where
-  abbrev Among : List ℕ → Fed × List X → Type 0
+  abbrev Among : List ℕ → Reply × List X → Type 0
   Among ks r = listedAsked ks (r .0 .answer) ≡ true
 
   asked-listed : Among (0 ∷ 19 ∷ 20 ∷ 22 ∷ []) (C.whenDone c out (C.writing c out least w))
@@ -99,7 +99,7 @@ listed c (numbers out) = state-listed c out (c .model .sizes .numbers) (map show
 
 -- ---- the line that is written is whole
 
-abbrev Whole : Fed × List ℕ → Type 0
+abbrev Whole : Reply × List ℕ → Type 0
 Whole r = (n : ℕ) → r .0 .answer ≡ A.Done n → (n ≤ 64) × (w : List ℕ) × (take n (r .1) ≡ w ++ 10 ∷ [])
 
 line-whole : (c : Check) (out : List ℕ) → Whole (resultOf c out)

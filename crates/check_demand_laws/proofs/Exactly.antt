@@ -32,7 +32,8 @@ module _ (s t : List ℕ) (d : Domain) (p : Problem) (m n : ℕ) (e : readDomain
   abbrev pub Taken : Type 0
   Taken = refusalIn (groundsOf d p) (p .goal) (d .actions) (firstState p) (knownFor d p) (joined ps) ≡ none
 
-  pub exactly-valid : (x : State) (u : ℕ) → (means s t d p m n e f ps ≡ ended (going x u)) ↔ (Taken × Valid (groundsOf d p) (d .actions) plan (p .goal) (firstState p) x u)
+  pub exactly-valid : (x : State) (u : ℕ) → (means s t d p m n e f ps ≡ ended (going x u)) ↔
+      (Taken × Valid (groundsOf d p) (d .actions) plan (p .goal) (firstState p) x u)
   exactly-valid x u =
       let w = whole (promises (groundsOf d p) (p .goal)) (d .actions) (firstState p) (knownFor d p) ps in
       let a = answers-valid (groundsOf d p) (p .goal) (d .actions) (firstState p) (knownFor d p) ps x u in

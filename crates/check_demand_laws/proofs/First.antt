@@ -24,12 +24,12 @@ use Rattle.check_wording.specs.Wording.{refusalLine}
 use Rattle.check_meaning.specs.Answer.{bit, shown}
 use Rattle.domain_load.specs.declared.LoadAnswer.{LoadAnswer}
 use Rattle.domain_load.specs.declared.LoadAnswer.the-variants as Is
-use Rattle.plan_feeding.specs.declared.Progress.{Progress}
+use Rattle.plan_feeding.specs.declared.PlanProgress.{PlanProgress}
 use Rattle.check_calls.specs.Calls as C
 use Rattle.check_calls.specs.Calls.{wellFormed, rulesOn, knownOn, heldBy, standing, feedOf, finishOf, resultOf, factsOf, numbersOf, openOf}
 use Rattle.check_calls.specs.Numbers.{numberOf, placeOf}
 use Rattle.check_calls.specs.declared.Check.{Check}
-use Rattle.check_calls.specs.declared.Fed.{Fed}
+use Rattle.check_calls.specs.declared.Reply.{Reply}
 use Rattle.check_calls.specs.declared.Answer.{Answer}
 use Rattle.check_calls.specs.declared.Answer.the-variants as A
 use Rattle.check_demand_laws.specs.Calling.{Call, feed, finish, result, facts, numbers, lent, make}
@@ -60,10 +60,10 @@ load-ruled s t = by (readDomain s) refl
 same : {a b : Answer} → a ≡ b → Same a b
 same e = (ap numberOf e, ap placeOf e)
 
-abbrev standsIn : Progress → Refused
+abbrev standsIn : PlanProgress → Refused
 standsIn p = record { number = p .refusal; line = p .at; column = p .column }
 
-stands : (p : Progress) → standing p ≡ reply (refusalIn p)
+stands : (p : PlanProgress) → standing p ≡ reply (refusalIn p)
 stands p = go (p .refused)
   where
     go : (b : Bool) → cond b (A.Refused (p .refusal) (p .at) (p .column)) (A.Done 0)
@@ -77,7 +77,8 @@ while-open : (c : Check) (next : Check) → C.whileOpen c (C.answering next) .an
 while-open c next = go (wellFormed c) (c .finished)
   where
     go : (b f : Bool) → cond b (cond f (C.fed c A.Late) (C.answering next)) (C.fed c A.Unformed) .answer
-        ≡ cond (not b) A.Unformed (cond f A.Late (reply (refusalIn (cond b (cond f (C.fed c A.Late) (C.answering next)) (C.fed c A.Unformed) .check .progress))))
+        ≡ cond (not b) A.Unformed (cond f A.Late (reply (refusalIn
+        (cond b (cond f (C.fed c A.Late) (C.answering next)) (C.fed c A.Unformed) .check .progress))))
     go false f = refl
     go true true = refl
     go true false = stands (next .progress)
@@ -102,11 +103,11 @@ finish-ruled c = go (c .progress .refused) _ _
 
 -- asking with a lent output
 module _ {X : Type 0} (c : Check) (out : List X) where
-  done-ruled : (next : Fed × List X) (rs : List (Bool × Answer)) → Same (next .0 .answer) (ranked rs (A.Done 0))
+  done-ruled : (next : Reply × List X) (rs : List (Bool × Answer)) → Same (next .0 .answer) (ranked rs (A.Done 0))
       → Same (C.whenDone c out next .0 .answer) (ranked ((not (wellFormed c), A.Unformed) ∷ (not (c .finished), A.Early) ∷ rs) (A.Done 0))
   done-ruled next rs h = go (wellFormed c) (c .finished)
     where
-      go : (b f : Bool) → Same (cond {A = Fed × List X} b (cond f next (C.fed c A.Early, out)) (C.fed c A.Unformed, out) .0 .answer)
+      go : (b f : Bool) → Same (cond {A = Reply × List X} b (cond f next (C.fed c A.Early, out)) (C.fed c A.Unformed, out) .0 .answer)
           (cond (not b) A.Unformed (cond (not f) A.Early (ranked rs (A.Done 0))))
       go false f = (refl, refl)
       go true false = (refl, refl)
@@ -115,20 +116,23 @@ module _ {X : Type 0} (c : Check) (out : List X) where
   written-ruled : (least : ℕ) (w : List X) → Same (C.writing c out least w .0 .answer) (ranked ((ltb (length out) least, A.Short) ∷ []) (A.Done 0))
   written-ruled least w = go (ltb (length out) least)
     where
-      go : (b : Bool) → Same (cond {A = Fed × List X} b (C.fed c A.Short, out) (C.fed c (A.Done (length w)), sets out 0 w) .0 .answer) (cond b A.Short (A.Done 0))
+      go : (b : Bool) → Same (cond {A = Reply × List X} b (C.fed c A.Short, out) (C.fed c (A.Done (length w)), sets out 0 w) .0 .answer)
+          (cond b A.Short (A.Done 0))
       go true = (refl, refl)
       go false = (refl, refl)
 
-  stated-ruled : (next : Fed × List X) (rs : List (Bool × Answer)) → Same (next .0 .answer) (ranked rs (A.Done 0))
+  stated-ruled : (next : Reply × List X) (rs : List (Bool × Answer)) → Same (next .0 .answer) (ranked rs (A.Done 0))
       → Same (C.unlessRefused c out next .0 .answer) (ranked ((isSome (refusalIn (c .progress)), A.Stateless) ∷ rs) (A.Done 0))
   stated-ruled next rs h = go (c .progress .refused)
     where
-      go : (b : Bool) → Same (cond {A = Fed × List X} b (C.fed c A.Stateless, out) next .0 .answer) (cond (isSome (cond b (some (standsIn (c .progress))) none)) A.Stateless (ranked rs (A.Done 0)))
+      go : (b : Bool) → Same (cond {A = Reply × List X} b (C.fed c A.Stateless, out) next .0 .answer)
+          (cond (isSome (cond b (some (standsIn (c .progress))) none)) A.Stateless (ranked rs (A.Done 0)))
       go true = (refl, refl)
       go false = h
 
   state-ruled : (least : ℕ) (w : List X) → Same (C.whenDone c out (C.unlessRefused c out (C.writing c out least w)) .0 .answer)
-      (ranked ((not (wellFormed c), A.Unformed) ∷ (not (c .finished), A.Early) ∷ (isSome (refusalIn (c .progress)), A.Stateless) ∷ (ltb (length out) least, A.Short) ∷ []) (A.Done 0))
+      (ranked ((not (wellFormed c), A.Unformed) ∷ (not (c .finished), A.Early) ∷ (isSome (refusalIn (c .progress)), A.Stateless)
+      ∷ (ltb (length out) least, A.Short) ∷ []) (A.Done 0))
   state-ruled least w =
       done-ruled (C.unlessRefused c out (C.writing c out least w)) ((isSome (refusalIn (c .progress)), A.Stateless) ∷ (ltb (length out) least, A.Short) ∷ [])
       (stated-ruled (C.writing c out least w) ((ltb (length out) least, A.Short) ∷ []) (written-ruled least w))
@@ -165,16 +169,16 @@ abbrev Refuses : Answer → Type 0
 Refuses a = ¬ (numberOf a ≡ 0)
 
 module _ {X : Type 0} (c : Check) (out : List X) where
-  abbrev Stays : Fed × List X → Type 0
+  abbrev Stays : Reply × List X → Type 0
   Stays r = Refuses (r .0 .answer) → r .1 ≡ out
 
-  done-stays : (next : Fed × List X) → Stays next → Stays (C.whenDone c out next)
+  done-stays : (next : Reply × List X) → Stays next → Stays (C.whenDone c out next)
   done-stays next h = either Stays (wellFormed c) (either Stays (c .finished) h (λ n. refl)) (λ n. refl)
 
   written-stays : (least : ℕ) (w : List X) → Stays (C.writing c out least w)
   written-stays least w = either Stays (ltb (length out) least) (λ n. refl) (λ n. absurd (n refl))
 
-  stated-stays : (next : Fed × List X) → Stays next → Stays (C.unlessRefused c out next)
+  stated-stays : (next : Reply × List X) → Stays next → Stays (C.unlessRefused c out next)
   stated-stays next h = either Stays (c .progress .refused) (λ n. refl) h
 
 pub output-kept : (c : Check) (x : Call) → Refuses (make ours c x .answer) → make ours c x .output ≡ lent x
@@ -185,14 +189,16 @@ output-kept c (result out) n = ap (λ o. Lent.bytes o) (done-stays c out (C.writ
   where
     w : List ℕ
     w = C.lineIn (c .progress)
-output-kept c (facts out) n = ap (λ o. Lent.bytes o) (done-stays c out (C.unlessRefused c out (C.writing c out k w)) (stated-stays c out (C.writing c out k w) (written-stays c out k w)) n)
+output-kept c (facts out) n = ap (λ o. Lent.bytes o) (done-stays c out (C.unlessRefused c out (C.writing c out k w))
+    (stated-stays c out (C.writing c out k w) (written-stays c out k w)) n)
   where
     k : ℕ
     k = c .model .sizes .facts
 
     w : List ℕ
     w = map bit (take (c .model .sizes .facts) (c .facts))
-output-kept c (numbers out) n = ap (λ o. Lent.amounts o) (done-stays c out (C.unlessRefused c out (C.writing c out k w)) (stated-stays c out (C.writing c out k w) (written-stays c out k w)) n)
+output-kept c (numbers out) n = ap (λ o. Lent.amounts o) (done-stays c out (C.unlessRefused c out (C.writing c out k w))
+    (stated-stays c out (C.writing c out k w) (written-stays c out k w)) n)
   where
     k : ℕ
     k = c .model .sizes .numbers
@@ -212,14 +218,14 @@ pub refusal-stays : (c : Check) (p : List ℕ) (e : Refused) → refusalIn (c .p
 unfolding feedOf
 refusal-stays c p e h = go (wellFormed c) (c .finished) (c .progress .refused) _ h
   where
-    go : (b f r : Bool) (y : Fed) → cond r (some (standsIn (c .progress))) none ≡ some e
+    go : (b f r : Bool) (y : Reply) → cond r (some (standsIn (c .progress))) none ≡ some e
         → cond b (cond f (C.fed c A.Late) (cond r (C.answering c) y)) (C.fed c A.Unformed) .check ≡ c
     go false f r y h = refl
     go true true r y h = refl
     go true false true y h = refl
     go true false false y h = absurd (let z : _≡_ {A = ℕ} 0 1 = cc in let y : ⊥ = omega arith in y)
 
-late-same : (c : Check) (next : Fed) → c .finished ≡ true → C.whileOpen c next .check .finished ≡ true
+late-same : (c : Check) (next : Reply) → c .finished ≡ true → C.whileOpen c next .check .finished ≡ true
 late-same c next e = go (wellFormed c)
   where
     go : (b : Bool) → cond b (cond (c .finished) (C.fed c A.Late) next) (C.fed c A.Unformed) .check .finished ≡ true
@@ -235,7 +241,7 @@ finish-finished : (c : Check) → wellFormed c ≡ true → finishOf c .check .f
 unfolding finishOf
 finish-finished c f = go (c .finished) refl (c .progress .refused)
   where
-    next : Bool → Fed
+    next : Bool → Reply
     next r = cond r (C.answering (C.withFinish c)) (C.answering (C.ended c (close (rulesOn c) limits (reader (knownOn c)) (heldBy c))))
 
     finished : (r : Bool) → next r .check .finished ≡ true
@@ -244,7 +250,7 @@ finish-finished c f = go (c .finished) refl (c .progress .refused)
 
     go : (b : Bool) → c .finished ≡ b → (r : Bool) → C.whileOpen c (next r) .check .finished ≡ true
     go true e r = late-same c (next r) e
-    go false e r = ap (λ (x : Fed). x .check .finished) (open-is c (next r) f e) ∙ finished r
+    go false e r = ap (λ (x : Reply). x .check .finished) (open-is c (next r) f e) ∙ finished r
 
 feed-late : (c : Check) (p : List ℕ) → c .finished ≡ true → feedOf c p .check .finished ≡ true
 unfolding feedOf

@@ -14,7 +14,8 @@ use Rattle.happening_meaning.specs.Happening.{isDone, Happened, Promises}
 use Rattle.happening_meaning.specs.Happening as H
 use Rattle.happening_meaning.specs.declared.Outcome as Why
 use Rattle.plan_meaning.specs.Lists.{keep}
-use Rattle.plan_meaning.specs.Plan.{Span, moment, lasting, Step, Point, begins, ends, Run, going, failed, Rules, time, at, from, ending, pointsOf, latest, tested, after, instant, judged, Answer, blank, step, refusal, Result, refused, ended}
+use Rattle.plan_meaning.specs.Plan.{Span, moment, lasting, Step, Point, begins, ends, Run, going, failed, Rules, time, at, from, ending, pointsOf, latest}
+use Rattle.plan_meaning.specs.Plan.{tested, after, instant, judged, Answer, blank, step, refusal, Result, refused, ended}
 use Rattle.plan_meaning.specs.Machine.{Check, waits, halted, soonest, underWay, drain, admit, take, finish}
 use Rattle.plan_meaning.specs.Feed.{Feed, reading, byte, feed, feeds, close}
 use Rattle.plan_meaning.specs.Promised.{Act, durationOf, pointFor, stepFor, failure, outcomeOf, rulesOf}
@@ -127,7 +128,8 @@ under-lined n t [] a = tt
 under-lined n t (begins x ∷ q) a = under-lined n t q (a .1)
 under-lined n t (ends x d ∷ q) a = go (ltb t (x .start + d)) (under-lined n t q (a .1))
   where
-    go : (b : Bool) → All (λ (y : Step Act). InPlan (y .line)) (underWay t q) → All (λ (y : Step Act). InPlan (y .line)) (cond b (x ∷ underWay t q) (underWay t q))
+    go : (b : Bool) → All (λ (y : Step Act). InPlan (y .line)) (underWay t q)
+        → All (λ (y : Step Act). InPlan (y .line)) (cond b (x ∷ underWay t q) (underWay t q))
     go true ih = (point-line n (ends x d) (a .0), ih)
     go false ih = ih
 
@@ -144,7 +146,8 @@ module _ (P : Promises) (N : Named P) (as′ : List Action) (s₀ : State) where
   steps-lined [] a = tt
   steps-lined (x ∷ xs) a = (a .0, steps-lined xs (a .1))
 
-  told-after : (t : ℕ) (s : State) (xs : List (Step Act)) (h : Happened) → t < 2000000000000 → All (λ x. InPlan (x .line)) xs → listedVerdict (h .outcome) ≡ true
+  told-after : (t : ℕ) (s : State) (xs : List (Step Act)) (h : Happened) → t < 2000000000000 → All (λ x. InPlan (x .line)) xs
+      → listedVerdict (h .outcome) ≡ true
       → Told (after R t s xs (outcomeOf h))
   told-after t s xs h l a v = go (isDone (h .outcome)) refl
     where
@@ -153,7 +156,8 @@ module _ (P : Promises) (N : Named P) (as′ : List Action) (s₀ : State) where
           rw e (told-failure (P .over (h .state) (map (stepFor as′) xs)) t (h .state) l (N .over (h .state) (map (stepFor as′) xs) (steps-lined xs a)))
       go false e = rw e (record { fails = e; listed = v }, l)
 
-  told-instant : (n t : ℕ) (ps : List (Point Act)) (xs : List (Step Act)) (r : Run State Why.Outcome) → t < 2000000000000 → All (SoundPoint n) ps → All (λ x. InPlan (x .line)) xs
+  told-instant : (n t : ℕ) (ps : List (Point Act)) (xs : List (Step Act)) (r : Run State Why.Outcome) → t < 2000000000000 → All (SoundPoint n) ps
+      → All (λ x. InPlan (x .line)) xs
       → Told r → Told (instant R t ps xs r)
   told-instant n t [] xs r l a b h = h
   told-instant n t (p ∷ ps) xs (failed s u w) l a b h = h
@@ -178,7 +182,8 @@ module _ (P : Promises) (N : Named P) (as′ : List Action) (s₀ : State) where
       go (ltb (soonest b q) b) refl
       (λ g. drain-kept n k b (onward b r q) (from (suc (soonest b q)) q) l g (all-kept (SoundPoint n) (λ p. leb (suc (soonest b q)) (time p)) q a))
     where
-      go : (c : Bool) → ltb (soonest b q) b ≡ c → (Told (onward b r q) → Both n (drain R k b (onward b r q) (from (suc (soonest b q)) q))) → Both n (drain R (suc k) b r q)
+      go : (c : Bool) → ltb (soonest b q) b ≡ c → (Told (onward b r q) → Both n (drain R k b (onward b r q) (from (suc (soonest b q)) q)))
+          → Both n (drain R (suc k) b r q)
       go true e ih =
           let i = ltb-true (soonest b q) b e in
           rw (drain-go R b k r q i)
@@ -272,9 +277,12 @@ module _ (P : Promises) (N : Named P) (as′ : List Action) (s₀ : State) (k : 
       width false e l = (long-listed k j u lo l (part ++ b ∷ []) (omega (arith, length-append part (b ∷ []), ltb-false (length part) 256 e)), h .1)
 
       lf : (c : Bool) → eqb b 10 ≡ c → j ≤ 1000000
-          → KeptFeed acting (cond c (reading (take rules limits (waits r u q) (reader k .line j u part)) (suc j) []) (cond (ltb (length part) 256) (reading (waits r u q) j (part ++ b ∷ [])) (reading (halted (reader k .long j u (part ++ b ∷ []))) j part)))
-      lf true e l =
-          (take-kept (waits r u q) j u part lo l (h .1 .short) (h .0), record { short = omega arith; first = omega arith; last = omega (arith, l); empty = λ i. refl })
+          → KeptFeed acting (cond c (reading (take rules limits (waits r u q) (reader k .line j u part)) (suc j) [])
+          (cond (ltb (length part) 256) (reading (waits r u q) j (part ++ b ∷ [])) (reading (halted (reader k .long j u (part ++ b ∷ []))) j part)))
+      lf true e l = (
+        take-kept (waits r u q) j u part lo l (h .1 .short) (h .0),
+        record { short = omega arith; first = omega arith; last = omega (arith, l); empty = λ i. refl },
+      )
       lf false e l = width (ltb (length part) 256) refl l
 
       most : (c : Bool) → ltb 1000000 j ≡ c → KeptFeed acting (byte rules limits (reader k) (reading (waits r u q) j part) b)

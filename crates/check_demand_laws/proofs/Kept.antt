@@ -24,7 +24,7 @@ use Rattle.check_meaning.specs.Answer.{bit, shown}
 use Rattle.check_calls.specs.Calls as C
 use Rattle.check_calls.specs.Calls.{wellFormed, rulesOn, knownOn, heldBy, stored, checkFor, feedOf, finishOf, resultOf, factsOf, numbersOf, openOf}
 use Rattle.check_calls.specs.declared.Check.{Check}
-use Rattle.check_calls.specs.declared.Fed.{Fed}
+use Rattle.check_calls.specs.declared.Reply.{Reply}
 use Rattle.check_calls.specs.declared.Answer.the-variants as A
 use Rattle.check_demand_laws.proofs.Sessions.{Misused}
 use Rattle.check_demand_laws.proofs.Keeping.{KeptFeed}
@@ -43,24 +43,24 @@ module _ (c : Check) (f : wellFormed c ≡ true) where
   stored-kept (reading (waits r s q) n part) h = stored-formed c r s q n part f (h .0) (h .1)
 
   -- 19 is not answered, 21 changes nothing, and what the call does keeps it
-  open-keeps : (next : Fed) → (c .finished ≡ false → wellFormed (next .check) ≡ true) → wellFormed (C.whileOpen c next .check) ≡ true
+  open-keeps : (next : Reply) → (c .finished ≡ false → wellFormed (next .check) ≡ true) → wellFormed (C.whileOpen c next .check) ≡ true
   open-keeps next h =
-      choose (λ (r : Fed). wellFormed (r .check) ≡ true) (wellFormed c)
-      (λ _. choose (λ (r : Fed). wellFormed (r .check) ≡ true) (c .finished) (λ _. f) h)
+      choose (λ (r : Reply). wellFormed (r .check) ≡ true) (wellFormed c)
+      (λ _. choose (λ (r : Reply). wellFormed (r .check) ≡ true) (c .finished) (λ _. f) h)
       (λ n. absurd (true≢false (sym f ∙ n)))
 
   pub feed-keeps : (p : List ℕ) → wellFormed (feedOf c p .check) ≡ true
   unfolding feedOf
   feed-keeps p =
       open-keeps (cond (c .progress .refused) (C.answering c) (C.answering (stored c (fedBy c p))))
-      (λ e. choose (λ (r : Fed). wellFormed (r .check) ≡ true) (c .progress .refused) (λ _. f)
+      (λ e. choose (λ (r : Reply). wellFormed (r .check) ≡ true) (c .progress .refused) (λ _. f)
       (λ g. stored-kept (fedBy c p) (fed-kept c p (record { formed = f; unfinished = e; unrefused = g }))))
 
   pub finish-keeps : wellFormed (finishOf c .check) ≡ true
   unfolding finishOf
   finish-keeps =
       open-keeps (cond (c .progress .refused) (C.answering (C.withFinish c)) (C.answering (C.ended c over)))
-      (λ e. choose (λ (r : Fed). wellFormed (r .check) ≡ true) (c .progress .refused) (λ _. f)
+      (λ e. choose (λ (r : Reply). wellFormed (r .check) ≡ true) (c .progress .refused) (λ _. f)
       (λ g. ended-formed c f over (closed-kept c [] (record { formed = f; unfinished = e; unrefused = g }))))
     where
       over : Result State Why.Outcome Refused
@@ -68,7 +68,7 @@ module _ (c : Check) (f : wellFormed c ≡ true) where
 
 -- ---- refusals 19 to 23 return the check unchanged and write to no output
 
-abbrev pub Unchanged : Check → Fed → Type 0
+abbrev pub Unchanged : Check → Reply → Type 0
 Unchanged c r = Misused (r .answer) → r .check ≡ c
 
 -- an answer that stands is none of them
@@ -79,7 +79,7 @@ stands c x = by (x .progress .refused)
     by true m = absurd m
     by false m = absurd m
 
-open-unchanged : (c : Check) (next : Fed) → Unchanged c next → Unchanged c (C.whileOpen c next)
+open-unchanged : (c : Check) (next : Reply) → Unchanged c next → Unchanged c (C.whileOpen c next)
 open-unchanged c next h =
     either (Unchanged c) (wellFormed c) (either (Unchanged c) (c .finished) (λ m. refl) h) (λ m. refl)
 
@@ -95,16 +95,16 @@ finish-unchanged c =
 
 -- asking never changes the check
 module _ {X : Type 0} (c : Check) (out : List X) where
-  abbrev pub Asked : Fed × List X → Type 0
+  abbrev pub Asked : Reply × List X → Type 0
   Asked r = (r .0 .check ≡ c) × (Misused (r .0 .answer) → r .1 ≡ out)
 
-  done-asked : (next : Fed × List X) → Asked next → Asked (C.whenDone c out next)
+  done-asked : (next : Reply × List X) → Asked next → Asked (C.whenDone c out next)
   done-asked next h = either Asked (wellFormed c) (either Asked (c .finished) h (refl, λ m. refl)) (refl, λ m. refl)
 
   written-asked : (least : ℕ) (w : List X) → Asked (C.writing c out least w)
   written-asked least w = either Asked (ltb (length out) least) (refl, λ m. refl) (refl, λ m. absurd m)
 
-  stated-asked : (next : Fed × List X) → Asked next → Asked (C.unlessRefused c out next)
+  stated-asked : (next : Reply × List X) → Asked next → Asked (C.unlessRefused c out next)
   stated-asked next h = either Asked (c .progress .refused) (refl, λ m. refl) h
 
 pub result-asked : (c : Check) (out : List ℕ) → Asked c out (resultOf c out)

@@ -1,4 +1,5 @@
--- Demand 1: every answer of a call is one of the table, whatever the check; the line of a well-formed check has at most 64 bytes, its LF with them. Assumes nothing.
+-- Demand 1: every answer of a call is one of the table, whatever the check; the line of a well-formed check has at most 64 bytes, its LF with them.
+-- Assumes nothing.
 use Prim.Native.Nat.{ℕ, _≤_}
 use mathlib.Core.Bool.{true}
 use mathlib.Core.List.{List, [], _∷_, _++_, map}
@@ -20,13 +21,13 @@ use Rattle.plan_meaning.specs.Lines.{Refused, reader, limits}
 use Rattle.plan_meaning.proofs.Listed.{Small, line-parts, listed-small}
 use Rattle.check_wording.specs.Wording.{decimal, timeOf, wordOf, lineOf, secondOf, behindSpace, verdictLine, refusalLine}
 use Rattle.check_wording.proofs.Lengths.{verdict-short, plan-refusal-short}
-use Rattle.plan_feeding.specs.declared.Progress.{Progress}
+use Rattle.plan_feeding.specs.declared.PlanProgress.{PlanProgress}
 use Rattle.check_meaning.specs.Answer.{bit, shown}
 use Rattle.check_meaning.specs.Listed.{listedLine, listedInPlan, listedVerdict}
 use Rattle.check_calls.specs.Calls as C
 use Rattle.check_calls.specs.Calls.{wellFormed, rulesOn, knownOn, heldBy, stored, standing, lineIn, feedOf, finishOf, resultOf, factsOf, numbersOf}
 use Rattle.check_calls.specs.declared.Check.{Check}
-use Rattle.check_calls.specs.declared.Fed.{Fed}
+use Rattle.check_calls.specs.declared.Reply.{Reply}
 use Rattle.check_calls.specs.declared.Answer.{Answer}
 use Rattle.check_calls.specs.declared.Answer.the-variants as A
 use Rattle.check_calls.proofs.Formed.{Answers, formed-parts}
@@ -49,10 +50,10 @@ Taken A.Late = Unit {0}
 Taken A.Early = ⊥
 Taken A.Stateless = ⊥
 
-abbrev Fine : Fed → Type 0
+abbrev Fine : Reply → Type 0
 Fine r = Taken (r .answer)
 
-stands : (p : Progress) → Answers p → Taken (standing p)
+stands : (p : PlanProgress) → Answers p → Taken (standing p)
 stands p h = choose Taken (p .refused) (λ e. h .refusal e) (λ e. refl)
 
 pub feed-listed : (c : Check) (p : List ℕ) → Taken (feedOf c p .answer)
@@ -61,7 +62,8 @@ feed-listed c p =
     choose Fine (wellFormed c)
     (λ f. choose Fine (c .finished) (λ _. tt)
     (λ e. choose Fine (c .progress .refused) (λ _. stands (c .progress) (formed-answers c f))
-    (λ g. stands (stored c (fedBy c p) .progress) (formed-answers (stored c (fedBy c p)) (stored-kept c f (fedBy c p) (fed-kept c p (record { formed = f; unfinished = e; unrefused = g })))))))
+    (λ g. stands (stored c (fedBy c p) .progress) (formed-answers (stored c (fedBy c p))
+    (stored-kept c f (fedBy c p) (fed-kept c p (record { formed = f; unfinished = e; unrefused = g })))))))
     (λ _. tt)
 
 pub finish-listed : (c : Check) → Taken (finishOf c .answer)
@@ -70,7 +72,8 @@ finish-listed c =
     choose Fine (wellFormed c)
     (λ f. choose Fine (c .finished) (λ _. tt)
     (λ e. choose Fine (c .progress .refused) (λ _. stands (c .progress) (formed-answers c f))
-    (λ g. stands (C.ended c over .progress) (formed-answers (C.ended c over) (ended-formed c f over (closed-kept c [] (record { formed = f; unfinished = e; unrefused = g })))))))
+    (λ g. stands (C.ended c over .progress) (formed-answers (C.ended c over)
+    (ended-formed c f over (closed-kept c [] (record { formed = f; unfinished = e; unrefused = g })))))))
     (λ _. tt)
   where
     over : Result State Outcome Refused
@@ -130,7 +133,7 @@ verdict-ends : (o : Outcome) (t : ℕ) → Ends (verdictLine o t)
 unfolding verdictLine
 verdict-ends o t = (wordOf o ++ (behindSpace (timeOf t) ++ (behindSpace (decimal (lineOf o)) ++ behindSpace (decimal (secondOf o)))), refl)
 
-pub line-ends : (p : Progress) → Ends (lineIn p)
+pub line-ends : (p : PlanProgress) → Ends (lineIn p)
 line-ends p = choose Ends (p .refused) (λ _. refusal-ends (p .refusal) (p .at) (p .column)) (λ _. verdict-ends (p .past .outcome) (p .past .time))
 
 -- ---- result, facts and numbers: done with so many places written, 19, 20 or 22, and 23 for the latter two
@@ -153,7 +156,7 @@ Showed size A.Late = ⊥
 Showed size A.Early = Unit {0}
 Showed size A.Stateless = Unit {0}
 
-abbrev Written : Check → Fed × List ℕ → Type 0
+abbrev Written : Check → Reply × List ℕ → Type 0
 Written c r = Wrote (length (lineIn (c .progress))) (r .0 .answer)
 
 pub result-listed : (c : Check) (out : List ℕ) → Wrote (length (lineIn (c .progress))) (resultOf c out .0 .answer)
@@ -164,7 +167,7 @@ result-listed c out =
     (λ _. tt)
 
 module _ {X : Type 0} (c : Check) (out : List X) (size : ℕ) (w : List X) (h : wellFormed c ≡ true → length w ≡ size) where
-  abbrev Told : Fed × List X → Type 0
+  abbrev Told : Reply × List X → Type 0
   Told r = Showed size (r .0 .answer)
 
   shown-listed : Told (C.whenDone c out (C.unlessRefused c out (C.writing c out size w)))
@@ -179,9 +182,11 @@ module _ {X : Type 0} (c : Check) (out : List X) (size : ℕ) (w : List X) (h : 
 pub facts-listed : (c : Check) (out : List ℕ) → length (c .facts) ≡ 16384 → Showed (c .model .sizes .facts) (factsOf c out .0 .answer)
 unfolding factsOf
 facts-listed c out long =
-    shown-listed c out (c .model .sizes .facts) (map bit (take (c .model .sizes .facts) (c .facts))) (λ f. taken-length bit (c .model .sizes .facts) (c .facts) (few-facts c f long))
+    shown-listed c out (c .model .sizes .facts) (map bit (take (c .model .sizes .facts) (c .facts)))
+    (λ f. taken-length bit (c .model .sizes .facts) (c .facts) (few-facts c f long))
 
 pub numbers-listed : (c : Check) (out : List ℤ) → length (c .numbers) ≡ 1024 → Showed (c .model .sizes .numbers) (numbersOf c out .0 .answer)
 unfolding numbersOf
 numbers-listed c out long =
-    shown-listed c out (c .model .sizes .numbers) (map shown (take (c .model .sizes .numbers) (c .numbers))) (λ f. taken-length shown (c .model .sizes .numbers) (c .numbers) (few-numbers c f long))
+    shown-listed c out (c .model .sizes .numbers) (map shown (take (c .model .sizes .numbers) (c .numbers)))
+    (λ f. taken-length shown (c .model .sizes .numbers) (c .numbers) (few-numbers c f long))

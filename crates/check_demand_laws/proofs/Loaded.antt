@@ -8,7 +8,7 @@ use lib.ListN.{length, getD, take, drop, length-append, length-map}
 use lib.Seq.{take-at, drop-at, getD-at}
 use Rattle.domain_meaning.specs.Read.{got}
 use Rattle.domain_meaning.specs.Domain.{Domain, readDomain}
-use Rattle.domain_meaning.specs.Problem.{Problem, readProblem}
+use Rattle.domain_meaning.specs.Problem.{Problem, readProblem, scopeOf}
 use Rattle.domain_meaning.specs.Indexes.{sumOf, basesOf, padded}
 use Rattle.domain_rows.proofs.Rows.{length-padded}
 use Rattle.happening_meaning.specs.Happening.{promises}
@@ -76,7 +76,8 @@ module _ (s t : List ℕ) (d : Domain) (p : Problem) (m n : ℕ) (e : readDomain
   pub loaded-open : Open loaded
   loaded-open =
       record {
-        formed = formed-of (loaded .progress) (loaded .model .counts) (loaded .model .acting) (loaded .model .sizes .facts) (loaded .model .sizes .numbers) (queueOf [])
+        formed = formed-of (loaded .progress) (loaded .model .counts) (loaded .model .acting) (loaded .model .sizes .facts)
+            (loaded .model .sizes .numbers) (queueOf [])
             (record {
               counters = fresh-counters (loaded .progress) refl refl refl;
               answers = record { refusal = λ q. absurd (false≢true q); verdict = done-listed; time = omega arith };

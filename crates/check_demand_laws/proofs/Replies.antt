@@ -27,8 +27,8 @@ use Rattle.check_calls.specs.Calls as C
 use Rattle.check_calls.specs.Calls.{wellFormed, anyState, rulesOn, knownOn, heldBy, refusedCheck, stored, standing, feedOf, finishOf, openOf}
 use Rattle.check_calls.specs.declared.Check.{Check}
 use Rattle.check_calls.specs.declared.Answer.{Answer}
-use Rattle.check_calls.specs.declared.Opened.{Opened}
-use Rattle.check_calls.specs.declared.Fed.{Fed}
+use Rattle.check_calls.specs.declared.LoadReply.{LoadReply}
+use Rattle.check_calls.specs.declared.Reply.{Reply}
 use Rattle.check_demand_laws.specs.Calling.{replies}
 use Rattle.check_demand_laws.specs.Ruling.{reply}
 use Rattle.check_demand_laws.specs.Told.{refusalOf, refusalSoFar, repliesTo}
@@ -60,7 +60,7 @@ unfolding feedOf
 feed-whole c p o = rw (o .formed, o .unfinished, o .unrefused)
 
 feed-answer : (c : Check) (p : List ℕ) → Open c → feedOf c p .answer ≡ reply (stopIn (fedBy c p))
-feed-answer c p o = ap (λ (x : Fed). x .answer) (feed-whole c p o) ∙ standing-stored c (fedBy c p)
+feed-answer c p o = ap (λ (x : Reply). x .answer) (feed-whole c p o) ∙ standing-stored c (fedBy c p)
 
 module _ (c : Check) (e : Refused) (f : wellFormed (refusedCheck c e false) ≡ true) where
   refused-answer : (p : List ℕ) → feedOf (refusedCheck c e false) p .answer ≡ reply (some e)
@@ -77,7 +77,8 @@ module _ (c : Check) (e : Refused) (f : wellFormed (refusedCheck c e false) ≡ 
 pub check-replies : (ps : List (List ℕ)) (c : Check) → Open c → replies ours c ps ≡ answersTo (rulesOn c) (reader (knownOn c)) (heldBy c) ps
 unfolding stored
 check-replies [] c o = refl
-check-replies (p ∷ ps) c o = rw (feed-answer c p o, feed-open c p o) (ap (λ rs. reply (stopIn (fedBy c p)) ∷ rs) (by (fedBy c p) (fed-kept c p o) (λ d. check-replies ps d)))
+check-replies (p ∷ ps) c o = rw (feed-answer c p o, feed-open c p o)
+    (ap (λ rs. reply (stopIn (fedBy c p)) ∷ rs) (by (fedBy c p) (fed-kept c p o) (λ d. check-replies ps d)))
   where
     by : (m : Feed State Act Why.Outcome Refused) → KeptFeed (c .model .acting) m
         → ((d : Check) → Open d → replies ours d ps ≡ answersTo (rulesOn d) (reader (knownOn d)) (heldBy d) ps)
@@ -97,7 +98,8 @@ module _ (d : Domain) (p : Problem) where
   Q = rulesFor d p
 
   fed-on : (before part : List ℕ)
-      → feed (rulesOf (promises (groundsOf d p) (p .goal)) (d .actions) anyState) limits D (feed Q limits D (new Q limits D) before) part ≡ feed Q limits D (new Q limits D) (before ++ part)
+      → feed (rulesOf (promises (groundsOf d p) (p .goal)) (d .actions) anyState) limits D (feed Q limits D (new Q limits D) before) part ≡ feed Q
+      limits D (new Q limits D) (before ++ part)
   fed-on before part =
       feed-same (promises (groundsOf d p) (p .goal)) (d .actions) anyState (firstState p) D part (feed Q limits D (new Q limits D) before)
       ∙ sym (feed-append Q limits D (new Q limits D) before part)
@@ -115,14 +117,14 @@ module _ (s t : List ℕ) (d : Domain) (p : Problem) (m n : ℕ) (e : readDomain
 
   pub loaded-replies : replies ours (openOf s t .check) ps ≡ repliesTo d p [] ps
   loaded-replies =
-      ap (λ (o : Opened). replies ours (o .check) ps) (opened s t d p m n e f ps)
+      ap (λ (o : LoadReply). replies ours (o .check) ps) (opened s t d p m n e f ps)
       ∙ check-replies ps loaded (L.loaded-open s t d p m n e f)
       ∙ (λ i. answersTo (L.rules-loaded s t d p m n e f i) (reader (L.known-loaded s t d p m n e f i)) (L.held-loaded s t d p m n e f i) ps)
       ∙ answers-from d p ps []
 
 -- ---- finish
 
-pub open-is : (c : Check) (next : Fed) → wellFormed c ≡ true → c .finished ≡ false → C.whileOpen c next ≡ next
+pub open-is : (c : Check) (next : Reply) → wellFormed c ≡ true → c .finished ≡ false → C.whileOpen c next ≡ next
 open-is c next f e = rw (f, e)
 
 -- a check that is finished now answers what stands in it
@@ -130,7 +132,8 @@ finish-stands : (c : Check) → wellFormed c ≡ true → c .finished ≡ false 
 unfolding finishOf
 finish-stands c f e = go (c .progress .refused) _ _
   where
-    go : (b : Bool) (x y : Check) → C.whileOpen c (cond b (C.answering x) (C.answering y)) .answer ≡ standing (C.whileOpen c (cond b (C.answering x) (C.answering y)) .check .progress)
+    go : (b : Bool) (x y : Check) → C.whileOpen c (cond b (C.answering x) (C.answering y)) .answer ≡ standing
+        (C.whileOpen c (cond b (C.answering x) (C.answering y)) .check .progress)
     go true x y = rw (open-is c (C.answering x) f e)
     go false x y = rw (open-is c (C.answering y) f e)
 
@@ -144,8 +147,8 @@ unfolding feedOf
 feed-unfinished c p f e = go (c .progress .refused)
   where
     go : (b : Bool) → C.whileOpen c (cond b (C.answering c) (C.answering (stored c (fedBy c p)))) .check .finished ≡ false
-    go true = ap (λ (x : Fed). x .check .finished) (open-is c (C.answering c) f e) ∙ e
-    go false = ap (λ (x : Fed). x .check .finished) (open-is c (C.answering (stored c (fedBy c p))) f e) ∙ stored-unfinished c (fedBy c p)
+    go true = ap (λ (x : Reply). x .check .finished) (open-is c (C.answering c) f e) ∙ e
+    go false = ap (λ (x : Reply). x .check .finished) (open-is c (C.answering (stored c (fedBy c p))) f e) ∙ stored-unfinished c (fedBy c p)
 
 feeds-open : (ps : List (List ℕ)) (c : Check) → wellFormed c ≡ true → c .finished ≡ false
     → (wellFormed (feedsOf c ps) ≡ true) × (feedsOf c ps .finished ≡ false)
@@ -163,8 +166,9 @@ module _ (s t : List ℕ) (d : Domain) (p : Problem) (m n : ℕ) (e : readDomain
   finish-replies =
       let o = L.loaded-open s t d p m n e f in
       let h = feeds-open ps (L.loaded s t d p m n e f) (o .formed) (o .unfinished) in
-      ap (λ (x : Opened). finishOf (feedsOf (x .check) ps) .answer) (opened s t d p m n e f ps)
+      ap (λ (x : LoadReply). finishOf (feedsOf (x .check) ps) .answer) (opened s t d p m n e f ps)
       ∙ finish-stands (feedsOf (L.loaded s t d p m n e f) ps) (h .0) (h .1)
-      ∙ ap (λ (x : Check). standing (x .progress)) (sym (ap (λ (x : Opened). finishOf (feedsOf (x .check) ps) .check) (opened s t d p m n e f ps)) ∙ ended-session s t d p m n e f ps)
+      ∙ ap (λ (x : Check). standing (x .progress)) (sym (ap (λ (x : LoadReply). finishOf (feedsOf (x .check) ps) .check) (opened s t d p m n e f ps))
+      ∙ ended-session s t d p m n e f ps)
       ∙ ended-stands (L.loaded s t d p m n e f) (means s t d p m n e f ps)
       ∙ ap reply (meaning-refusal (rulesFor d p) limits (reader (knownFor d p)) (empty-line (knownFor d p)) (joined ps))

@@ -159,7 +159,8 @@ demand-2 =
     record {
       valid = λ s t ps out h. (
         (λ b. only-valid s t ps out h (drop (length (answer s t (joined ps) .line)) out) (sym (ap (λ l. take 5 l) (line-is s t ps out h)) ∙ b)),
-        λ v. ap (λ l. take 5 l) (line-is s t ps out h ∙ ap (λ w. written w out) (valid-line s t ps (v .0) (v .1) (v .2) (v .3) (v .4) (v .5))) ∙ valid-begins (v .4) (drop (length (verdictLine Done (v .4))) out),
+        λ v. ap (λ l. take 5 l) (line-is s t ps out h ∙ ap (λ w. written w out) (valid-line s t ps (v .0) (v .1) (v .2) (v .3) (v .4) (v .5)))
+            ∙ valid-begins (v .4) (drop (length (verdictLine Done (v .4))) out),
       );
       timed = λ s t ps out h d p r e u v. line-is s t ps out h ∙ ap (λ w. written w out) (valid-line s t ps d p r e u v);
       named = λ s t ps out h d p r e u w v. line-is s t ps out h ∙ ap (λ w. written w out) (failure-line s t ps d p r e u w v);

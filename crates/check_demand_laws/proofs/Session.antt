@@ -110,17 +110,20 @@ module _ (c : Check) where
       ∙ refused-finish c e (refused-formed e false f h)
       ∙ ap (λ m. closedBy c m) (sym (feeds-halted Rc Dc ps e n part))
 
-  pub stored-open : (r : Run State Why.Outcome) (s : ℕ) (q : List (Point Act)) (k : ℕ) (part : List ℕ) → wellFormed c ≡ true → Kept (c .model .acting) r s q → Line k part
+  pub stored-open : (r : Run State Why.Outcome) (s : ℕ) (q : List (Point Act)) (k : ℕ) (part : List ℕ) → wellFormed c ≡ true
+      → Kept (c .model .acting) r s q → Line k part
       → Open (stored c (reading (waits r s q) k part))
   unfolding stored
   stored-open r s q k part f h l = record { formed = stored-formed c r s q k part f h l; unfinished = refl; unrefused = refl }
 
   -- rules, names and the end hang on the model alone
-  pub rules-kept : (r : Run State Why.Outcome) (s : ℕ) (q : List (Point Act)) (k : ℕ) (part : List ℕ) → rulesOn (stored c (reading (waits r s q) k part)) ≡ rulesOn c
+  pub rules-kept : (r : Run State Why.Outcome) (s : ℕ) (q : List (Point Act)) (k : ℕ) (part : List ℕ)
+      → rulesOn (stored c (reading (waits r s q) k part)) ≡ rulesOn c
   unfolding stored rulesOn
   rules-kept r s q k part = refl
 
-  pub known-kept : (r : Run State Why.Outcome) (s : ℕ) (q : List (Point Act)) (k : ℕ) (part : List ℕ) → knownOn (stored c (reading (waits r s q) k part)) ≡ knownOn c
+  pub known-kept : (r : Run State Why.Outcome) (s : ℕ) (q : List (Point Act)) (k : ℕ) (part : List ℕ)
+      → knownOn (stored c (reading (waits r s q) k part)) ≡ knownOn c
   unfolding stored knownOn
   known-kept r s q k part = refl
 
@@ -139,20 +142,24 @@ module _ (c : Check) (r : Run State Why.Outcome) (s : ℕ) (q : List (Point Act)
 
   -- the stored check goes on where the machine stood
   again : (n : ℕ) → Kept n r s q → Line k part
-      → closedBy kept (feeds (rulesOn kept) limits (reader (knownOn kept)) (heldBy kept) ps) ≡ closedBy c (feeds (rulesOn c) limits (reader (knownOn c)) (reading (waits r s q) k part) ps)
+      → closedBy kept (feeds (rulesOn kept) limits (reader (knownOn kept)) (heldBy kept) ps) ≡ closedBy c
+      (feeds (rulesOn c) limits (reader (knownOn c)) (reading (waits r s q) k part) ps)
   again n h l =
       same-end c r s q k part (feeds (rulesOn kept) limits (reader (knownOn kept)) (heldBy kept) ps)
       ∙ ap (λ m. closedBy c m) (going-on n h l)
     where
-      same-rules : feeds (rulesOn kept) limits (reader (knownOn kept)) (reading (waits r s q) k part) ps ≡ feeds (rulesOn c) limits (reader (knownOn c)) (reading (waits r s q) k part) ps
+      same-rules : feeds (rulesOn kept) limits (reader (knownOn kept)) (reading (waits r s q) k part) ps ≡ feeds (rulesOn c) limits
+          (reader (knownOn c)) (reading (waits r s q) k part) ps
       same-rules = λ i. feeds (rules-kept c r s q k part i) limits (reader (known-kept c r s q k part i)) (reading (waits r s q) k part) ps
 
       going-on : (n : ℕ) → Kept n r s q → Line k part
-          → feeds (rulesOn kept) limits (reader (knownOn kept)) (heldBy kept) ps ≡ feeds (rulesOn c) limits (reader (knownOn c)) (reading (waits r s q) k part) ps
+          → feeds (rulesOn kept) limits (reader (knownOn kept)) (heldBy kept) ps ≡ feeds (rulesOn c) limits (reader (knownOn c))
+          (reading (waits r s q) k part) ps
       going-on n h l = ap (λ m. feeds (rulesOn kept) limits (reader (knownOn kept)) m ps) (held-back c r s q k part n h l) ∙ same-rules
 
 -- however the plan is cut, the check after finish is what closing the machine gives
-pub session : (ps : List (List ℕ)) (c : Check) → Open c → finishOf (feedsOf c ps) .check ≡ closedBy c (feeds (rulesOn c) limits (reader (knownOn c)) (heldBy c) ps)
+pub session : (ps : List (List ℕ)) (c : Check) → Open c → finishOf (feedsOf c ps) .check ≡ closedBy c
+    (feeds (rulesOn c) limits (reader (knownOn c)) (heldBy c) ps)
 unfolding feedsOf
 session [] c o = finish-open c o
 session (p ∷ ps) c o = ap (λ x. finishOf (feedsOf x ps) .check) (feed-open c p o) ∙ by (fedBy c p) (fed-kept c p o) (λ d. session ps d)
@@ -162,4 +169,5 @@ session (p ∷ ps) c o = ap (λ x. finishOf (feedsOf x ps) .check) (feed-open c 
         → finishOf (feedsOf (stored c m) ps) .check ≡ closedBy c (feeds (rulesOn c) limits (reader (knownOn c)) m ps)
     by (reading (halted e) n part) h ih = halted-end c ps e n part (o .formed) (h .0)
     by (reading (waits r s q) n part) h ih =
-        ih (stored c (reading (waits r s q) n part)) (stored-open c r s q n part (o .formed) (h .0) (h .1)) ∙ again c r s q n part ps (c .model .acting) (h .0) (h .1)
+        ih (stored c (reading (waits r s q) n part)) (stored-open c r s q n part (o .formed) (h .0) (h .1))
+        ∙ again c r s q n part ps (c .model .acting) (h .0) (h .1)

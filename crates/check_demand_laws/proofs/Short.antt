@@ -77,7 +77,8 @@ module _ (d : Domain) (p : Problem) (text : List ℕ) where
   plan-short = go (firstRefusal limits [] said) refl
     where
       go : (o : Option Refused) → firstRefusal limits [] said ≡ o
-          → length (ofPlan (sumOf (length (p .objects)) (d .predicates)) (sumOf (length (p .objects)) (d .functions)) (unless o (verdict (rulesFor d p) plan)) .line) ≤ 64
+          → length (ofPlan (sumOf (length (p .objects)) (d .predicates)) (sumOf (length (p .objects)) (d .functions))
+          (unless o (verdict (rulesFor d p) plan)) .line) ≤ 64
       go none q = judged-short
       go (some e) q = refused-short e (text-refusal (knownFor d p) text e q)
 

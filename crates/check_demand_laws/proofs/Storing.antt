@@ -29,7 +29,7 @@ use Rattle.plan_running.specs.Running.{runIn}
 use Rattle.plan_running.specs.declared.Past.{Past}
 use Rattle.plan_lines.proofs.Names.{signed-length}
 use Rattle.plan_feeding.specs.Feeding.{checkIn}
-use Rattle.plan_feeding.specs.declared.Progress.{Progress}
+use Rattle.plan_feeding.specs.declared.PlanProgress.{PlanProgress}
 use Rattle.check_meaning.specs.Answer.{lastState}
 use Rattle.check_meaning.specs.Listed.{listedInPlan, listedVerdict}
 use Rattle.check_calls.specs.Calls.{formed, wellFormed, stateOf, knownOn, heldBy, noPast, pastOf, stored, endedFrom}
@@ -143,12 +143,12 @@ acting-known c = actions-length (c .model .code) (c .model .starts) 0 _ ∙ sign
 pub none-fits : (n : ℕ) → (queueOf [] .count ≤ 64) × (slotsFit n (used (queueOf [])) ≡ true)
 none-fits n = queue-fits n [] (omega arith) (fit-none n)
 
-pub fresh-counters : (p : Progress) → p .number ≡ 1 → p .used ≡ 0 → p .start ≡ 0 → Counters p
+pub fresh-counters : (p : PlanProgress) → p .number ≡ 1 → p .used ≡ 0 → p .start ≡ 0 → Counters p
 fresh-counters p n u s =
     record { first = omega (arith, n); lines = omega (arith, n); empty = λ _. u; short = omega (arith, u); timely = omega (arith, s) }
 
 module _ (c : Check) (f : wellFormed c ≡ true) where
-  pub fresh-formed : (p : Progress) → p .number ≡ 1 → p .used ≡ 0 → p .start ≡ 0 → Answers p
+  pub fresh-formed : (p : PlanProgress) → p .number ≡ 1 → p .used ≡ 0 → p .start ≡ 0 → Answers p
       → formed p (c .model .counts) (c .model .acting) (c .model .sizes .facts) (c .model .sizes .numbers) (queueOf []) ≡ true
   fresh-formed p n u s a =
       let g = formed-parts (c .progress) (c .model .counts) (c .model .acting) (c .model .sizes .facts) (c .model .sizes .numbers) (c .queue) f in
@@ -162,7 +162,7 @@ module _ (c : Check) (f : wellFormed c ≡ true) where
       })
 
 -- what is answered of a refused plan, and of one that came to an end
-pub refused-answers : (p : Progress) → listedInPlan (p .refusal) (p .at) (p .column) ≡ true → p .past ≡ noPast → Answers p
+pub refused-answers : (p : PlanProgress) → listedInPlan (p .refusal) (p .at) (p .column) ≡ true → p .past ≡ noPast → Answers p
 refused-answers p h e =
     record { refusal = λ _. h; verdict = rw e done-listed; time = let t : p .past .time ≡ 0 = ap (λ (x : Past). x .time) e in omega (arith, t) }
 

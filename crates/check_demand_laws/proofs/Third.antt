@@ -112,7 +112,12 @@ module _ (c : Check) (f : wellFormed c ≡ true) where
   shown-facts (P.refused e) l k out h = rw (ended-formed c f (P.refused e) l) refl
   shown-facts (P.ended r) l k out h =
       rw (ended-formed c f (P.ended r) l, le-ltb (length out) (c .model .sizes .facts) h)
-      (ap (λ o. ((C.ended c (P.ended r), A.Done (length w)), o)) (sets-first w out (omega (arith, length-map (take (c .model .sizes .facts) (lastState r .facts)) bit, length-take (c .model .sizes .facts) (lastState r .facts)))))
+      (ap (λ o. ((C.ended c (P.ended r), A.Done (length w)), o))
+      (sets-first w out (omega (
+        arith,
+        length-map (take (c .model .sizes .facts) (lastState r .facts)) bit,
+        length-take (c .model .sizes .facts) (lastState r .facts),
+      ))))
     where
       w : List ℕ
       w = map bit (take (c .model .sizes .facts) (lastState r .facts))
@@ -123,7 +128,12 @@ module _ (c : Check) (f : wellFormed c ≡ true) where
   shown-numbers (P.refused e) l j out h = rw (ended-formed c f (P.refused e) l) refl
   shown-numbers (P.ended r) l j out h =
       rw (ended-formed c f (P.ended r) l, le-ltb (length out) (c .model .sizes .numbers) h)
-      (ap (λ o. ((C.ended c (P.ended r), A.Done (length w)), o)) (sets-first w out (omega (arith, length-map (take (c .model .sizes .numbers) (lastState r .numbers)) shown, length-take (c .model .sizes .numbers) (lastState r .numbers)))))
+      (ap (λ o. ((C.ended c (P.ended r), A.Done (length w)), o))
+      (sets-first w out (omega (
+        arith,
+        length-map (take (c .model .sizes .numbers) (lastState r .numbers)) shown,
+        length-take (c .model .sizes .numbers) (lastState r .numbers),
+      ))))
     where
       w : List ℤ
       w = map shown (take (c .model .sizes .numbers) (lastState r .numbers))
@@ -160,7 +170,8 @@ module _ (s t : List ℕ) (d : Domain) (p : Problem) (r : Reads s t d p) (ps : L
       (L.facts-loaded s t d p (r .domain-end) (r .problem-end) (r .domain-read) (r .problem-read))
       (shown-facts check formed came kept numbers out))
 
-  numbers-shown : (out : List ℤ) → numbers ≤ length out → Shows ours (answer s t (joined ps) .final) (λ y. y .numbers) out (ours .numbers (session ours s t ps .0) out)
+  numbers-shown : (out : List ℤ) → numbers ≤ length out → Shows ours (answer s t (joined ps) .final) (λ y. y .numbers) out
+      (ours .numbers (session ours s t ps .0) out)
   numbers-shown out =
       rw (final-is, check-is)
       (subst (λ (j : ℕ). j ≤ length out → Shows ours (ofPlan facts j came .final) (λ y. y .numbers) out (ours .numbers (C.ended check came) out))

@@ -32,7 +32,7 @@ use Rattle.check_calls.specs.Calls.{countersFit, formed, wellFormed, anyState, 
 use Rattle.domain_load.specs.declared.LoadAnswer.{LoadAnswer}
 use Rattle.domain_load.specs.declared.LoadAnswer.the-variants as Is
 use Rattle.check_calls.specs.declared.Check.{Check}
-use Rattle.check_calls.specs.declared.Opened.{Opened}
+use Rattle.check_calls.specs.declared.LoadReply.{LoadReply}
 use Rattle.check_demand_laws.proofs.Sessions.{feedsOf, sessionOf, askedLine}
 use Rattle.check_demand_laws.proofs.Begun.{feed-same, close-same}
 use Rattle.check_demand_laws.proofs.Keeping.{KeptResult}
@@ -94,9 +94,10 @@ module _ (s t : List ℕ) (d : Domain) (p : Problem) (m n : ℕ) (e : readDomain
   read-line : (line : List ℕ) → 64 ≤ length line → askedLine (openOf s t .answer) (sessionOf s t ps) line ≡ sets line 0 (answer s t (joined ps) .line)
   unfolding answer planAnswer
   read-line line h =
-      ap (λ (o : Opened). askedLine (o .answer) (C.finishOf (feedsOf (o .check) ps) .check) line) opened
+      ap (λ (o : LoadReply). askedLine (o .answer) (C.finishOf (feedsOf (o .check) ps) .check) line) opened
       ∙ ap (λ (c : Check). resultOf c line .1) finished
-      ∙ asked-line loaded (L.loaded-open s t d p m n e f .formed) means means-kept (sumOf (length (p .objects)) (d .predicates)) (sumOf (length (p .objects)) (d .functions)) line h
+      ∙ asked-line loaded (L.loaded-open s t d p m n e f .formed) means means-kept (sumOf (length (p .objects)) (d .predicates))
+      (sumOf (length (p .objects)) (d .functions)) line h
       ∙ rw (e, f) refl
 
 -- ---- a text that is refused
@@ -128,7 +129,7 @@ module _ (s t : List ℕ) (k q : ℕ) (ps : List (List ℕ)) (line : List ℕ) (
   domain-line : readDomain s ≡ refused k q → askedLine (openOf s t .answer) (sessionOf s t ps) line ≡ sets line 0 (answer s t (joined ps) .line)
   unfolding lineOf
   domain-line e =
-      ap (λ (o : Opened). askedLine (o .answer) (C.finishOf (feedsOf (o .check) ps) .check) line) (domain-opened s t k q e)
+      ap (λ (o : LoadReply). askedLine (o .answer) (C.finishOf (feedsOf (o .check) ps) .check) line) (domain-opened s t k q e)
       ∙ refused-line (Is.Domain k q) (bytes "domain") k q (sessionOf s t ps) line h refl
       ∙ ap (λ (a : Answered). sets line 0 (a .line)) (sym (domain-answered s t k q (joined ps) e))
 
@@ -136,7 +137,7 @@ module _ (s t : List ℕ) (k q : ℕ) (ps : List (List ℕ)) (line : List ℕ) (
       → askedLine (openOf s t .answer) (sessionOf s t ps) line ≡ sets line 0 (answer s t (joined ps) .line)
   unfolding lineOf
   problem-line d m e f =
-      ap (λ (o : Opened). askedLine (o .answer) (C.finishOf (feedsOf (o .check) ps) .check) line) (problem-opened s t k q d m e f)
+      ap (λ (o : LoadReply). askedLine (o .answer) (C.finishOf (feedsOf (o .check) ps) .check) line) (problem-opened s t k q d m e f)
       ∙ refused-line (Is.Problem k q) (bytes "problem") k q (sessionOf s t ps) line h refl
       ∙ ap (λ (a : Answered). sets line 0 (a .line)) (sym (problem-answered s t k q d m e f (joined ps)))
 
@@ -174,7 +175,7 @@ module _ (s t : List ℕ) (d : Domain) (p : Problem) (m n : ℕ) (e : readDomain
   number-count = sumOf (length (p .objects)) (d .functions)
 
   pub ended-session : sessionOf s t ps ≡ C.ended check (means s t d p m n e f ps)
-  ended-session = ap (λ (o : Opened). C.finishOf (feedsOf (o .check) ps) .check) (opened s t d p m n e f ps) ∙ finished s t d p m n e f ps
+  ended-session = ap (λ (o : LoadReply). C.finishOf (feedsOf (o .check) ps) .check) (opened s t d p m n e f ps) ∙ finished s t d p m n e f ps
 
   pub answered : answer s t (joined ps) ≡ ofPlan fact-count number-count (means s t d p m n e f ps)
   unfolding answer planAnswer

@@ -13,7 +13,7 @@ use Rattle.check_meaning.specs.Answer.{bit, shown}
 use Rattle.check_calls.specs.Calls as C
 use Rattle.check_calls.specs.Calls.{wellFormed, feedOf, finishOf, resultOf, factsOf, numbersOf}
 use Rattle.check_calls.specs.declared.Check.{Check}
-use Rattle.check_calls.specs.declared.Fed.{Fed}
+use Rattle.check_calls.specs.declared.Reply.{Reply}
 use Rattle.check_calls.specs.declared.Answer.{Answer}
 use Rattle.check_calls.specs.declared.Answer.the-variants as A
 use Rattle.check_demand_laws.specs.Calling.{Call, feed, finish, result, facts, numbers, lent, make}
@@ -37,7 +37,7 @@ record Wrote {X : Type 0} (n : ℕ) (out after : List X) : Type 0 where
 
 module _ {X : Type 0} (c : Check) (out : List X) where
   -- an answer `Done n` wrote n places
-  abbrev Says : Fed × List X → Type 0
+  abbrev Says : Reply × List X → Type 0
   Says r = (n : ℕ) → r .0 .answer ≡ A.Done n → Wrote n out (r .1)
 
   wrote : (w : List X) → length w ≤ length out → Wrote (length w) out (sets out 0 w)
@@ -45,7 +45,8 @@ module _ {X : Type 0} (c : Check) (out : List X) where
       record {
         room = h;
         size = length-sets out 0 w;
-        rest = ap (λ l. drop (length w) l) (sets-eq w out 0 (omega arith)) ∙ drop-append-seam w (drop (0 + length w) out) ∙ ap (λ (n : ℕ). drop n out) (zero-add (length w));
+        rest = ap (λ l. drop (length w) l) (sets-eq w out 0 (omega arith)) ∙ drop-append-seam w (drop (0 + length w) out)
+            ∙ ap (λ (n : ℕ). drop n out) (zero-add (length w));
       }
 
   -- what is written is no longer than what 20 asks for
@@ -58,7 +59,7 @@ module _ {X : Type 0} (c : Check) (out : List X) where
           let k : length w ≡ n = cc in
           subst (λ (m : ℕ). Wrote m out (sets out 0 w)) k (wrote w (let l : least ≤ length out = ltb-false (length out) least e in omega arith))
 
-  done-says : (next : Fed × List X) → (wellFormed c ≡ true → Says next) → Says (C.whenDone c out next)
+  done-says : (next : Reply × List X) → (wellFormed c ≡ true → Says next) → Says (C.whenDone c out next)
   done-says next h = go (wellFormed c) refl (c .finished)
     where
       go : (b : Bool) → wellFormed c ≡ b → (f : Bool) → Says (cond b (cond f next (C.fed c A.Early, out)) (C.fed c A.Unformed, out))
@@ -66,7 +67,7 @@ module _ {X : Type 0} (c : Check) (out : List X) where
       go true e false n d = refuses n (λ z. let y : ⊥ = omega arith in y) d
       go true e true n d = h e n d
 
-  stated-says : (next : Fed × List X) → Says next → Says (C.unlessRefused c out next)
+  stated-says : (next : Reply × List X) → Says next → Says (C.unlessRefused c out next)
   stated-says next h = go (c .progress .refused)
     where
       go : (b : Bool) → Says (cond b (C.fed c A.Stateless, out) next)

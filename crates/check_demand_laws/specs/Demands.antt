@@ -68,7 +68,8 @@ module _ {C : Type 0} (K : Calls C) where
     pub check-kept : (c : C) (x : Call) → 19 ≤ numberOf (make K c x .answer) → make K c x .check ≡ c
     pub refusal-stays : (c : C) (part : List ℕ) (e : Refused) → K .standing c ≡ some e → K .feed c part .0 ≡ c
     pub finishes : (c : C) (x : Call) → K .formed c ≡ true → K .finished (make K c x .check) ≡ finishedBy x (K .finished c)
-    -- "Well formed" is "met by every check from a load not refused or from a call on a well-formed one"; "A refused load hands back one fixed check that 19 refuses"
+    -- "Well formed" is "met by every check from a load not refused or from a call on a well-formed one"; "A refused load hands back one fixed check
+    -- that 19 refuses"
     pub opens : (s t : List ℕ) → Opens (K .load s t .1) (K .load s t .0)
     pub keeps : (c : C) (x : Call) → K .formed c ≡ true → K .formed (make K c x .check) ≡ true
 

@@ -4,12 +4,12 @@ use mathlib.Core.Option.{Option, some, none}
 use Rattle.plan_meaning.specs.Lines.{Refused}
 use Rattle.domain_load.specs.Load.{fixedOf}
 use Rattle.domain_load.specs.declared.LoadAnswer.the-variants as Is
-use Rattle.plan_feeding.specs.declared.Progress.{Progress}
+use Rattle.plan_feeding.specs.declared.PlanProgress.{PlanProgress}
 use Rattle.check_calls.specs.declared.Check.{Check}
 use Rattle.check_calls.specs.Calls.{wellFormed, openOf, lineOf, feedOf, finishOf, resultOf, factsOf, numbersOf, checkFor}
 use Rattle.check_demand_laws.specs.Calling.{Calls}
 
-abbrev pub refusalIn : Progress → Option Refused
+abbrev pub refusalIn : PlanProgress → Option Refused
 refusalIn p = cond (p .refused) (some (record { number = p .refusal; line = p .at; column = p .column })) none
 
 abbrev pub ours : Calls Check

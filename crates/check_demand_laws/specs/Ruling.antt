@@ -84,9 +84,11 @@ module _ {C : Type 0} (K : Calls C) where
   rules c finish = (not (K .formed c), A.Unformed) ∷ (K .finished c, A.Late) ∷ []
   rules c (result out) = (not (K .formed c), A.Unformed) ∷ (not (K .finished c), A.Early) ∷ (ltb (length out) 64, A.Short) ∷ []
   rules c (facts out) =
-      (not (K .formed c), A.Unformed) ∷ (not (K .finished c), A.Early) ∷ (isSome (K .standing c), A.Stateless) ∷ (ltb (length out) (K .sizes c .0), A.Short) ∷ []
+      (not (K .formed c), A.Unformed) ∷ (not (K .finished c), A.Early)
+      ∷ (isSome (K .standing c), A.Stateless) ∷ (ltb (length out) (K .sizes c .0), A.Short) ∷ []
   rules c (numbers out) =
-      (not (K .formed c), A.Unformed) ∷ (not (K .finished c), A.Early) ∷ (isSome (K .standing c), A.Stateless) ∷ (ltb (length out) (K .sizes c .1), A.Short) ∷ []
+      (not (K .formed c), A.Unformed) ∷ (not (K .finished c), A.Early)
+      ∷ (isSome (K .standing c), A.Stateless) ∷ (ltb (length out) (K .sizes c .1), A.Short) ∷ []
 
   -- where none of them applies: "A plan refusal stays: feeding and finishing give it again"; asking is done
   abbrev pub otherwise : C → Call → Answer

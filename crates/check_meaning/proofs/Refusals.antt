@@ -22,6 +22,7 @@ bad-problem : readProblem (bytes "(define (problem q) (:domain bench) (:goal (on
 unfolding open-texts open-bench
 bad-problem = refl
 
-pub problem-refused : (plan : List ℕ) → answer benchText (bytes "(define (problem q) (:domain bench) (:goal (on c)))") plan .line ≡ bytes "refused problem 8 47 0\n"
+pub problem-refused : (plan : List ℕ) → answer benchText (bytes "(define (problem q) (:domain bench) (:goal (on c)))") plan .line ≡ bytes
+    "refused problem 8 47 0\n"
 unfolding bytes decimalTo refusalLine answer
 problem-refused plan = rw (bench-read, bad-problem)

@@ -16,7 +16,8 @@ use Rattle.check_meaning.specs.Answer.{Final, groundsOf, ofPlan, planAns
 
 -- on an `unfolding` line this opens all that the answer to a plan goes through
 unfoldable pub open-answers : Unit {0}
-unfolding open-plans groundsOf ofPlan planAnswer verdictLine refusalLine decimalTo timeOf wordOf lineOf secondOf sumOf noFacts noNumbers factsFrom numbersFrom firstFacts firstNumbers basesFrom
+unfolding open-plans groundsOf ofPlan planAnswer verdictLine refusalLine decimalTo timeOf wordOf lineOf secondOf sumOf noFacts noNumbers factsFrom
+    numbersFrom firstFacts firstNumbers basesFrom
 open-answers = tt
 
 -- the bench's domain and problem are read; a plan is left

@@ -119,7 +119,8 @@ module _ (g : Grounds) (os : List ℕ) where
 
 pub apart-decides : (g : Grounds) (p : Point) → Decides (Consistent g p) (Inconsistent g p) (apart g p)
 unfolding apart
-apart-decides g p = by-test (itself (marks g p)) (Itself (lineOf p)) refl (itself-consistent g (objectsOf p) (effectsOf p)) (consistent-itself g (objectsOf p) (effectsOf p))
+apart-decides g p = by-test (itself (marks g p)) (Itself (lineOf p)) refl (itself-consistent g (objectsOf p) (effectsOf p))
+    (consistent-itself g (objectsOf p) (effectsOf p))
 
 -- ---- step 3
 

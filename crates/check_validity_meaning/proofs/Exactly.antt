@@ -20,8 +20,10 @@ use Rattle.check_validity_meaning.specs.Valid.{lastOf, timesOf, Happenin
 use Rattle.check_validity_meaning.proofs.Lists.{all-in}
 use Rattle.check_validity_meaning.proofs.Deciding.{is-done}
 use Rattle.check_validity_meaning.proofs.Steps.{reached-decides}
-use Rattle.check_validity_meaning.proofs.Instant.{runState, runTime, runWord, not-both, tested-done, tested-fails, rules, stepped, goes, stops, went, stopped}
-use Rattle.check_validity_meaning.proofs.Times.{none-at, at-none, some-at, below-latest, last-snoc, trace-snoc, none-below, below-quiet, below-more, below-all, all-below}
+use Rattle.check_validity_meaning.proofs.Instant.{runState, runTime, runWord, not-both, tested-done, tested-fails, rules, stepped, goes, stops, went}
+use Rattle.check_validity_meaning.proofs.Instant.{stopped}
+use Rattle.check_validity_meaning.proofs.Times.{none-at, at-none, some-at, below-latest, last-snoc, trace-snoc, none-below, below-quiet, below-more}
+use Rattle.check_validity_meaning.proofs.Times.{below-all, all-below}
 
 least : (b v : ℕ) (ts : List ℕ) → Ascending b ts → v ∈ ts → b ≤ v
 least b v [] a i = absurd i

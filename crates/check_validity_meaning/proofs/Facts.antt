@@ -120,7 +120,8 @@ module _ (g : Grounds) (ps : List Point) where
       record {
         added = λ i. pass-hit with-puts x fs ms (subst (λ (n : ℕ). x < n) (sym (pass-length without-puts (s .facts) ms)) h) (makes-all g true x ps i);
         deleted = λ n i. pass-kept with-puts x fs ms (λ j. n (all-makes g true x ps j)) ∙ pass-hit without-puts x (s .facts) ms h (makes-all g false x ps i);
-        kept = λ n k. pass-kept with-puts x fs ms (λ j. n (all-makes g true x ps j)) ∙ pass-kept without-puts x (s .facts) ms (λ j. k (all-makes g false x ps j));
+        kept = λ n k. pass-kept with-puts x fs ms (λ j. n (all-makes g true x ps j))
+            ∙ pass-kept without-puts x (s .facts) ms (λ j. k (all-makes g false x ps j));
       }
 
 one-fact : (g : Grounds) (ps : List Point) (x : ℕ) (s t u : State) → NewFact g s ps t x → NewFact g s ps u x → factAt t x ≡ factAt u x

@@ -10,14 +10,16 @@ use lib.ListN.{length}
 use borrow.Author.Tests.{not-false}
 use Rattle.happening_meaning.specs.State.{State, Grounds, inside, numberAt}
 use Rattle.happening_meaning.specs.Writes.{some}
-use Rattle.happening_meaning.specs.Happening.{Point, lineOf, marks, isDone, unless, each, tested, apart, changePoints, leaves, stays, newFacts, Made, Happened, happened, onDone, applied, allowed, happening}
+use Rattle.happening_meaning.specs.Happening.{Point, lineOf, marks, isDone, unless, each, tested, apart, changePoints, leaves, stays, newFacts, Made, Happened}
+use Rattle.happening_meaning.specs.Happening.{happened, onDone, applied, allowed, happening}
 use Rattle.happening_meaning.specs.declared.Mark.{Mark}
 use Rattle.happening_meaning.specs.declared.Mark.the-variants.{Nothing, Fact, Number}
 use Rattle.happening_meaning.specs.declared.Outcome.{Outcome}
 use Rattle.happening_meaning.specs.declared.Outcome.the-variants.{Done, Range}
 use Rattle.check_validity_meaning.specs.Lists.{All, Pairwise, First, FirstPair, _∈_}
 use Rattle.check_validity_meaning.specs.Happens.{Applicable, Consistent, NonInterfering, Evaluable, Executable, NewNumber, Written, Result, Within}
-use Rattle.check_validity_meaning.specs.Failing.{Inapplicable, Inconsistent, Interfering, FirstUnmade, Outside, Fails, inapplicable, inconsistent, interfering, unmade, outside}
+use Rattle.check_validity_meaning.specs.Failing.{Inapplicable, Inconsistent, Interfering, FirstUnmade, Outside, Fails, inapplicable, inconsistent}
+use Rattle.check_validity_meaning.specs.Failing.{interfering, unmade, outside}
 use Rattle.check_validity_meaning.proofs.Lists.{all-in, in-all, none-in, all-none}
 use Rattle.check_validity_meaning.proofs.Deciding.{Decides, is-done, is-not, by-test, then, each-decides, retold}
 use Rattle.check_validity_meaning.proofs.Marking.{assigns, changes-mark, mark-changes}
@@ -83,7 +85,8 @@ module _ (g : Grounds) (s : State) (ps : List Point) where
   only-result x t r =
       let f : t .facts ≡ after .facts = only-facts g ps s t (r .facts .0) (r .facts .1) in
       let n : t .numbers ≡ after .numbers = only-numbers g s ps (x .consistent) (x .apart) t (r .numbers .0)
-      (subst (λ (ws : List Written). (i : ℕ) → i < length (s .numbers) → NewNumber s t ws i) (only-all-written g s ps (r .writes) (r .written)) (r .numbers .1)) in
+      (subst (λ (ws : List Written). (i : ℕ) → i < length (s .numbers) → NewNumber s t ws i) (only-all-written g s ps (r .writes) (r .written))
+      (r .numbers .1)) in
       λ i. record { facts = f i; numbers = n i }
 
   abbrev evaluation : Outcome

@@ -153,4 +153,7 @@ module _ (g : Grounds) (goal : Cond) (as′ : List Action) (s0 : State) (plan : 
       where
         go : (Happens g as′ plan t s next × (stepped ≡ going next t)) ⊎ Stopped → FailsAt g as′ plan t s w e × (t ≡ u)
         go (inl h) = not-both (sym (h .1) ∙ q)
-        go (inr f) = let r = sym (f .stop) ∙ q in (subst (λ (k : Run State Outcome). FailsAt g as′ plan t s (runWord k) (runState k)) r (f .fails), ap runTime r)
+        go (inr f) = let r = sym (f .stop) ∙ q in (
+          subst (λ (k : Run State Outcome). FailsAt g as′ plan t s (runWord k) (runState k)) r (f .fails),
+          ap runTime r,
+        )

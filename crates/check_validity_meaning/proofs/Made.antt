@@ -7,7 +7,8 @@ use lib.IntN.{ℤ, pos}
 use Rattle.domain_meaning.specs.Effects.{Change, assign, raise, lower, Effect, becomes, changes}
 use Rattle.happening_meaning.specs.State.{State, Grounds, numberAt, numberOf}
 use Rattle.happening_meaning.specs.Truths.{valueOf}
-use Rattle.happening_meaning.specs.Happening.{Point, lineOf, objectsOf, effectsOf, isDone, unless, each, Made, made, onMade, onNeeded, needed, setNumber, changeOne, changeAll, changePoints}
+use Rattle.happening_meaning.specs.Happening.{Point, lineOf, objectsOf, effectsOf, isDone, unless, each, Made, made, onMade, onNeeded, needed, setNumber}
+use Rattle.happening_meaning.specs.Happening.{changeOne, changeAll, changePoints}
 use Rattle.happening_meaning.specs.declared.Value.{Value}
 use Rattle.happening_meaning.specs.declared.Value.the-variants as Is
 use Rattle.happening_meaning.specs.declared.Outcome.{Outcome}
@@ -120,7 +121,8 @@ makes-then m o n ns f h a b = go (isDone o) refl
 
 module _ (g : Grounds) (s : State) where
   makes-value : (l : ℕ) (ns : List ℤ) (how : Change) (x : ℕ) (v u : Value)
-      → Makes (onNeeded l ns v (λ z. onNeeded l ns u (λ _. made Done (setNumber how ns x z)))) (unless (wants l v) (wants l u)) (setNumber how ns x (amountOf v))
+      → Makes (onNeeded l ns v (λ z. onNeeded l ns u (λ _. made Done (setNumber how ns x z)))) (unless (wants l v) (wants l u))
+      (setNumber how ns x (amountOf v))
   unfolding unless
   makes-value l ns how x (Is.Number z) (Is.Number y) = (refl, λ e. refl)
   makes-value l ns how x (Is.Number z) Is.Undefined = (refl, λ e. is-not e refl)

@@ -22,7 +22,8 @@ use Rattle.check_validity_meaning.specs.Lists.{All, _∈_}
 use Rattle.check_validity_meaning.specs.Values.{NoValue}
 use Rattle.check_validity_meaning.specs.Satisfied.{Holds, NotSo, FirstNotSo}
 use Rattle.check_validity_meaning.specs.Happens.{Applicable, Consistent, NonInterfering, Doable, Evaluable, Within}
-use Rattle.check_validity_meaning.specs.Failing.{Mislasts, Inapplicable, Inconsistent, Interfering, NotGiven, Unmade, FirstUnmade, Outside, Fails, inapplicable, inconsistent, interfering, unmade, outside, Broken}
+use Rattle.check_validity_meaning.specs.Failing.{Mislasts, Inapplicable, Inconsistent, Interfering, NotGiven, Unmade, FirstUnmade, Outside, Fails}
+use Rattle.check_validity_meaning.specs.Failing.{inapplicable, inconsistent, interfering, unmade, outside, Broken}
 use Rattle.check_validity_meaning.proofs.Lists.{all-in, first-in, pair-in}
 use Rattle.check_validity_meaning.proofs.Values.{wants, value-decides}
 use Rattle.check_validity_meaning.proofs.Satisfied.{judged-decides}

@@ -12,7 +12,8 @@ use Rattle.happening_meaning.specs.State.{Grounds, factOf, numberOf}
 use Rattle.happening_meaning.specs.Writes.{some, exprReads, condReads, condsRead, rightReads}
 use Rattle.happening_meaning.specs.Happening.{Point, objectsOf, conditionsOf, effectsOf, ruleOf, ruleReads, readsFact, readsNumber}
 use Rattle.check_validity_meaning.specs.Lists.{_∈_}
-use Rattle.check_validity_meaning.specs.Reads.{InExpr, NumberIn, NumberInSome, FactIn, FactInSome, ReadsFact, by-condition, ReadsNumber, in-condition, in-duration, in-right-side}
+use Rattle.check_validity_meaning.specs.Reads.{InExpr, NumberIn, NumberInSome, FactIn, FactInSome, ReadsFact, by-condition, ReadsNumber, in-condition}
+use Rattle.check_validity_meaning.specs.Reads.{in-duration, in-right-side}
 use Rattle.check_validity_meaning.proofs.Finding.{Finds, finds-so, nothing, equal, either}
 
 abbrev Some : {A : Type 0} → (A → Type 0) → List A → Type 0

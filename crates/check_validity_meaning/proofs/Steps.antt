@@ -12,7 +12,8 @@ use Rattle.domain_meaning.specs.Conditions.{Cond}
 use Rattle.domain_meaning.specs.Actions.{Lasting, moment, rule, whole}
 use Rattle.happening_meaning.specs.State.{State, Grounds}
 use Rattle.happening_meaning.specs.Truths.{valueOf}
-use Rattle.happening_meaning.specs.Happening.{Step, Point, lineOf, objectsOf, conditionsOf, ruleOf, partsFor, lasts, lasting, tested, spans, spanning, reached, noObjects}
+use Rattle.happening_meaning.specs.Happening.{Step, Point, lineOf, objectsOf, conditionsOf, ruleOf, partsFor, lasts, lasting, tested, spans, spanning, reached}
+use Rattle.happening_meaning.specs.Happening.{noObjects}
 use Rattle.happening_meaning.specs.declared.Value.{Value}
 use Rattle.happening_meaning.specs.declared.Value.the-variants as Is
 use Rattle.happening_meaning.specs.declared.Outcome.the-variants.{Done, Duration, Condition, Invariant, Goal}

@@ -22,7 +22,14 @@ verdict-most o t =
 
 pub verdict-short : (o : Outcome) (t : ℕ) → t < 2000000000000 → lineOf o ≤ 1000000 → secondOf o ≤ 1000000 → length (verdictLine o t) ≤ 64
 verdict-short o t h l m =
-    omega (arith, verdict-length o t, word-short o, decimal-below 9 (t / 1000) (omega arith), decimal-below 6 (lineOf o) (omega arith), decimal-below 6 (secondOf o) (omega arith))
+    omega (
+      arith,
+      verdict-length o t,
+      word-short o,
+      decimal-below 9 (t / 1000) (omega arith),
+      decimal-below 6 (lineOf o) (omega arith),
+      decimal-below 6 (secondOf o) (omega arith),
+    )
 
 pub refusal-length : (w : List ℕ) (k p q : ℕ) → length (refusalLine w k p q) ≡ length w + length (decimal k) + length (decimal p) + length (decimal q) + 12
 unfolding refusalLine bytes

@@ -62,12 +62,14 @@ time-put a n t {b} {c} {d} {e} {f} {i} {j} {k} p q r s u =
 abbrev pub lastTwo : ℕ → ℕ → List ℕ
 lastTwo p q = ended (behindSpace (decimal p) ++ behindSpace (decimal q))
 
-pub ended-put : (a : List ℕ) (n p q : ℕ) {b c d : List ℕ} {i j k : ℕ} → Put a n (behindSpace (decimal p)) b i → Put b i (behindSpace (decimal q)) c j → Put c j (10 ∷ []) d k → Put a n (lastTwo p q) d k
+pub ended-put : (a : List ℕ) (n p q : ℕ) {b c d : List ℕ} {i j k : ℕ} → Put a n (behindSpace (decimal p)) b i → Put b i (behindSpace (decimal q)) c j
+    → Put c j (10 ∷ []) d k → Put a n (lastTwo p q) d k
 ended-put a n p q f g h =
     let both = behindSpace (decimal p) ++ behindSpace (decimal q) in
     behind a n both (10 ∷ []) (behind a n (behindSpace (decimal p)) (behindSpace (decimal q)) f g) h
 
-pub verdict-put : (a : List ℕ) (o : Outcome) (t : ℕ) {b c d e : List ℕ} {i j k l : ℕ} → Put a 0 (wordOf o) b i → Put b i (32 ∷ []) c j → Put c j (timeOf t) d k → Put d k (lastTwo (lineOf o) (secondOf o)) e l
+pub verdict-put : (a : List ℕ) (o : Outcome) (t : ℕ) {b c d e : List ℕ} {i j k l : ℕ} → Put a 0 (wordOf o) b i → Put b i (32 ∷ []) c j
+    → Put c j (timeOf t) d k → Put d k (lastTwo (lineOf o) (secondOf o)) e l
     → (e ≡ sets a 0 (verdictLine o t)) × (l ≡ length (verdictLine o t))
 unfolding verdictLine
 verdict-put a o t {b} {c} {d} {e} {i} {j} p q r s =
@@ -76,7 +78,8 @@ verdict-put a o t {b} {c} {d} {e} {i} {j} p q r s =
     (behind a 0 (wordOf o) (behindSpace (timeOf t) ++ last) p (behind b i (32 ∷ []) (timeOf t ++ last) q (behind c j (timeOf t) last r s)))
     (simp append-assoc)
 
-pub refusal-put : (a w : List ℕ) (n p q : ℕ) {b c d e : List ℕ} {i j k l : ℕ} → Put a 0 (bytes "refused ") b i → Put b i w c j → Put c j (behindSpace (decimal n)) d k → Put d k (lastTwo p q) e l
+pub refusal-put : (a w : List ℕ) (n p q : ℕ) {b c d e : List ℕ} {i j k l : ℕ} → Put a 0 (bytes "refused ") b i → Put b i w c j
+    → Put c j (behindSpace (decimal n)) d k → Put d k (lastTwo p q) e l
     → (e ≡ sets a 0 (refusalLine w n p q)) × (l ≡ length (refusalLine w n p q))
 unfolding refusalLine
 refusal-put a w n p q {b} {c} {d} {e} {i} {j} f g r s =

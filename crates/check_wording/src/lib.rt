@@ -106,7 +106,8 @@ fn put_spaced(out: &mut [u8], at: usize, n: usize) -> usize
 // The end of every line: two numbers and LF.
 fn put_end(out: &mut [u8], at: usize, p: usize, q: usize) -> usize
     requires { ⌜ at + 43 ≤ 18446744073709551615 ⌝ }
-    ensures { λ r. ⌜ (now (out .exit) ≡ sets (now (out .entry)) at (ended (behindSpace (decimal p) ++ behindSpace (decimal q)))) × (r ≡ at + length (ended (behindSpace (decimal p) ++ behindSpace (decimal q)))) ⌝ }
+    ensures { λ r. ⌜ (now (out .exit) ≡ sets (now (out .entry)) at (ended (behindSpace (decimal p) ++ behindSpace (decimal q))))
+        × (r ≡ at + length (ended (behindSpace (decimal p) ++ behindSpace (decimal q)))) ⌝ }
 {
     let second = put_spaced(out, at, p);
     let last = put_spaced(out, second, q);

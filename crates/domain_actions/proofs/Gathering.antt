@@ -34,7 +34,8 @@ unfolding startsOf actionsCells
 starts-more u [] a = append-nil (startOf u a) ∙ ap (λ (t : ℕ). startOf t a) (sym (add-zero u))
 starts-more u (b ∷ as′) a =
     let n = length (actionCells b) in
-    let e : u + n + length (actionsCells as′) ≡ u + length (actionCells b ++ actionsCells as′) = omega (arith, length-append (actionCells b) (actionsCells as′)) in
+    let e : u + n + length (actionsCells as′) ≡ u + length (actionCells b ++ actionsCells as′) =
+    omega (arith, length-append (actionCells b) (actionsCells as′)) in
     ap (λ (t : List ℕ). startOf u b ++ t) (starts-more (u + n) as′ a ∙ ap (λ (t : ℕ). startsOf (u + n) as′ ++ startOf t a) e)
 
 -- ---- an action, by its answer
@@ -76,13 +77,25 @@ module _ (s : List ℕ) (c : Scope) (k from : ℕ) (code₀ starts₀ : List ℕ
   pub onward-start : (rows : List ℕ) → length s - from < k → rows ≡ rowsOf 32 [] → Onward from 0 0 rows code₀ starts₀
   unfolding actionsCells startsOf
   onward-start rows h e =
-      record { before = []; fuel = k; enough = h; count = refl; used = refl; rowed = record { are = e; count = refl; fits = omega arith; short = tt }; cells = refl; places = refl; same = refl }
+      record {
+        before = [];
+        fuel = k;
+        enough = h;
+        count = refl;
+        used = refl;
+        rowed =
+            record { are = e; count = refl; fits = omega arith; short = tt };
+        cells = refl;
+        places = refl;
+        same = refl;
+      }
 
   module _ (at n u : ℕ) (rows code starts : List ℕ) (o : Onward at n u rows code starts) where
     more : o .fuel ≡ suc (o .fuel - 1)
     more = omega (arith, o .enough)
 
-    pub onward-last : (b : ActionHead) → b ≡ B.Other → Begins s c (o .before) (o .fuel - 1) b (actionsTo (suc (o .fuel - 1)) s c (o .before) at) at → u ≤ length s
+    pub onward-last : (b : ActionHead) → b ≡ B.Other → Begins s c (o .before) (o .fuel - 1) b (actionsTo (suc (o .fuel - 1)) s c (o .before) at) at
+        → u ≤ length s
         → Stores (length s) code₀ starts₀ (Done at n) rows code starts (actionsTo k s c [] from)
     unfolding Begins Stores
     onward-last b e h few =
@@ -96,7 +109,8 @@ module _ (s : List ℕ) (c : Scope) (k from : ℕ) (code₀ starts₀ : List ℕ
           few = omega (arith, o .used);
         })
 
-    module _ (b : ActionHead) (durative : Bool) (e : ℕ) (q : b ≡ B.At durative e) (h : Begins s c (o .before) (o .fuel - 1) b (actionsTo (suc (o .fuel - 1)) s c (o .before) at) at)
+    module _ (b : ActionHead) (durative : Bool) (e : ℕ) (q : b ≡ B.At durative e)
+        (h : Begins s c (o .before) (o .fuel - 1) b (actionsTo (suc (o .fuel - 1)) s c (o .before) at) at)
         (r : Parsed) (rows′ code′ starts′ : List ℕ) (w : Adds (o .before) code u starts r rows′ code′ starts′ (action s c durative (o .before) e)) where
       step : actionsTo k s c [] from ≡ andThen (action s c durative (o .before) e) (λ bs. actionsTo (o .fuel - 1) s c bs)
       unfolding Begins
@@ -110,10 +124,13 @@ module _ (s : List ℕ) (c : Scope) (k from : ℕ) (code₀ starts₀ : List ℕ
       onward-more a v i lo hi =
           let g = adds-got (o .before) code u starts r rows′ code′ starts′ (action s c durative (o .before) e) a v w i in
           let d = g .2 in
-          grown (g .0) (d .action) (d .is) (step ∙ ap (λ (x : Read (List Action)). andThen x (λ bs. actionsTo (o .fuel - 1) s c bs)) (g .1)) (d .rows) (d .cells) (d .places) (sym i ∙ d .answer)
+          grown (g .0) (d .action) (d .is) (step ∙ ap (λ (x : Read (List Action)). andThen x (λ bs. actionsTo (o .fuel - 1) s c bs)) (g .1)) (d .rows)
+          (d .cells) (d .places) (sym i ∙ d .answer)
         where
-          grown : (bs : List Action) (x : Action) → bs ≡ o .before ++ x ∷ [] → actionsTo k s c [] from ≡ actionsTo (o .fuel - 1) s c bs a → Holds 32 rows′ (length (o .before) + 1) (declarations bs)
-              → code′ ≡ sets code u (actionCells x) → starts′ ≡ sets starts (3 * length (o .before)) (startOf u x) → Done a v ≡ Done a (u + length (actionCells x)) → Onward a (n + 1) v rows′ code′ starts′
+          grown : (bs : List Action) (x : Action) → bs ≡ o .before ++ x ∷ [] → actionsTo k s c [] from ≡ actionsTo (o .fuel - 1) s c bs a
+              → Holds 32 rows′ (length (o .before) + 1) (declarations bs)
+              → code′ ≡ sets code u (actionCells x) → starts′ ≡ sets starts (3 * length (o .before)) (startOf u x)
+              → Done a v ≡ Done a (u + length (actionCells x)) → Onward a (n + 1) v rows′ code′ starts′
           grown bs x is same rowed cells places free =
               let y : v ≡ u + length (actionCells x) = cc in
               let cs = actionsCells (o .before) in
@@ -128,7 +145,8 @@ module _ (s : List ℕ) (c : Scope) (k from : ℕ) (code₀ starts₀ : List ℕ
                 count = omega (arith, o .count, ap length is, length-append (o .before) (x ∷ []));
                 used = omega (arith, y, o .used, ap length more-cells, length-append cs (actionCells x));
                 rowed = rw (← (o .count)) at rowed;
-                cells = cells ∙ ap (λ (t : List ℕ). sets t u (actionCells x)) (o .cells) ∙ ap (λ (t : ℕ). sets (sets code₀ 0 cs) t (actionCells x)) (sym zero-u) ∙ sets-append code₀ 0 cs (actionCells x)
+                cells = cells ∙ ap (λ (t : List ℕ). sets t u (actionCells x)) (o .cells)
+                    ∙ ap (λ (t : ℕ). sets (sets code₀ 0 cs) t (actionCells x)) (sym zero-u) ∙ sets-append code₀ 0 cs (actionCells x)
                     ∙ ap (sets code₀ 0) (sym more-cells);
                 places = places ∙ ap (λ (t : List ℕ). sets t (3 * length (o .before)) (startOf u x)) (o .places)
                     ∙ ap (λ (t : ℕ). sets (sets starts₀ 0 (startsOf 0 (o .before))) t (startOf u x)) (sym three)

@@ -63,7 +63,8 @@ pub opened-refused : (s : List ℕ) (c : Scope) (t : Table) (at v a i : ℕ) →
 opened-refused s c t at v a i o k p e = o .is ∙ simp e
 
 pub titled-done : (s : List ℕ) (c : Scope) (t : Table) (at v a i : ℕ) → Opened s c t at v a i
-    → (counts : Counts) (n m k : ℕ) (info rows own : List ℕ) → Signs 4 info m k (variablesTo s (c .types) 4 i) → Owned c counts own (variablesTo s (c .types) 4 i)
+    → (counts : Counts) (n m k : ℕ) (info rows own : List ℕ) → Signs 4 info m k (variablesTo s (c .types) 4 i)
+    → Owned c counts own (variablesTo s (c .types) 4 i)
     → n < 32 → Holds 32 rows (n + 1) (t ++ entry (part s v a) (take (k + 1) info) ∷ []) → Titled c counts n t (Done m k) rows own (titleOf s c t at)
 unfolding Titled Owned
 titled-done s c t at v a i o counts n m k info rows own y w l h =

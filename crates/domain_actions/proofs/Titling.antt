@@ -33,7 +33,8 @@ pub record Heads (c : Scope) (counts : Counts) (n : ℕ) (t : Table) (r : Parsed
   pub entered : Entered c counts n t r rows own title a
   pub count : v ≡ length (title .variables)
 
-pub titled-got : (c : Scope) (counts : Counts) (n : ℕ) (t : Table) (r : Parsed) (rows own : List ℕ) (x : Read Title) (a v : ℕ) → Titled c counts n t r rows own x → r ≡ Done a v
+pub titled-got : (c : Scope) (counts : Counts) (n : ℕ) (t : Table) (r : Parsed) (rows own : List ℕ) (x : Read Title) (a v : ℕ)
+    → Titled c counts n t r rows own x → r ≡ Done a v
     → Heads c counts n t r rows own x a v
 unfolding Titled
 titled-got c counts n t r rows own (got h m) a v w e =
@@ -43,7 +44,8 @@ titled-got c counts n t r rows own (got h m) a v w e =
     record { title = h; is = rw i; entered = record { answer = e ∙ rw (← j); room = w .room; rows = w .rows; own = w .own }; count = sym j }
 titled-got c counts n t r rows own (refused k p) a v w e = never-done k p a v (sym w ∙ e)
 
-pub titled-not : (c : Scope) (counts : Counts) (n : ℕ) (t : Table) (r : Parsed) (rows own : List ℕ) (x : Read Title) (k p : ℕ) → Titled c counts n t r rows own x → r ≡ Refused k p → x ≡ refused k p
+pub titled-not : (c : Scope) (counts : Counts) (n : ℕ) (t : Table) (r : Parsed) (rows own : List ℕ) (x : Read Title) (k p : ℕ)
+    → Titled c counts n t r rows own x → r ≡ Refused k p → x ≡ refused k p
 unfolding Titled
 titled-not c counts n t r rows own (got h m) k p w e = never-done k p m (length (h .variables)) (sym e ∙ w .answer)
 titled-not c counts n t r rows own (refused j q) k p w e =
@@ -68,23 +70,28 @@ abbrev behindTitle : List ℕ → Scope → Bool → List Action → Title → R
 behindTitle s c durative as′ h n =
     andThen (restOf durative s (within c (h .variables)) (signature (h .word) (h .variables)) n) (λ a m. got (as′ ++ a ∷ []) m)
 
-titled : (s : List ℕ) (c : Scope) (durative : Bool) (as′ : List Action) (at : ℕ) → action s c durative as′ at ≡ andThen (titleOf s c (declarations as′) at) (behindTitle s c durative as′)
+titled : (s : List ℕ) (c : Scope) (durative : Bool) (as′ : List Action) (at : ℕ)
+    → action s c durative as′ at ≡ andThen (titleOf s c (declarations as′) at) (behindTitle s c durative as′)
 unfolding action titleOf restOf
 titled s c true as′ at =
     let g = behindTitle s c true as′ in
     sym
     (then-under (newName s 14 at) _ g _
     (λ n m. then-under (fresh 32 (declarations as′) (n .place) (n .word) m) _ g _
-    (λ _ i. then-under (fixed s 14 ":parameters" i) _ g _ (λ _ j. then-under (opening s 14 j) _ g _ (λ _ k. then-under (variablesTo s (c .types) 4 k) _ g _ (λ vs l. refl))))))
+    (λ _ i. then-under (fixed s 14 ":parameters" i) _ g _ (λ _ j. then-under (opening s 14 j) _ g _
+    (λ _ k. then-under (variablesTo s (c .types) 4 k) _ g _ (λ vs l. refl))))))
 titled s c false as′ at =
     let g = behindTitle s c false as′ in
     sym
     (then-under (newName s 14 at) _ g _
     (λ n m. then-under (fresh 32 (declarations as′) (n .place) (n .word) m) _ g _
-    (λ _ i. then-under (fixed s 14 ":parameters" i) _ g _ (λ _ j. then-under (opening s 14 j) _ g _ (λ _ k. then-under (variablesTo s (c .types) 4 k) _ g _ (λ vs l. refl))))))
+    (λ _ i. then-under (fixed s 14 ":parameters" i) _ g _ (λ _ j. then-under (opening s 14 j) _ g _
+    (λ _ k. then-under (variablesTo s (c .types) 4 k) _ g _ (λ vs l. refl))))))
 
-added : (as′ : List Action) (e : Entry) (n : ℕ) (code : List ℕ) (u : ℕ) (starts : List ℕ) (r : Parsed) (rows code′ starts′ : List ℕ) (x : Read Action) → n ≡ length as′
-    → Holds 32 rows (n + 1) (declarations as′ ++ e ∷ []) → Bodied e code u starts n r code′ starts′ x → Adds as′ code u starts r rows code′ starts′ (andThen x (λ a m. got (as′ ++ a ∷ []) m))
+added : (as′ : List Action) (e : Entry) (n : ℕ) (code : List ℕ) (u : ℕ) (starts : List ℕ) (r : Parsed) (rows code′ starts′ : List ℕ) (x : Read Action)
+    → n ≡ length as′
+    → Holds 32 rows (n + 1) (declarations as′ ++ e ∷ []) → Bodied e code u starts n r code′ starts′ x
+    → Adds as′ code u starts r rows code′ starts′ (andThen x (λ a m. got (as′ ++ a ∷ []) m))
 unfolding Bodied Adds
 added as′ e n code u starts r rows code′ starts′ (got a m) q h w =
     record {
@@ -97,24 +104,29 @@ added as′ e n code u starts r rows code′ starts′ (got a m) q h w =
     }
 added as′ e n code u starts r rows code′ starts′ (refused k p) q h w = w
 
-adds-refused : (as′ : List Action) (code : List ℕ) (u : ℕ) (starts : List ℕ) (r : Parsed) (rows code′ starts′ : List ℕ) (x : Read (List Action)) (k p : ℕ) → x ≡ refused k p → r ≡ Refused k p
+adds-refused : (as′ : List Action) (code : List ℕ) (u : ℕ) (starts : List ℕ) (r : Parsed) (rows code′ starts′ : List ℕ) (x : Read (List Action))
+    (k p : ℕ) → x ≡ refused k p → r ≡ Refused k p
     → Adds as′ code u starts r rows code′ starts′ x
 unfolding Adds
 adds-refused as′ code u starts r rows code′ starts′ x k p e q = rw e q
 
-module _ (s : List ℕ) (c : Scope) (counts : Counts) (durative : Bool) (as′ : List Action) (at n : ℕ) (code : List ℕ) (u : ℕ) (starts : List ℕ) (r₁ : Parsed) (rows own : List ℕ)
+module _ (s : List ℕ) (c : Scope) (counts : Counts) (durative : Bool) (as′ : List Action) (at n : ℕ) (code : List ℕ) (u : ℕ) (starts : List ℕ)
+    (r₁ : Parsed) (rows own : List ℕ)
     (w₁ : Titled c counts n (declarations as′) r₁ rows own (titleOf s c (declarations as′) at)) where
   pub action-untitled : (k p : ℕ) → r₁ ≡ Refused k p → Adds as′ code u starts r₁ rows code starts (action s c durative as′ at)
   action-untitled k p i =
-      adds-refused as′ code u starts r₁ rows code starts _ k p (titled s c durative as′ at ∙ rw (titled-not c counts n (declarations as′) r₁ rows own _ k p w₁ i) refl) i
+      adds-refused as′ code u starts r₁ rows code starts _ k p
+      (titled s c durative as′ at ∙ rw (titled-not c counts n (declarations as′) r₁ rows own _ k p w₁ i) refl) i
 
   pub action-titled : (a v : ℕ) (i : r₁ ≡ Done a v) → length as′ ≡ n → (r : Parsed) (code′ starts′ : List ℕ)
       → (let h = titled-got c counts n (declarations as′) r₁ rows own (titleOf s c (declarations as′) at) a v w₁ i .title in
-      Bodied (signature (h .word) (h .variables)) code u starts n r code′ starts′ (restOf durative s (within c (h .variables)) (signature (h .word) (h .variables)) a))
+      Bodied (signature (h .word) (h .variables)) code u starts n r code′ starts′
+      (restOf durative s (within c (h .variables)) (signature (h .word) (h .variables)) a))
       → Adds as′ code u starts r rows code′ starts′ (action s c durative as′ at)
   action-titled a v i q r code′ starts′ w =
       let g = titled-got c counts n (declarations as′) r₁ rows own (titleOf s c (declarations as′) at) a v w₁ i in
-      rw (titled s c durative as′ at, g .is) (added as′ (signature (g .title .word) (g .title .variables)) n code u starts r rows code′ starts′ _ (sym q) (g .entered .rows) w)
+      rw (titled s c durative as′ at, g .is) (added as′ (signature (g .title .word) (g .title .variables)) n code u starts r rows code′ starts′ _
+      (sym q) (g .entered .rows) w)
 
 -- four bytes at least stand before what is behind the parameters
 pub back : (r : Parsed) (n u at from : ℕ) → from + 4 ≤ at → Ended 4 n u at r → Ended 0 n u from r
@@ -134,7 +146,8 @@ module _ (s : List ℕ) (c : Scope) (as′ : List Action) (k at : ℕ) where
   unfolding Begins actionsTo
   begins-durative p e h j = rw (h, j) refl
 
-  pub begins-neither : beginsWith s (bytes ":action") at ≡ got other at → beginsWith s (bytes ":durative-action") at ≡ got other at → Begins s c as′ k B.Other (actionsTo (suc k) s c as′ at) at
+  pub begins-neither : beginsWith s (bytes ":action") at ≡ got other at → beginsWith s (bytes ":durative-action") at ≡ got other at
+      → Begins s c as′ k B.Other (actionsTo (suc k) s c as′ at) at
   unfolding Begins actionsTo
   begins-neither h j = rw (h, j) refl
 

@@ -67,7 +67,8 @@ module _ (s : List ℕ) (d : ℕ) (c : Scope) (yes′ : Bool) (n : ℕ) (f g : �
     pub head-at-least : h ≡ W.AtLeast → operated s d c yes′ n h p e ≡ andThen (counted p n e) (compared s d c yes′ (comparisonOf 4))
     head-at-least q = rw q
 
-  pub other-operator : (h : HeadWord) (p e : ℕ) → OneOf (0 ∷ 1 ∷ 7 ∷ 8 ∷ 9 ∷ 10 ∷ 11 ∷ 12 ∷ []) (tagOf head-type.the-type h) → operated s d c yes′ n h p e ≡ refused 3 p
+  pub other-operator : (h : HeadWord) (p e : ℕ) → OneOf (0 ∷ 1 ∷ 7 ∷ 8 ∷ 9 ∷ 10 ∷ 11 ∷ 12 ∷ []) (tagOf head-type.the-type h)
+      → operated s d c yes′ n h p e ≡ refused 3 p
   other-operator W.Equal p e o = absurd (miss (0 ∷ 1 ∷ 7 ∷ 8 ∷ 9 ∷ 10 ∷ 11 ∷ 12 ∷ []) 2 tt o)
   other-operator W.Less p e o = absurd (miss (0 ∷ 1 ∷ 7 ∷ 8 ∷ 9 ∷ 10 ∷ 11 ∷ 12 ∷ []) 3 tt o)
   other-operator W.AtMost p e o = absurd (miss (0 ∷ 1 ∷ 7 ∷ 8 ∷ 9 ∷ 10 ∷ 11 ∷ 12 ∷ []) 4 tt o)

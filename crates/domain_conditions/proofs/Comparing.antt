@@ -87,11 +87,13 @@ module _ (s : List ℕ) (d : ℕ) (c : Scope) (yes′ : Bool) (op : Comparison) 
           let g = wrote-got cellsOf _ _ r₁ m₁ _ i v w₁ e₁ in
           written-refused condCells code u r m₂ _ k p (second-not (g .tree) i k p (g .is) (wrote-not cellsOf m₁ v r₂ m₂ _ k p w₂ e)) q
 
-      pub comparison-done : (j w : ℕ) (r : Progress) → r₂ ≡ A.Done j w → r ≡ closedBy w l (closing s d j) → Written condCells code u r m₂ (comparison s d c yes′ op l at)
+      pub comparison-done : (j w : ℕ) (r : Progress) → r₂ ≡ A.Done j w → r ≡ closedBy w l (closing s d j)
+          → Written condCells code u r m₂ (comparison s d c yes′ op l at)
       comparison-done j w r e q =
           let g = wrote-got cellsOf _ _ r₁ m₁ _ i v w₁ e₁ in
           let y = wrote-got cellsOf m₁ v r₂ m₂ _ j w w₂ e in
           rw (q, both-read (g .tree) (y .tree) i j (g .is) (y .is))
           (both-closed code u w m₂ (g .tree) (y .tree) (closing s d j)
           (omega (arith, g .free, y .free, length-append (cellsOf (g .tree)) (cellsOf (y .tree))))
-          (cells-both code u tag v (cellsOf (g .tree)) (cellsOf (y .tree)) m₁ m₂ (g .free) (g .stored) (y .stored) ∙ ap (λ (t : ℕ). sets code u (t ∷ (cellsOf (g .tree) ++ cellsOf (y .tree)))) et))
+          (cells-both code u tag v (cellsOf (g .tree)) (cellsOf (y .tree)) m₁ m₂ (g .free) (g .stored) (y .stored)
+          ∙ ap (λ (t : ℕ). sets code u (t ∷ (cellsOf (g .tree) ++ cellsOf (y .tree)))) et))

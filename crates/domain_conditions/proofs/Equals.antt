@@ -65,7 +65,8 @@ module _ (s : List ℕ) (d : ℕ) (c : Scope) (yes′ : Bool) (l at : ℕ) where
   same-closed code u m a b (got p n) h = (refl, h)
   same-closed code u m a b (refused k p) h = refl
 
-  cells-same : (code : List ℕ) (u x y tag a b t : ℕ) (m : List ℕ) → a ≡ x → b ≡ y → tag ≡ t → m ≡ set (set (set code u tag) (u + 1) x) (u + 2) y → m ≡ sets code u (t ∷ a ∷ b ∷ [])
+  cells-same : (code : List ℕ) (u x y tag a b t : ℕ) (m : List ℕ) → a ≡ x → b ≡ y → tag ≡ t → m ≡ set (set (set code u tag) (u + 1) x) (u + 2) y
+      → m ≡ sets code u (t ∷ a ∷ b ∷ [])
   cells-same code u x y tag a b t m ea eb et h =
       let one : u + 1 ≡ suc u = omega arith in
       let two : u + 2 ≡ suc (suc u) = omega arith in
@@ -76,7 +77,8 @@ module _ (s : List ℕ) (d : ℕ) (c : Scope) (yes′ : Bool) (l at : ℕ) where
     same-first k p r m e q = written-refused condCells code u r m _ k p (same-not k p (given-refused (argument s d c at) k p (sym e₁ ∙ e))) q
 
     module _ (i x : ℕ) (h₁ : r₁ ≡ A.Done i x) (r₂ : Parsed) (e₂ : r₂ ≡ cellAnswer (argument s d c i)) where
-      pub same-second : (k p : ℕ) (r : Progress) (m : List ℕ) → r₂ ≡ A.Refused k p → r ≡ Refused k p → Written condCells code u r m (sameObjects s d c yes′ l at)
+      pub same-second : (k p : ℕ) (r : Progress) (m : List ℕ) → r₂ ≡ A.Refused k p → r ≡ Refused k p
+          → Written condCells code u r m (sameObjects s d c yes′ l at)
       same-second k p r m e q =
           let g = told (argument s d c at) i x (sym e₁ ∙ h₁) in
           written-refused condCells code u r m _ k p (other-not (g .given) i k p (g .is) (given-refused (argument s d c i) k p (sym e₂ ∙ e))) q

@@ -57,5 +57,6 @@ module _ (s : List ℕ) (d : ℕ) (c : Scope) (yes′ : Bool) (p e : ℕ) where
   referred code u r m l (refused k q) h = ap (passed l) h
 
   pub fact-written : (n i : ℕ) (code : List ℕ) (u : ℕ) (r : Parsed) (m : List ℕ) → lookup (c .predicates) (part s p e) ≡ F.At i → (n ≡ 0 → ⊥)
-      → Wrote (refCells (cond yes′ 4 8)) code u r m (reference s d c (c .predicates) i e) → Written condCells code u (passed (n - 1) r) m (atomAt s d c yes′ n p e e)
+      → Wrote (refCells (cond yes′ 4 8)) code u r m (reference s d c (c .predicates) i e)
+      → Written condCells code u (passed (n - 1) r) m (atomAt s d c yes′ n p e e)
   fact-written n i code u r m q z h = rw (fact-read n i q z) (referred code u r m (n - 1) (reference s d c (c .predicates) i e) h)

@@ -46,11 +46,13 @@ end-written : (code : List ℕ) (u n a : ℕ) (m : List ℕ) → m ≡ set code 
 unfolding Written condsCells
 end-written code u n a m h = (refl, h)
 
-more-written : (code : List ℕ) (u v : ℕ) (m₁ : List ℕ) (x : Cond) (r : Progress) (m : List ℕ) (y : Read (Counted Conds)) → v ≡ u + length (condCells x) → m₁ ≡ sets code u (condCells x)
+more-written : (code : List ℕ) (u v : ℕ) (m₁ : List ℕ) (x : Cond) (r : Progress) (m : List ℕ) (y : Read (Counted Conds))
+    → v ≡ u + length (condCells x) → m₁ ≡ sets code u (condCells x)
     → Written condsCells m₁ v r m y → Written condsCells code u r m (andThen y (λ xs b. got (counts (cons x (xs .tree)) (xs .left)) b))
 unfolding Written condsCells
 more-written code u v m₁ x r m (got t b) ev h w =
-    let long : u + length (condCells x ++ condsCells (t .tree)) ≡ v + length (condsCells (t .tree)) = omega (arith, length-append (condCells x) (condsCells (t .tree))) in (
+    let long : u + length (condCells x ++ condsCells (t .tree)) ≡ v + length (condsCells (t .tree)) =
+    omega (arith, length-append (condCells x) (condsCells (t .tree))) in (
       rw long (w .0),
       w .1 ∙ ap (λ (l : List ℕ). sets l v (condsCells (t .tree))) h ∙ ap (λ (i : ℕ). sets (sets code u (condCells x)) i (condsCells (t .tree))) ev
           ∙ sets-append code u (condCells x) (condsCells (t .tree)),
@@ -67,7 +69,8 @@ pub record Step (s : List ℕ) (d : ℕ) (f : ℕ → Reader (Counted Cond)) (fr
 abbrev pub Onward : List ℕ → ℕ → (ℕ → Reader (Counted Cond)) → ℕ → List ℕ → ℕ → ℕ → List ℕ → ℕ → ℕ → ℕ → Type 0
 Onward s d f from code₀ used left code at u n = (k : ℕ) → length s - from < k → Step s d f from code₀ used left code at u n k
 
-pub onward-start : (s : List ℕ) (d : ℕ) (f : ℕ → Reader (Counted Cond)) (from : ℕ) (code : List ℕ) (used left : ℕ) → Onward s d f from code used left code from used left
+pub onward-start : (s : List ℕ) (d : ℕ) (f : ℕ → Reader (Counted Cond)) (from : ℕ) (code : List ℕ) (used left : ℕ)
+    → Onward s d f from code used left code from used left
 onward-start s d f from code used left k h = record { j = k; enough = h; on = λ r m w. w }
 
 module _ (s : List ℕ) (d : ℕ) (f : ℕ → Reader (Counted Cond)) (from : ℕ) (code₀ : List ℕ) (used left : ℕ) (code : List ℕ) (at u n : ℕ) where
@@ -77,11 +80,13 @@ module _ (s : List ℕ) (d : ℕ) (f : ℕ → Reader (Counted Cond)) (from : �
   at-end k zero enough on p a m e h = absurd (let z : ⊥ = omega (arith, enough) in z)
   at-end k (suc j) enough on p a m e h = on (Done a (u + 1) n) m (rw (list-end s d f j n at p a e) (end-written code u n a m h))
 
-  pub onward-end : Onward s d f from code₀ used left code at u n → (k : ℕ) → length s - from < k → (p a : ℕ) (m : List ℕ) → tokenAt s at ≡ T.Close p a → m ≡ set code u 0
+  pub onward-end : Onward s d f from code₀ used left code at u n → (k : ℕ) → length s - from < k → (p a : ℕ) (m : List ℕ) → tokenAt s at ≡ T.Close p a
+      → m ≡ set code u 0
       → Written condsCells code₀ used (Done a (u + 1) n) m (listTo k s d f left from)
   onward-end w k h p a m e q = at-end k (w k h .j) (w k h .enough) (w k h .on) p a m e q
 
-  module _ (o : OneOf (0 ∷ 1 ∷ 2 ∷ 4 ∷ 5 ∷ 6 ∷ []) (tagOf token-type.the-type (tokenAt s at))) (r₁ : Progress) (m₁ : List ℕ) (w₁ : Written condCells code u r₁ m₁ (f n at)) where
+  module _ (o : OneOf (0 ∷ 1 ∷ 2 ∷ 4 ∷ 5 ∷ 6 ∷ []) (tagOf token-type.the-type (tokenAt s at))) (r₁ : Progress) (m₁ : List ℕ)
+      (w₁ : Written condCells code u r₁ m₁ (f n at)) where
     at-refused : (k j : ℕ) → length s - at < j
         → ((r : Progress) (m : List ℕ) → Written condsCells code u r m (listTo j s d f n at) → Written condsCells code₀ used r m (listTo k s d f left from))
         → (i p : ℕ) → r₁ ≡ Refused i p → Written condsCells code₀ used r₁ m₁ (listTo k s d f left from)
@@ -109,5 +114,6 @@ module _ (s : List ℕ) (d : ℕ) (f : ℕ → Reader (Counted Cond)) (from : �
               (more-written code u v m₁ (g .tree .tree) r m (listTo j s d f (g .tree .left) a) (g .free) (g .stored) (rw (g .left) at w)));
         }
 
-    pub onward-more : Onward s d f from code₀ used left code at u n → (a v l : ℕ) → at < a → a ≤ length s → r₁ ≡ Done a v l → Onward s d f from code₀ used left m₁ a v l
+    pub onward-more : Onward s d f from code₀ used left code at u n → (a v l : ℕ) → at < a → a ≤ length s → r₁ ≡ Done a v l
+        → Onward s d f from code₀ used left m₁ a v l
     onward-more w a v l lo hi e k h = one-more k (w k h .j) (w k h .enough) (w k h .on) a v l lo hi e

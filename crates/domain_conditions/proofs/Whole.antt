@@ -30,7 +30,8 @@ use Rattle.domain_conditions.specs.declared.heads.ConditionHead.the-vari
 
 -- ---- what is read, by the head
 
-module _ (s : List ℕ) (d : ℕ) (c : Scope) (yes′ : Bool) (n : ℕ) (f g : ℕ → ℕ → Reader (Counted Cond)) (r : ConditionHead) (x : Read (Counted Cond)) (h : Begins s d c yes′ n f g r x) where
+module _ (s : List ℕ) (d : ℕ) (c : Scope) (yes′ : Bool) (n : ℕ) (f g : ℕ → ℕ → Reader (Counted Cond)) (r : ConditionHead) (x : Read (Counted Cond))
+    (h : Begins s d c yes′ n f g r x) where
   pub by-and : (p e : ℕ) → r ≡ H.And p e → x ≡ f p e e
   unfolding Begins
   by-and p e q = rw q at h
@@ -68,7 +69,8 @@ module _ (s : List ℕ) (d : ℕ) (c : Scope) (yes′ : Bool) (n : ℕ) (f g : �
 
 -- ---- no bracket opens where no level is left
 
-never-open : {B : Type 0} (t : Token) (f g : ℕ → Reader B) → andThen (onOpen t (λ p. refuse 12 p) (wrong 0 t) (afterOf t)) f ≡ andThen (onOpen t (λ p. refuse 12 p) (wrong 0 t) (afterOf t)) g
+never-open : {B : Type 0} (t : Token) (f g : ℕ → Reader B) → andThen (onOpen t (λ p. refuse 12 p) (wrong 0 t) (afterOf t)) f ≡ andThen
+    (onOpen t (λ p. refuse 12 p) (wrong 0 t) (afterOf t)) g
 never-open (T.Word k p e) f g = refl
 never-open (T.Number z p e) f g = refl
 never-open (T.Open p n) f g = refl
@@ -104,7 +106,8 @@ module _ (s : List ℕ) (c : Scope) (n : ℕ) where
   head-negation d (T.Refusal k p) a = refl
   head-negation d (T.End p) a = refl
 
-  condition-bracket : (d at : ℕ) → condition d s c n at ≡ inBracket s d c true n (λ p e. conjunction s (d - 1) (condition (d - 1) s c) n) (λ p e. negation s (d - 1) c n) at
+  condition-bracket : (d at : ℕ) → condition d s c n at ≡ inBracket s d c true n (λ p e. conjunction s (d - 1) (condition (d - 1) s c) n)
+      (λ p e. negation s (d - 1) c n) at
   unfolding condition opening
   condition-bracket zero at = never-open (tokenAt s at) _ _
   condition-bracket (suc d) at =
@@ -115,11 +118,13 @@ module _ (s : List ℕ) (c : Scope) (n : ℕ) where
       ≡ andThen (inBracket s d c false n (λ p e. refuse 11 p) (λ p e. atomAt s (d - 1) c false n p e) at) (λ x b. andThen (closing s d b) (λ _ z. got x z))
   unfolding negation
   negation-bracket d at =
-      then-same (opening s d at) _ _ (λ p b. ap (λ (y : Read (Counted Cond)). andThen y (λ x i. andThen (closing s d i) (λ _ z. got x z))) (head-negation (d - 1) (tokenAt s b) (afterOf (tokenAt s b))))
+      then-same (opening s d at) _ _ (λ p b. ap (λ (y : Read (Counted Cond)). andThen y (λ x i. andThen (closing s d i) (λ _ z. got x z)))
+      (head-negation (d - 1) (tokenAt s b) (afterOf (tokenAt s b))))
       ∙ sym (then-then (opening s d at) _ _)
 
 module _ (s : List ℕ) (d : ℕ) (c : Scope) (n at : ℕ) (r : ConditionHead)
-    (h : Begins s (d - 1) c true n (λ p e. conjunction s (d - 1) (condition (d - 1) s c) n) (λ p e. negation s (d - 1) c n) r (inBracket s d c true n (λ p e. conjunction s (d - 1) (condition (d - 1) s c) n) (λ p e. negation s (d - 1) c n) at)) where
+    (h : Begins s (d - 1) c true n (λ p e. conjunction s (d - 1) (condition (d - 1) s c) n) (λ p e. negation s (d - 1) c n) r
+    (inBracket s d c true n (λ p e. conjunction s (d - 1) (condition (d - 1) s c) n) (λ p e. negation s (d - 1) c n) at)) where
   pub condition-and : (p e : ℕ) → r ≡ H.And p e → condition d s c n at ≡ conjunction s (d - 1) (condition (d - 1) s c) n e
   condition-and p e q = condition-bracket s c n d at ∙ by-and s (d - 1) c true n _ _ r _ h p e q
 
@@ -132,7 +137,8 @@ module _ (s : List ℕ) (d : ℕ) (c : Scope) (n at : ℕ) (r : ConditionHead)
   pub condition-comparison : (k e m : ℕ) → r ≡ H.Compared k e m → condition d s c n at ≡ compared s (d - 1) c true (comparisonOf k) m e
   condition-comparison k e m q = condition-bracket s c n d at ∙ by-comparison s (d - 1) c true n _ _ r _ h k e m q
 
-  pub condition-other : (a : Parsed) (l : ℕ) (code : List ℕ) (u : ℕ) (b : Progress) → r ≡ H.Other a → b ≡ passed l a → Written condCells code u b code (condition d s c n at)
+  pub condition-other : (a : Parsed) (l : ℕ) (code : List ℕ) (u : ℕ) (b : Progress) → r ≡ H.Other a → b ≡ passed l a
+      → Written condCells code u b code (condition d s c n at)
   condition-other a l code u b q e = rw (condition-bracket s c n d at) (by-other s (d - 1) c true n _ _ r _ h a l code u b q e)
 
   pub condition-ended : (a : Parsed) (l most u from : ℕ) (b : Progress) → r ≡ H.Other a → b ≡ passed l a → Spent 0 most u from b
@@ -140,7 +146,8 @@ module _ (s : List ℕ) (d : ℕ) (c : Scope) (n at : ℕ) (r : ConditionHead)
 
 -- ---- behind `not`
 
-closed-written : (code : List ℕ) (u v l : ℕ) (m : List ℕ) (t : Counted Cond) (x : Read ℕ) → v ≡ u + length (condCells (t .tree)) → l ≡ t .left → m ≡ sets code u (condCells (t .tree))
+closed-written : (code : List ℕ) (u v l : ℕ) (m : List ℕ) (t : Counted Cond) (x : Read ℕ) → v ≡ u + length (condCells (t .tree)) → l ≡ t .left
+    → m ≡ sets code u (condCells (t .tree))
     → Written condCells code u (closedBy v l x) m (andThen x (λ _ z. got t z))
 unfolding Written
 closed-written code u v l m t (got p n) ev el h = (rw (ev, el), h)
@@ -151,7 +158,8 @@ module _ (s : List ℕ) (d : ℕ) (c : Scope) (n at : ℕ) (code : List ℕ) (u 
   pub negation-refused : (k p : ℕ) → r₁ ≡ Refused k p → Written condCells code u r₁ m (negation s d c n at)
   negation-refused k p e =
       written-refused condCells code u r₁ m _ k p
-      (negation-bracket s c n d at ∙ ap (λ (y : Read (Counted Cond)). andThen y (λ x b. andThen (closing s d b) (λ _ z. got x z))) (written-not condCells code u r₁ m _ k p w e)) e
+      (negation-bracket s c n d at ∙ ap (λ (y : Read (Counted Cond)). andThen y (λ x b. andThen (closing s d b) (λ _ z. got x z)))
+      (written-not condCells code u r₁ m _ k p w e)) e
 
   pub negation-done : (a v l : ℕ) (r : Progress) → r₁ ≡ Done a v l → r ≡ closedBy v l (closing s d a) → Written condCells code u r m (negation s d c n at)
   negation-done a v l r e q =

@@ -22,7 +22,8 @@ use Rattle.domain_domain_text.specs.Knowing.{Preceded, Knows}
 
 -- ---- what stands before the actions, by its answer
 
-pub preceded : (x : Read Vocabulary) (s tables : List ℕ) (r : Preamble) (n p e : ℕ) (c : Counts) → x ≡ vocabulary s 0 → Declares s r tables x → r ≡ B.Done n p e c
+pub preceded : (x : Read Vocabulary) (s tables : List ℕ) (r : Preamble) (n p e : ℕ) (c : Counts) → x ≡ vocabulary s 0 → Declares s r tables x
+    → r ≡ B.Done n p e c
     → (v : Vocabulary) × Preceded s n p e c tables v × (6 ≤ n) × (n ≤ length s)
 unfolding Declares
 preceded (got v m) s tables r n p e c i h q =
@@ -50,18 +51,21 @@ unfolding Declares
 undeclared (got v m) s tables r k p h q = absurd (let g = h .is in let z : _≡_ {A = ℕ} 0 1 = cc in let y : ⊥ = omega arith in y)
 undeclared (refused j i) s tables r k p h q = let z : j ≡ k = cc in let y : i ≡ p = cc in cc
 
-knows-refused : (s code starts : List ℕ) (tables rows code′ starts′ : List ℕ) (k p : ℕ) → readDomain s ≡ refused k p → Knows s code starts (Refused k p) tables rows code′ starts′ (readDomain s)
+knows-refused : (s code starts : List ℕ) (tables rows code′ starts′ : List ℕ) (k p : ℕ) → readDomain s ≡ refused k p
+    → Knows s code starts (Refused k p) tables rows code′ starts′ (readDomain s)
 unfolding Knows
 knows-refused s code starts tables rows code′ starts′ k p e = rw e refl
 
 pub no-preamble : (s code starts tables rows code′ starts′ : List ℕ) (r : Preamble) (k p : ℕ) → Declares s r tables (vocabulary s 0) → r ≡ B.Refused k p
     → Knows s code starts (Refused k p) tables rows code′ starts′ (readDomain s)
 unfolding readDomain domainText
-no-preamble s code starts tables rows code′ starts′ r k p h e = knows-refused s code starts tables rows code′ starts′ k p (rw (undeclared (vocabulary s 0) s tables r k p h e) refl)
+no-preamble s code starts tables rows code′ starts′ r k p h e =
+    knows-refused s code starts tables rows code′ starts′ k p (rw (undeclared (vocabulary s 0) s tables r k p h e) refl)
 
 -- ---- the actions and the end
 
-stores-got : (n : ℕ) (code starts : List ℕ) (r : Parsed) (rows code′ starts′ : List ℕ) (x : Read (List Action)) (a v : ℕ) → Stores n code starts r rows code′ starts′ x → r ≡ A.Done a v
+stores-got : (n : ℕ) (code starts : List ℕ) (r : Parsed) (rows code′ starts′ : List ℕ) (x : Read (List Action)) (a v : ℕ)
+    → Stores n code starts r rows code′ starts′ x → r ≡ A.Done a v
     → (bs : List Action) × (x ≡ got bs a) × Stored n code starts r rows code′ starts′ bs a × (v ≡ length bs)
 unfolding Stores
 stores-got n code starts r rows code′ starts′ (got bs m) a v w e =
@@ -71,7 +75,8 @@ stores-got n code starts r rows code′ starts′ (got bs m) a v w e =
     (bs, rw i refl, rw i at w, sym j)
 stores-got n code starts r rows code′ starts′ (refused k p) a v w e = never-done k p a v (sym w ∙ e)
 
-stores-not : (n : ℕ) (code starts : List ℕ) (r : Parsed) (rows code′ starts′ : List ℕ) (x : Read (List Action)) (k p : ℕ) → Stores n code starts r rows code′ starts′ x → r ≡ A.Refused k p → x ≡ refused k p
+stores-not : (n : ℕ) (code starts : List ℕ) (r : Parsed) (rows code′ starts′ : List ℕ) (x : Read (List Action)) (k p : ℕ)
+    → Stores n code starts r rows code′ starts′ x → r ≡ A.Refused k p → x ≡ refused k p
 unfolding Stores
 stores-not n code starts r rows code′ starts′ (got bs m) k p w e = never-done k p m (length bs) (sym e ∙ w .answer)
 stores-not n code starts r rows code′ starts′ (refused j q) k p w e =
@@ -80,7 +85,8 @@ stores-not n code starts r rows code′ starts′ (refused j q) k p w e =
     let l : q ≡ p = cc in
     rw (i, l)
 
-module _ (s code starts : List ℕ) (at p e : ℕ) (counts : Counts) (tables : List ℕ) (v : Vocabulary) (b : Preceded s at p e counts tables v) (r : Parsed) (rows code′ starts′ : List ℕ)
+module _ (s code starts : List ℕ) (at p e : ℕ) (counts : Counts) (tables : List ℕ) (v : Vocabulary) (b : Preceded s at p e counts tables v)
+    (r : Parsed) (rows code′ starts′ : List ℕ)
     (w : Stores (length s) code starts r rows code′ starts′ (actionsTo (length s + 1) s (scopeIn v) [] at)) where
   pub no-actions : (k q : ℕ) → r ≡ A.Refused k q → Knows s code starts (Refused k q) tables rows code′ starts′ (readDomain s)
   unfolding readDomain domainText

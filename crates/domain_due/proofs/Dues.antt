@@ -21,7 +21,8 @@ use Rattle.text_tokens.proofs.tokens.Token as token-type
 use Rattle.text_tokens.proofs.tokens.Word as word-type
 use Rattle.text_tokens.proofs.Within.{Within, token-within}
 use Rattle.domain_meaning.specs.Read.{Read, got, refused, give, refuse}
-use Rattle.domain_meaning.specs.Due.{afterOf, numberOf, placeOf, wrong, onWord, onNumber, onOpen, onClose, onRefusal, onEnd, opening, closing, wordDue, isNameWord, Name, anyName, newName}
+use Rattle.domain_meaning.specs.Due.{afterOf, numberOf, placeOf, wrong, onWord, onNumber, onOpen, onClose, onRefusal, onEnd, opening, closing, wordDue}
+use Rattle.domain_meaning.specs.Due.{isNameWord, Name, anyName, newName}
 use Rattle.domain_due.specs.Answers.{answerOf, nameOf, Ahead}
 use Rattle.domain_due.specs.declared.Parsed.{Parsed}
 use Rattle.domain_due.specs.declared.Parsed.the-variants.{Done, Refused}
@@ -148,7 +149,8 @@ module _ (s : List ℕ) (d at : ℕ) where
   unfolding opening
   opening-deep p n e z = (rw (e, eq-eqb d 0 z), ahead-refused _ _ _ _ _ refl)
 
-  pub opening-read : (p n : ℕ) → at ≤ length s → tokenAt s at ≡ T.Open p n → (d ≡ 0 → ⊥) → (Done n p ≡ answerOf (opening s d at)) × Ahead (length s) at (Done n p)
+  pub opening-read : (p n : ℕ) → at ≤ length s → tokenAt s at ≡ T.Open p n → (d ≡ 0 → ⊥) → (Done n p ≡ answerOf (opening s d at))
+      × Ahead (length s) at (Done n p)
   unfolding opening
   opening-read p n h e z = let w = open-in s at h p n e in (rw (e, ne-eqb d 0 z), ahead-by _ _ _ _ (w .0) (w .1))
 

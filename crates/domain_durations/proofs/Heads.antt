@@ -37,7 +37,8 @@ module _ (s : List ℕ) (t : Token) where
   pub head-refused : (k p : ℕ) → t ≡ T.Refusal k p → (k ≡ 5 → ⊥) → Refused k p ≡ answerOf (ruleHead s t (afterOf t))
   head-refused k p e h = rw (e, ne-eqb k 5 h)
 
-  pub head-else : (r : Parsed) → OneOf (0 ∷ 1 ∷ 2 ∷ 3 ∷ 4 ∷ 6 ∷ []) (tagOf token-type.the-type t) → OneOf (1 ∷ 2 ∷ 3 ∷ 4 ∷ 5 ∷ 6 ∷ []) (tagOf token-type.the-type t)
+  pub head-else : (r : Parsed) → OneOf (0 ∷ 1 ∷ 2 ∷ 3 ∷ 4 ∷ 6 ∷ []) (tagOf token-type.the-type t)
+      → OneOf (1 ∷ 2 ∷ 3 ∷ 4 ∷ 5 ∷ 6 ∷ []) (tagOf token-type.the-type t)
       → r ≡ Refused (numberOf 13 t) (placeOf t) → r ≡ answerOf (ruleHead s t (afterOf t))
   head-else r o n q = rw (not-word t _ _ n, not-refusal t _ _ o) q
 
@@ -97,7 +98,8 @@ module _ (s : List ℕ) (at : ℕ) (r : Parsed) (q : r ≡ answerOf (opening s 1
           let h = answer-done (ruleHead s (tokenAt s a) (afterOf (tokenAt s a))) b w (sym q₂ ∙ i) in
           stops s at (ruleBegun s at) r₃ (numberOf 13 t) (placeOf t) (rw (o, h, f, ← g)) j
 
-      pub begun-read : (p n : ℕ) → spotAt s b (bytes "?duration") ≡ P.At p n → at < n → n ≤ length s → (Done n p ≡ answerOf (ruleBegun s at)) × Ahead (length s) at (Done n p)
+      pub begun-read : (p n : ℕ) → spotAt s b (bytes "?duration") ≡ P.At p n → at < n → n ≤ length s → (Done n p ≡ answerOf (ruleBegun s at))
+          × Ahead (length s) at (Done n p)
       unfolding ruleBegun
       begun-read p n f lo hi =
           let o = answer-done (opening s 14 at) a v (sym q ∙ e) in

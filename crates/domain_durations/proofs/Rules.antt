@@ -46,7 +46,8 @@ rule-parts s c at = go (opening s 14 at)
     go (got v n) = sym (then-then (headOf s v n) (spotOf s) (λ _. behind s c))
     go (refused k p) = refl
 
-rule-got : (s : List ℕ) (c : Scope) (at v a : ℕ) (x : Expr) (b p n : ℕ) → ruleBegun s at ≡ got v a → expression s 13 c a ≡ got x b → closing s 13 b ≡ got p n → durationRule s c at ≡ got x n
+rule-got : (s : List ℕ) (c : Scope) (at v a : ℕ) (x : Expr) (b p n : ℕ) → ruleBegun s at ≡ got v a → expression s 13 c a ≡ got x b
+    → closing s 13 b ≡ got p n → durationRule s c at ≡ got x n
 rule-got s c at v a x b p n i j k = rule-parts s c at ∙ rw (i, j, k)
 
 module _ (s : List ℕ) (c : Scope) (at : ℕ) (code : List ℕ) (u : ℕ) (r : Parsed) (q : r ≡ answerOf (ruleBegun s at)) where
@@ -90,7 +91,8 @@ pub reached-refused : (n u at k p : ℕ) (r : Parsed) → r ≡ Refused k p → 
 unfolding Reached
 reached-refused n u at k p r e = rw e tt
 
-lasts : (code : List ℕ) (u : ℕ) (r : Parsed) (m : List ℕ) (x : Read Expr) → Wrote cellsOf (set code u 1) (u + 1) r m x → Wrote lastingCells code u r m (andThen x (λ y. give (rule y)))
+lasts : (code : List ℕ) (u : ℕ) (r : Parsed) (m : List ℕ) (x : Read Expr) → Wrote cellsOf (set code u 1) (u + 1) r m x
+    → Wrote lastingCells code u r m (andThen x (λ y. give (rule y)))
 unfolding Wrote lastingCells
 lasts code u r m (got y n) h =
     let e : u + 1 + length (cellsOf y) ≡ u + suc (length (cellsOf y)) = omega arith in

@@ -40,7 +40,10 @@ module _ (s : List ℕ) (d : ℕ) (c : Scope) (from : ℕ) (tag : ℕ) (code : L
     pub target-unnamed : (k p : ℕ) (m : List ℕ) → b ≡ A.Refused k p → Wrote (refCells tag) code u b m (target s d c from)
     unfolding target
     target-unnamed k p m q =
-        wrote-refused (refCells tag) code u b m _ k p (rw (answer-done (opening s d from) next o (sym ea ∙ qa), name-refused (anyName s (d - 1) next) k p (sym eb ∙ q))) q
+        wrote-refused (refCells tag) code u b m _ k p (rw (
+          answer-done (opening s d from) next o (sym ea ∙ qa),
+          name-refused (anyName s (d - 1) next) k p (sym eb ∙ q),
+        )) q
 
     module _ (e p : ℕ) (qb : b ≡ A.Done e p) where
       pub target-missing : (m : List ℕ) → lookup (c .functions) (part s p e) ≡ F.Nothing → Wrote (refCells tag) code u (A.Refused 8 p) m (target s d c from)
@@ -79,13 +82,16 @@ module _ (s : List ℕ) (d : ℕ) (c : Scope) (how : Change) (p e : ℕ) where
   change-many n z = rw z
 
   change-read : (n : ℕ) → (n ≡ 0 → ⊥)
-      → changeAt s d c how n p e ≡ andThen (target s d c e) (λ r a. andThen (expression s d c a) (λ x b. andThen (closing s d b) (λ _ k. got (counts (changes how r x ∷ []) (n - 1)) k)))
+      → changeAt s d c how n p e ≡ andThen (target s d c e) (λ r a. andThen (expression s d c a)
+      (λ x b. andThen (closing s d b) (λ _ k. got (counts (changes how r x ∷ []) (n - 1)) k)))
   unfolding changeAt counted
   change-read zero z = absurd (z refl)
   change-read (suc n) z = let k : suc n - 1 ≡ n = omega arith in rw k
 
-  module _ (n : ℕ) (z : n ≡ 0 → ⊥) (tag : ℕ) (et : tag ≡ changeCell how) (code : List ℕ) (u : ℕ) (a : Parsed) (m₁ : List ℕ) (wa : Wrote (refCells tag) code u a m₁ (target s d c e)) where
-    pub change-untargeted : (k q : ℕ) (r : Progress) (m : List ℕ) → a ≡ A.Refused k q → r ≡ passed n a → Written effectsCells code u r m (changeAt s d c how n p e)
+  module _ (n : ℕ) (z : n ≡ 0 → ⊥) (tag : ℕ) (et : tag ≡ changeCell how) (code : List ℕ) (u : ℕ) (a : Parsed) (m₁ : List ℕ)
+      (wa : Wrote (refCells tag) code u a m₁ (target s d c e)) where
+    pub change-untargeted : (k q : ℕ) (r : Progress) (m : List ℕ) → a ≡ A.Refused k q → r ≡ passed n a
+        → Written effectsCells code u r m (changeAt s d c how n p e)
     change-untargeted k q r m h j =
         written-refused effectsCells code u r m _ k q (rw (change-read n z, wrote-not (refCells tag) code u a m₁ _ k q wa h)) (j ∙ ap (passed n) h)
 
@@ -93,7 +99,8 @@ module _ (s : List ℕ) (d : ℕ) (c : Scope) (how : Change) (p e : ℕ) where
       target-is : Took (refCells tag) code u m₁ after v (target s d c e)
       target-is = wrote-got (refCells tag) code u a m₁ _ after v wa qa
 
-      pub change-valueless : (k q : ℕ) (r : Progress) (m : List ℕ) → x ≡ A.Refused k q → r ≡ passed n x → Written effectsCells code u r m (changeAt s d c how n p e)
+      pub change-valueless : (k q : ℕ) (r : Progress) (m : List ℕ) → x ≡ A.Refused k q → r ≡ passed n x
+          → Written effectsCells code u r m (changeAt s d c how n p e)
       change-valueless k q r m h j =
           written-refused effectsCells code u r m _ k q (rw (change-read n z, target-is .is, wrote-not cellsOf m₁ v x m₂ _ k q wx h)) (j ∙ ap (passed n) h)
 
@@ -101,7 +108,8 @@ module _ (s : List ℕ) (d : ℕ) (c : Scope) (how : Change) (p e : ℕ) where
         value-is : Took cellsOf m₁ v m₂ end free (expression s d c after)
         value-is = wrote-got cellsOf m₁ v x m₂ _ end free wx qx
 
-        pub change-unclosed : (k q : ℕ) (r : Progress) (m : List ℕ) → b ≡ A.Refused k q → r ≡ passed n b → Written effectsCells code u r m (changeAt s d c how n p e)
+        pub change-unclosed : (k q : ℕ) (r : Progress) (m : List ℕ) → b ≡ A.Refused k q → r ≡ passed n b
+            → Written effectsCells code u r m (changeAt s d c how n p e)
         change-unclosed k q r m h j =
             written-refused effectsCells code u r m _ k q
             (rw (change-read n z, target-is .is, value-is .is, answer-refused (closing s d end) k q (sym eb ∙ h))) (j ∙ ap (passed n) h)
@@ -118,5 +126,12 @@ module _ (s : List ℕ) (d : ℕ) (c : Scope) (how : Change) (p e : ℕ) where
         pub change-stored : (next o : ℕ) → b ≡ A.Done next o → Written effectsCells code u (Done next free (n - 1)) m₂ (changeAt s d c how n p e)
         unfolding Written
         change-stored next o h =
-            rw (change-read n z, target-is .is, value-is .is, answer-done (closing s d end) next o (sym eb ∙ h), change-cells how tag (target-is .tree) (value-is .tree) et, ← long)
+            rw (
+              change-read n z,
+              target-is .is,
+              value-is .is,
+              answer-done (closing s d end) next o (sym eb ∙ h),
+              change-cells how tag (target-is .tree) (value-is .tree) et,
+              ← long,
+            )
             (refl, all-stored)

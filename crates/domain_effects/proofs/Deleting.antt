@@ -36,7 +36,8 @@ use Rattle.domain_stored_meaning.specs.Cells.{effectsCells}
 
 -- ---- in the brackets
 
-not-and : {A : Type 0} (h : HeadWord) (a o : A) → OneOf (1 ∷ 2 ∷ 3 ∷ 4 ∷ 5 ∷ 6 ∷ 7 ∷ 8 ∷ 9 ∷ 10 ∷ 11 ∷ 12 ∷ []) (tagOf head-type.the-type h) → onName h a o o ≡ o
+not-and : {A : Type 0} (h : HeadWord) (a o : A) → OneOf (1 ∷ 2 ∷ 3 ∷ 4 ∷ 5 ∷ 6 ∷ 7 ∷ 8 ∷ 9 ∷ 10 ∷ 11 ∷ 12 ∷ []) (tagOf head-type.the-type h)
+    → onName h a o o ≡ o
 not-and H.And a o k = absurd (miss (1 ∷ 2 ∷ 3 ∷ 4 ∷ 5 ∷ 6 ∷ 7 ∷ 8 ∷ 9 ∷ 10 ∷ 11 ∷ 12 ∷ []) 0 tt k)
 not-and H.Not a o k = refl
 not-and H.Equal a o k = refl
@@ -58,22 +59,26 @@ module _ (s : List ℕ) (d : ℕ) (c : Scope) (n at : ℕ) where
   other-word W.Keyword p e o = refl
   other-word W.Operator p e o = refl
 
-  pub deleted-else : (t : Token) → t ≡ tokenAt s at → OneOf (1 ∷ 2 ∷ 3 ∷ 4 ∷ 5 ∷ 6 ∷ []) (tagOf token-type.the-type t) → inDeletion s d c n at ≡ refused (numberOf d t) (placeOf t)
+  pub deleted-else : (t : Token) → t ≡ tokenAt s at → OneOf (1 ∷ 2 ∷ 3 ∷ 4 ∷ 5 ∷ 6 ∷ []) (tagOf token-type.the-type t)
+      → inDeletion s d c n at ≡ refused (numberOf d t) (placeOf t)
   deleted-else t e o = rw (← e, not-word t _ _ o)
 
-  pub deleted-other : (k : Word) (p e : ℕ) → tokenAt s at ≡ T.Word k p e → OneOf (1 ∷ 2 ∷ 3 ∷ []) (tagOf word-type.the-type k) → inDeletion s d c n at ≡ refused 3 p
+  pub deleted-other : (k : Word) (p e : ℕ) → tokenAt s at ≡ T.Word k p e → OneOf (1 ∷ 2 ∷ 3 ∷ []) (tagOf word-type.the-type k)
+      → inDeletion s d c n at ≡ refused 3 p
   deleted-other k p e q o = rw q (other-word k p e o)
 
   module _ (k : Word) (p e : ℕ) (q : tokenAt s at ≡ T.Word k p e) (h : k ≡ W.Name) where
     pub deleted-list : headOf (part s p e) ≡ H.And → inDeletion s d c n at ≡ refused 11 p
     deleted-list o = rw (q, h, o)
 
-    pub deleted-fact : OneOf (1 ∷ 2 ∷ 3 ∷ 4 ∷ 5 ∷ 6 ∷ 7 ∷ 8 ∷ 9 ∷ 10 ∷ 11 ∷ 12 ∷ []) (tagOf head-type.the-type (headOf (part s p e))) → inDeletion s d c n at ≡ becomesAt s d c false n p e e
+    pub deleted-fact : OneOf (1 ∷ 2 ∷ 3 ∷ 4 ∷ 5 ∷ 6 ∷ 7 ∷ 8 ∷ 9 ∷ 10 ∷ 11 ∷ 12 ∷ []) (tagOf head-type.the-type (headOf (part s p e)))
+        → inDeletion s d c n at ≡ becomesAt s d c false n p e e
     deleted-fact o = rw (q, h, not-and (headOf (part s p e)) _ _ o)
 
 -- ---- with its brackets
 
-arrived : (code : List ℕ) (u : ℕ) (t : Counted (List Effect)) (after v l : ℕ) (m : List ℕ) → v ≡ u + length (effectsCells (t .tree)) → l ≡ t .left → m ≡ sets code u (effectsCells (t .tree))
+arrived : (code : List ℕ) (u : ℕ) (t : Counted (List Effect)) (after v l : ℕ) (m : List ℕ) → v ≡ u + length (effectsCells (t .tree)) → l ≡ t .left
+    → m ≡ sets code u (effectsCells (t .tree))
     → Written effectsCells code u (Done after v l) m (got t after)
 unfolding Written
 arrived code u t after v l m free left stored = (rw (free, left), stored)
@@ -91,7 +96,8 @@ module _ (s : List ℕ) (d : ℕ) (c : Scope) (n from : ℕ) (code : List ℕ) (
         (rw (answer-done (opening s d from) next o (sym ea ∙ qa), written-not effectsCells code u x m₁ (inDeletion s (d - 1) c n next) k p wx q)) q
 
     module _ (end v l : ℕ) (qx : x ≡ Done end v l) (b : Parsed) (eb : b ≡ answerOf (closing s d end)) where
-      pub deletion-unclosed : (k p : ℕ) (r : Progress) (m : List ℕ) → b ≡ A.Refused k p → r ≡ passed n b → Written effectsCells code u r m (deletion s d c n from)
+      pub deletion-unclosed : (k p : ℕ) (r : Progress) (m : List ℕ) → b ≡ A.Refused k p → r ≡ passed n b
+          → Written effectsCells code u r m (deletion s d c n from)
       unfolding deletion
       deletion-unclosed k p r m q j =
           let g = written-got effectsCells code u x m₁ (inDeletion s (d - 1) c n next) end v l wx qx in

@@ -27,7 +27,8 @@ use Rattle.domain_stored_meaning.specs.Cells.{effectCells, effectsCells}
 
 -- ---- places
 
-pub spent-from : (r : Progress) (more less n u w at from : ℕ) → from ≤ at → u ≤ w → w + from + more ≤ u + at + less → Spent more n w at r → Spent less n u from r
+pub spent-from : (r : Progress) (more less n u w at from : ℕ) → from ≤ at → u ≤ w → w + from + more ≤ u + at + less → Spent more n w at r
+    → Spent less n u from r
 unfolding Spent
 spent-from (Done a v l) more less n u w at from i j k h = (omega (arith, h .0), h .1, omega (arith, h .2), omega (arith, h .3))
 spent-from (Refused k p) more less n u w at from i j q h = tt
@@ -84,6 +85,7 @@ module _ (s : List ℕ) (d : ℕ) (c : Scope) (yes′ : Bool) (p e : ℕ) where
   fact-read zero i q z = absurd (z refl)
   fact-read (suc n) i q z = let k : suc n - 1 ≡ n = omega arith in rw (q, k)
 
-  pub fact-stored : (n i tag : ℕ) (code : List ℕ) (u : ℕ) (r : Parsed) (m : List ℕ) → tag ≡ cond yes′ 4 8 → lookup (c .predicates) (part s p e) ≡ F.At i → (n ≡ 0 → ⊥)
+  pub fact-stored : (n i tag : ℕ) (code : List ℕ) (u : ℕ) (r : Parsed) (m : List ℕ) → tag ≡ cond yes′ 4 8
+      → lookup (c .predicates) (part s p e) ≡ F.At i → (n ≡ 0 → ⊥)
       → Wrote (refCells tag) code u r m (reference s d c (c .predicates) i e) → Written effectsCells code u (passed (n - 1) r) m (becomesAt s d c yes′ n p e e)
   fact-stored n i tag code u r m t q z h = rw (fact-read n i q z) (fact-written yes′ code u r m (n - 1) (reference s d c (c .predicates) i e) (rw t at h))

@@ -53,7 +53,8 @@ module _ (s : List ℕ) (d : ℕ) (c : Scope) (f : ℕ → Reader (Counted (List
     unfolding Leads
     lead-lower q = rw q (lower, refl, refl)
 
-  pub lead-fact : (h : HeadWord) (p e : ℕ) → OneOf (2 ∷ 3 ∷ 4 ∷ 5 ∷ 6 ∷ 7 ∷ 8 ∷ 12 ∷ []) (tagOf head-type.the-type h) → Leads s d c f n (L.Fact p e) (effectHead s d c f n h p e e)
+  pub lead-fact : (h : HeadWord) (p e : ℕ) → OneOf (2 ∷ 3 ∷ 4 ∷ 5 ∷ 6 ∷ 7 ∷ 8 ∷ 12 ∷ []) (tagOf head-type.the-type h)
+      → Leads s d c f n (L.Fact p e) (effectHead s d c f n h p e e)
   unfolding Leads
   lead-fact H.And p e o = absurd (miss (2 ∷ 3 ∷ 4 ∷ 5 ∷ 6 ∷ 7 ∷ 8 ∷ 12 ∷ []) 0 tt o)
   lead-fact H.Not p e o = absurd (miss (2 ∷ 3 ∷ 4 ∷ 5 ∷ 6 ∷ 7 ∷ 8 ∷ 12 ∷ []) 1 tt o)
@@ -85,10 +86,12 @@ module _ (s : List ℕ) (d : ℕ) (c : Scope) (f : ℕ → Reader (Counted (List
   other-word W.Operator p e o = refl
 
   module _ (at : ℕ) where
-    pub head-else : (t : Token) → t ≡ tokenAt s at → OneOf (1 ∷ 2 ∷ 3 ∷ 4 ∷ 5 ∷ 6 ∷ []) (tagOf token-type.the-type t) → inBracket s d c f n at ≡ refused (numberOf d t) (placeOf t)
+    pub head-else : (t : Token) → t ≡ tokenAt s at → OneOf (1 ∷ 2 ∷ 3 ∷ 4 ∷ 5 ∷ 6 ∷ []) (tagOf token-type.the-type t)
+        → inBracket s d c f n at ≡ refused (numberOf d t) (placeOf t)
     head-else t e o = rw (← e, not-word t _ _ o)
 
-    pub head-other : (k : Word) (p e : ℕ) → tokenAt s at ≡ T.Word k p e → OneOf (1 ∷ 2 ∷ 3 ∷ []) (tagOf word-type.the-type k) → inBracket s d c f n at ≡ refused 3 p
+    pub head-other : (k : Word) (p e : ℕ) → tokenAt s at ≡ T.Word k p e → OneOf (1 ∷ 2 ∷ 3 ∷ []) (tagOf word-type.the-type k)
+        → inBracket s d c f n at ≡ refused 3 p
     head-other k p e q o = rw q (other-word k p e o)
 
     pub head-name : (k : Word) (p e : ℕ) → tokenAt s at ≡ T.Word k p e → k ≡ W.Name → inBracket s d c f n at ≡ effectHead s d c f n (headOf (part s p e)) p e e

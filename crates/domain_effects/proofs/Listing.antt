@@ -35,15 +35,20 @@ written-none : (code : List ℕ) (u n next : ℕ) → Written effectsCells code 
 unfolding Written effectsCells
 written-none code u n next = rw (add-zero u) (refl, refl)
 
-module _ (code : List ℕ) (u : ℕ) (xs : List Effect) (v : ℕ) (m₁ : List ℕ) (free : v ≡ u + length (effectsCells xs)) (stored : m₁ ≡ sets code u (effectsCells xs)) where
+module _ (code : List ℕ) (u : ℕ) (xs : List Effect) (v : ℕ) (m₁ : List ℕ) (free : v ≡ u + length (effectsCells xs))
+    (stored : m₁ ≡ sets code u (effectsCells xs)) where
   written-more : (r : Progress) (m : List ℕ) (y : Read (Counted (List Effect))) → Written effectsCells m₁ v r m y
       → Written effectsCells code u r m (andThen y (λ ys b. got (counts (xs ++ ys .tree) (ys .left)) b))
   unfolding Written
   written-more r m (got ys b) h =
       let long : v + length (effectsCells (ys .tree)) ≡ u + length (effectsCells xs ++ effectsCells (ys .tree)) =
       omega (arith, length-append (effectsCells xs) (effectsCells (ys .tree))) in
-      rw (cells-append xs (ys .tree), ← long)
-      (h .0, h .1 ∙ ap (λ (l : List ℕ). sets l v (effectsCells (ys .tree))) stored ∙ ap (λ (k : ℕ). sets (sets code u (effectsCells xs)) k (effectsCells (ys .tree))) free ∙ sets-append code u (effectsCells xs) (effectsCells (ys .tree)))
+      rw (cells-append xs (ys .tree), ← long) (
+        h .0,
+        h .1 ∙ ap (λ (l : List ℕ). sets l v (effectsCells (ys .tree))) stored
+            ∙ ap (λ (k : ℕ). sets (sets code u (effectsCells xs)) k (effectsCells (ys .tree))) free
+            ∙ sets-append code u (effectsCells xs) (effectsCells (ys .tree)),
+      )
   written-more r m (refused k p) h = h
 
 -- ---- the ways through a list
@@ -68,12 +73,15 @@ module _ (s : List ℕ) (d : ℕ) (f : ℕ → Reader (Counted (List Effect))) (
 
 -- ---- the loop
 
-pub record Onward (s : List ℕ) (d : ℕ) (f : ℕ → Reader (Counted (List Effect))) (code₀ : List ℕ) (used left from k : ℕ) (code : List ℕ) (u n at : ℕ) : Type 0 where
+pub record Onward (s : List ℕ) (d : ℕ) (f : ℕ → Reader (Counted (List Effect))) (code₀ : List ℕ) (used left from k : ℕ) (code : List ℕ) (u n at : ℕ) :
+    Type 0 where
   pub j : ℕ
   pub enough : length s - at < j
-  pub on : (r : Progress) (m : List ℕ) → Written effectsCells code u r m (effectsTo j s d f n at) → Written effectsCells code₀ used r m (effectsTo k s d f left from)
+  pub on : (r : Progress) (m : List ℕ) → Written effectsCells code u r m (effectsTo j s d f n at)
+      → Written effectsCells code₀ used r m (effectsTo k s d f left from)
 
-pub onward-start : (s : List ℕ) (d : ℕ) (f : ℕ → Reader (Counted (List Effect))) (code : List ℕ) (used left from k : ℕ) → length s - from < k → Onward s d f code used left from k code used left from
+pub onward-start : (s : List ℕ) (d : ℕ) (f : ℕ → Reader (Counted (List Effect))) (code : List ℕ) (used left from k : ℕ) → length s - from < k
+    → Onward s d f code used left from k code used left from
 onward-start s d f code used left from k h = record { j = k; enough = h; on = λ r m w. w }
 
 module _ (s : List ℕ) (d : ℕ) (f : ℕ → Reader (Counted (List Effect))) (code₀ : List ℕ) (used left from k : ℕ) (code : List ℕ) (u n at : ℕ)
@@ -84,9 +92,11 @@ module _ (s : List ℕ) (d : ℕ) (f : ℕ → Reader (Counted (List Effect))) (
   pub onward-closed : (p next : ℕ) → tokenAt s at ≡ T.Close p next → Written effectsCells code₀ used (Done next u n) code (effectsTo k s d f left from)
   onward-closed p next e = o .on (Done next u n) code (rw (list-closed s d f n at (o .j) p next some e) (written-none code u n next))
 
-  module _ (no : OneOf (0 ∷ 1 ∷ 2 ∷ 4 ∷ 5 ∷ 6 ∷ []) (tagOf token-type.the-type (tokenAt s at))) (x : Progress) (m₁ : List ℕ) (w : Written effectsCells code u x m₁ (f n at)) where
+  module _ (no : OneOf (0 ∷ 1 ∷ 2 ∷ 4 ∷ 5 ∷ 6 ∷ []) (tagOf token-type.the-type (tokenAt s at))) (x : Progress) (m₁ : List ℕ)
+      (w : Written effectsCells code u x m₁ (f n at)) where
     pub onward-refused : (i p : ℕ) → x ≡ Refused i p → Written effectsCells code₀ used x m₁ (effectsTo k s d f left from)
-    onward-refused i p e = o .on x m₁ (written-refused effectsCells code u x m₁ _ i p (list-refused s d f n at no (o .j) i p some (written-not effectsCells code u x m₁ (f n at) i p w e)) e)
+    onward-refused i p e = o .on x m₁ (written-refused effectsCells code u x m₁ _ i p
+        (list-refused s d f n at no (o .j) i p some (written-not effectsCells code u x m₁ (f n at) i p w e)) e)
 
     pub onward-more : (a v l : ℕ) → x ≡ Done a v l → at < a → a ≤ length s → Onward s d f code₀ used left from k m₁ v l a
     onward-more a v l e lo hi =
@@ -94,5 +104,6 @@ module _ (s : List ℕ) (d : ℕ) (f : ℕ → Reader (Counted (List Effect))) (
         record {
           j = o .j - 1;
           enough = omega (arith, o .enough);
-          on = λ r m h. o .on r m (rw (list-more s d f n at no (o .j) (g .tree) a some (g .is)) (written-more code u (g .tree .tree) v m₁ (g .free) (g .stored) r m _ (rw (g .left) at h)));
+          on = λ r m h. o .on r m (rw (list-more s d f n at no (o .j) (g .tree) a some (g .is))
+              (written-more code u (g .tree .tree) v m₁ (g .free) (g .stored) r m _ (rw (g .left) at h)));
         }

@@ -38,7 +38,8 @@ module _ (least most levels : ℕ) (r : EffectHead) where
 
 -- ---- the ways
 
-module _ (s : List ℕ) (d : ℕ) (c : Scope) (f : ℕ → Reader (Counted (List Effect))) (n : ℕ) (r : EffectHead) (x : Read (Counted (List Effect))) (h : Leads s d c f n r x)
+module _ (s : List ℕ) (d : ℕ) (c : Scope) (f : ℕ → Reader (Counted (List Effect))) (n : ℕ) (r : EffectHead) (x : Read (Counted (List Effect)))
+    (h : Leads s d c f n r x)
     (code : List ℕ) (u : ℕ) (b : Progress) (m : List ℕ) where
   pub whole-all : (e : ℕ) → r ≡ L.All e → Written effectsCells code u b m (effectsTo (length s + 1) s d f n e) → Written effectsCells code u b m x
   unfolding Leads
@@ -48,7 +49,8 @@ module _ (s : List ℕ) (d : ℕ) (c : Scope) (f : ℕ → Reader (Counted (List
   unfolding Leads
   whole-not e q w = let k : x ≡ deletion s d c n e = rw q at h in rw k w
 
-  pub whole-change : (tag p e : ℕ) → r ≡ L.Change tag p e → ((how : Change) → tag ≡ changeCell how → Written effectsCells code u b m (changeAt s d c how n p e)) → Written effectsCells code u b m x
+  pub whole-change : (tag p e : ℕ) → r ≡ L.Change tag p e → ((how : Change) → tag ≡ changeCell how
+      → Written effectsCells code u b m (changeAt s d c how n p e)) → Written effectsCells code u b m x
   unfolding Leads
   whole-change tag p e q w = let k : Changes s d c n tag p e x = rw q at h in rw (k .2) (w (k .0) (k .1))
 

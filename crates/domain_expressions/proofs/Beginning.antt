@@ -59,7 +59,8 @@ module _ (s : List ℕ) (d : ℕ) (c : Scope) (f : ℕ → Reader (Counted Expr)
     unfolding counted
     minus-none q z = rw (q, z)
 
-  pub other-head : (h : HeadWord) (p e : ℕ) → OneOf (0 ∷ 1 ∷ 2 ∷ 3 ∷ 4 ∷ 5 ∷ 6 ∷ 9 ∷ 10 ∷ 11 ∷ 12 ∷ []) (tagOf head-type.the-type h) → operation s d f n h p e ≡ refused 3 p
+  pub other-head : (h : HeadWord) (p e : ℕ) → OneOf (0 ∷ 1 ∷ 2 ∷ 3 ∷ 4 ∷ 5 ∷ 6 ∷ 9 ∷ 10 ∷ 11 ∷ 12 ∷ []) (tagOf head-type.the-type h)
+      → operation s d f n h p e ≡ refused 3 p
   other-head H.Plus p e o = absurd (miss (0 ∷ 1 ∷ 2 ∷ 3 ∷ 4 ∷ 5 ∷ 6 ∷ 9 ∷ 10 ∷ 11 ∷ 12 ∷ []) 7 tt o)
   other-head H.Minus p e o = absurd (miss (0 ∷ 1 ∷ 2 ∷ 3 ∷ 4 ∷ 5 ∷ 6 ∷ 9 ∷ 10 ∷ 11 ∷ 12 ∷ []) 8 tt o)
   other-head H.And p e o = refl
@@ -110,7 +111,8 @@ pub placed-other : (at most d : ℕ) (r : Parsed) → Placed at most d (B.Other 
 unfolding Placed
 placed-other at most d r = tt
 
-pub placed-number : (at most d : ℕ) (z : ℤ) (e m : ℕ) → at < e → e ≤ most → length (numberCells z) + at ≤ e + 1 → mag z < 1099511627776 → Placed at most d (B.Number z e m)
+pub placed-number : (at most d : ℕ) (z : ℤ) (e m : ℕ) → at < e → e ≤ most → length (numberCells z) + at ≤ e + 1 → mag z < 1099511627776
+    → Placed at most d (B.Number z e m)
 unfolding Placed
 placed-number at most d z e m lo hi room small = (lo, hi, room, small)
 

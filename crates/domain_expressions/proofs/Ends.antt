@@ -30,7 +30,8 @@ use Rattle.domain_expressions.specs.declared.leaves.Progress.the-variant
 
 -- ---- what was written
 
-pub written-refused : {A : Type 0} (cells : A → List ℕ) (code : List ℕ) (u : ℕ) (r : Progress) (m : List ℕ) (x : Read (Counted A)) (k p : ℕ) → x ≡ refused k p → r ≡ Refused k p → Written cells code u r m x
+pub written-refused : {A : Type 0} (cells : A → List ℕ) (code : List ℕ) (u : ℕ) (r : Progress) (m : List ℕ) (x : Read (Counted A)) (k p : ℕ)
+    → x ≡ refused k p → r ≡ Refused k p → Written cells code u r m x
 unfolding Written
 written-refused cells code u r m x k p e q = rw e q
 
@@ -87,11 +88,13 @@ module _ (s : List ℕ) (d n at : ℕ) where
   unfolding operandsEnd
   end-close p a h e = let w = close-in s at h p a e in (rw e, ahead-by _ _ _ _ (w .0) (w .1))
 
-  pub end-many : (z : ℤ) (p e : ℕ) → tokenAt s at ≡ T.Number z p e → n ≡ 0 → (A.Refused 12 p ≡ answerOf (operandsEnd s d n at)) × Ahead (length s) at (A.Refused 12 p)
+  pub end-many : (z : ℤ) (p e : ℕ) → tokenAt s at ≡ T.Number z p e → n ≡ 0 → (A.Refused 12 p ≡ answerOf (operandsEnd s d n at))
+      × Ahead (length s) at (A.Refused 12 p)
   unfolding operandsEnd
   end-many z p e q k = (rw (q, eq-eqb n 0 k), ahead-refused _ _ 12 p _ refl)
 
-  pub end-number : (z : ℤ) (p e : ℕ) → tokenAt s at ≡ T.Number z p e → (n ≡ 0 → ⊥) → (A.Refused 3 p ≡ answerOf (operandsEnd s d n at)) × Ahead (length s) at (A.Refused 3 p)
+  pub end-number : (z : ℤ) (p e : ℕ) → tokenAt s at ≡ T.Number z p e → (n ≡ 0 → ⊥) → (A.Refused 3 p ≡ answerOf (operandsEnd s d n at))
+      × Ahead (length s) at (A.Refused 3 p)
   unfolding operandsEnd
   end-number z p e q k = (rw (q, ne-eqb n 0 k), ahead-refused _ _ 3 p _ refl)
 
@@ -106,7 +109,8 @@ module _ (code : List ℕ) (u free left : ℕ) (minus : Bool) (a : Parsed) (x : 
   unfolding Joined
   joined-refused k p r m q h = rw (answer-refused x k p (sym e ∙ q)) (h ∙ ap (passed left) q)
 
-  pub joined-done : (n p cell : ℕ) (m : List ℕ) → a ≡ A.Done n p → cell ≡ cond minus 1 2 → m ≡ set code u cell → Joined code u free left minus (Done n free left) m x
+  pub joined-done : (n p cell : ℕ) (m : List ℕ) → a ≡ A.Done n p → cell ≡ cond minus 1 2 → m ≡ set code u cell
+      → Joined code u free left minus (Done n free left) m x
   unfolding Joined
   joined-done n p cell m q h k = rw (answer-done x n p (sym e ∙ q)) (refl, rw h at k)
 

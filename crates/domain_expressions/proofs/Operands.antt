@@ -96,12 +96,14 @@ module _ (s : List ℕ) (d : ℕ) (f : ℕ → Reader (Counted Expr)) (m e : ℕ
   operands-refused false k p q = rw q
 
   module _ (x : Counted Expr) (a : ℕ) (q : f m e ≡ got x a) where
-    pub operands-lone : (negative : Bool) (n : ℕ) → loneEnd negative (tokenAt s a) ≡ F.At n → operands negative s d f m e ≡ got (counts (minus (x .tree)) (x .left)) n
+    pub operands-lone : (negative : Bool) (n : ℕ) → loneEnd negative (tokenAt s a) ≡ F.At n
+        → operands negative s d f m e ≡ got (counts (minus (x .tree)) (x .left)) n
     unfolding closing
     operands-lone true n h = let c = closes (tokenAt s a) n h in simp (q, c .is)
     operands-lone false n h = no-end n h
 
-    pub second-refused : (negative : Bool) (k p : ℕ) → loneEnd negative (tokenAt s a) ≡ F.Nothing → f (x .left) a ≡ refused k p → operands negative s d f m e ≡ refused k p
+    pub second-refused : (negative : Bool) (k p : ℕ) → loneEnd negative (tokenAt s a) ≡ F.Nothing → f (x .left) a ≡ refused k p
+        → operands negative s d f m e ≡ refused k p
     second-refused true k p h o = rw (q, open-yet (tokenAt s a) _ _ h, o)
     second-refused false k p h o = rw (q, o)
 
@@ -113,13 +115,17 @@ module _ (s : List ℕ) (d : ℕ) (f : ℕ → Reader (Counted Expr)) (m e : ℕ
 -- ---- what was written of them
 
 module _ (code : List ℕ) (u : ℕ) (x : Counted Expr) where
-  pub wrote-lone : (n v l : ℕ) (m₁ m : List ℕ) → v ≡ u + 1 + length (cellsOf (x .tree)) → l ≡ x .left → m₁ ≡ sets code (u + 1) (cellsOf (x .tree)) → m ≡ set m₁ u 0
+  pub wrote-lone : (n v l : ℕ) (m₁ m : List ℕ) → v ≡ u + 1 + length (cellsOf (x .tree)) → l ≡ x .left → m₁ ≡ sets code (u + 1) (cellsOf (x .tree))
+      → m ≡ set m₁ u 0
       → Written cellsOf code u (Done n v l) m (got (counts (minus (x .tree)) (x .left)) n)
   unfolding Written cellsOf
   wrote-lone n v l m₁ m e q h k =
       let one : u + 1 ≡ suc u = omega arith in
-      let w : v ≡ u + suc (length (cellsOf (x .tree))) = omega arith in
-      (rw (w, q), k ∙ ap (λ (r : List ℕ). set r u 0) h ∙ set-before code u (u + 1) 0 (cellsOf (x .tree)) (omega arith) ∙ ap (λ (i : ℕ). sets (set code u 0) i (cellsOf (x .tree))) one)
+      let w : v ≡ u + suc (length (cellsOf (x .tree))) = omega arith in (
+        rw (w, q),
+        k ∙ ap (λ (r : List ℕ). set r u 0) h ∙ set-before code u (u + 1) 0 (cellsOf (x .tree)) (omega arith)
+            ∙ ap (λ (i : ℕ). sets (set code u 0) i (cellsOf (x .tree))) one,
+      )
 
   module _ (y : Counted Expr) (v w l : ℕ) (m₁ m₂ : List ℕ) (ev : v ≡ u + 1 + length (cellsOf (x .tree))) (ew : w ≡ v + length (cellsOf (y .tree)))
       (el : l ≡ y .left) (h₁ : m₁ ≡ sets code (u + 1) (cellsOf (x .tree))) (h₂ : m₂ ≡ sets m₁ v (cellsOf (y .tree))) where
@@ -128,7 +134,8 @@ module _ (code : List ℕ) (u : ℕ) (x : Counted Expr) where
         let xs = cellsOf (x .tree) in
         let ys = cellsOf (y .tree) in
         let one : u + 1 ≡ suc u = omega arith in
-        ap (λ (r : List ℕ). set r u op) (h₂ ∙ ap (λ (r : List ℕ). sets r v ys) h₁ ∙ ap (λ (i : ℕ). sets (sets code (u + 1) xs) i ys) ev ∙ sets-append code (u + 1) xs ys)
+        ap (λ (r : List ℕ). set r u op) (h₂ ∙ ap (λ (r : List ℕ). sets r v ys) h₁ ∙ ap (λ (i : ℕ). sets (sets code (u + 1) xs) i ys) ev
+        ∙ sets-append code (u + 1) xs ys)
         ∙ set-before code u (u + 1) op (xs ++ ys) (omega arith)
         ∙ ap (λ (i : ℕ). sets (set code u op) i (xs ++ ys)) one
 

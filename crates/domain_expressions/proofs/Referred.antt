@@ -25,7 +25,8 @@ unfolding Many
 many-then k (got a n) f h = h a n
 many-then k (refused j p) f h = tt
 
-many-close : (k at : ℕ) (t : Token) (f : ℕ → Reader (List Arg)) (g : Reader (List Arg)) → ((p : ℕ) → Many k (f p at)) → Many k (g at) → Many k (onClose t f g at)
+many-close : (k at : ℕ) (t : Token) (f : ℕ → Reader (List Arg)) (g : Reader (List Arg)) → ((p : ℕ) → Many k (f p at)) → Many k (g at)
+    → Many k (onClose t f g at)
 many-close k at (T.Word w p e) f g h j = j
 many-close k at (T.Number z p e) f g h j = j
 many-close k at (T.Open p n) f g h j = j
@@ -45,7 +46,8 @@ many s d c [] at =
     many-close 0 at (tokenAt s at) _ _ (λ p. many-then 0 (closing s d at) _ (λ a n. refl)) (many-then 0 (argument s d c at) _ (λ g n. tt))
 many s d c (w ∷ ws) at =
     many-close (suc (length ws)) at (tokenAt s at) _ _ (λ p. tt)
-    (many-then (suc (length ws)) (argument s d c at) _ (λ g n. many-then (suc (length ws)) (fits c w g n) _ (λ a m. many-more (length ws) a (arguments s d c ws m) (many s d c ws m))))
+    (many-then (suc (length ws)) (argument s d c at) _ (λ g n. many-then (suc (length ws)) (fits c w g n) _
+    (λ a m. many-more (length ws) a (arguments s d c ws m) (many s d c ws m))))
 
 module _ (code : List ℕ) (u tag i arity : ℕ) (r : Parsed) (m : List ℕ) where
   referred : (x : Read (List Arg)) → Many arity x → Wrote argCells (set (set code u (tag + arity)) (u + 1) i) (u + 2) r m x

@@ -113,7 +113,8 @@ mag-signed : (minus : Bool) (m k : ℕ) → m < k → mag (signed minus m) < k +
 mag-signed true m k h = turned-mag (pos m) k h
 mag-signed false m k h = omega arith
 
-of-signed : (minus : Bool) (m n : ℕ) (z : ℤ) → z ≡ signed minus m → Extent n m → m < 1000000000000 → (length (numberCells z) ≤ n + 1) × (mag z < 1000000000000 + 1)
+of-signed : (minus : Bool) (m n : ℕ) (z : ℤ) → z ≡ signed minus m → Extent n m → m < 1000000000000 → (length (numberCells z) ≤ n + 1)
+    × (mag z < 1000000000000 + 1)
 of-signed minus m n z e x h =
     (cells-most z n (rw (e, abs-signed minus m) x), rw e (mag-signed minus m 1000000000000 h))
 

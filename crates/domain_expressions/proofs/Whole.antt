@@ -25,12 +25,14 @@ use Rattle.domain_expressions.specs.declared.heads.ExpressionHead.the-va
 use Rattle.domain_expressions.specs.declared.leaves.Progress.{Progress}
 use Rattle.domain_expressions.specs.declared.leaves.Progress.the-variants.{Done, Refused}
 use Rattle.domain_expressions.proofs.Ends.{written-refused}
-use Rattle.domain_expressions.proofs.Operands.{written-got, written-not, lone-token, operands-refused, operands-lone, second-refused, operands-two, wrote-lone, wrote-two}
+use Rattle.domain_expressions.proofs.Operands.{written-got, written-not, lone-token, operands-refused, operands-lone, second-refused, operands-two}
+use Rattle.domain_expressions.proofs.Operands.{wrote-lone, wrote-two}
 
 -- ---- places
 
 module _ (at most d : ℕ) (r : ExpressionHead) where
-  pub number-place : (z : ℤ) (e m : ℕ) → r ≡ B.Number z e m → Placed at most d r → (at < e) × (e ≤ most) × (length (numberCells z) + at ≤ e + 1) × (mag z < 1099511627776)
+  pub number-place : (z : ℤ) (e m : ℕ) → r ≡ B.Number z e m → Placed at most d r → (at < e) × (e ≤ most) × (length (numberCells z) + at ≤ e + 1)
+      × (mag z < 1099511627776)
   unfolding Placed
   number-place z e m q h = rw q at h
 
@@ -48,12 +50,14 @@ lone-in s a n negative f h e q = let c = lone-token negative (tokenAt s a) n (sy
 -- ---- the ways
 
 module _ (s : List ℕ) (c : Scope) (d n : ℕ) (r : ExpressionHead) (x : Read (Counted Expr)) (h : Begins s c d n r x) where
-  pub whole-number : (z : ℤ) (e m : ℕ) (code : List ℕ) (u v : ℕ) (code′ : List ℕ) → r ≡ B.Number z e m → v ≡ u + length (numberCells z) → code′ ≡ sets code u (numberCells z)
+  pub whole-number : (z : ℤ) (e m : ℕ) (code : List ℕ) (u v : ℕ) (code′ : List ℕ) → r ≡ B.Number z e m → v ≡ u + length (numberCells z)
+      → code′ ≡ sets code u (numberCells z)
       → Written cellsOf code u (Done e v m) code′ x
   unfolding Begins Written cellsOf
   whole-number z e m code u v code′ q i j = let k : x ≡ got (counts (number z) m) e = rw q at h in rw (k, i) (refl, j)
 
-  pub whole-function : (p e : ℕ) (code : List ℕ) (u : ℕ) (a : Progress) (code′ : List ℕ) → r ≡ B.Function p e → Written cellsOf code u a code′ (functionAt s (d - 1) c n p e e)
+  pub whole-function : (p e : ℕ) (code : List ℕ) (u : ℕ) (a : Progress) (code′ : List ℕ) → r ≡ B.Function p e
+      → Written cellsOf code u a code′ (functionAt s (d - 1) c n p e e)
       → Written cellsOf code u a code′ x
   unfolding Begins
   whole-function p e code u a code′ q w = let k : x ≡ functionAt s (d - 1) c n p e e = rw q at h in rw k w
@@ -84,7 +88,8 @@ module _ (s : List ℕ) (c : Scope) (d n : ℕ) (r : ExpressionHead) (x : Read (
     way = rw q at h
 
     pub whole-first : (k p : ℕ) → r₁ ≡ Refused k p → Written cellsOf code u r₁ m₁ x
-    whole-first k p i = written-refused cellsOf code u r₁ m₁ x k p (way ∙ operands-refused s (d - 1) (expr (d - 1) s c) m e negative k p (written-not cellsOf code (u + 1) r₁ m₁ _ k p w₁ i)) i
+    whole-first k p i = written-refused cellsOf code u r₁ m₁ x k p
+        (way ∙ operands-refused s (d - 1) (expr (d - 1) s c) m e negative k p (written-not cellsOf code (u + 1) r₁ m₁ _ k p w₁ i)) i
 
     module _ (a v l : ℕ) (i : r₁ ≡ Done a v l) (f : Place) (j : f ≡ loneEnd negative (tokenAt s a)) where
       pub whole-lone : (k : ℕ) (m₂ : List ℕ) → f ≡ F.At k → m₂ ≡ set m₁ u 0 → Written cellsOf code u (Done k v l) m₂ x
@@ -99,14 +104,18 @@ module _ (s : List ℕ) (c : Scope) (d n : ℕ) (r : ExpressionHead) (x : Read (
             let g = written-got cellsOf code (u + 1) r₁ m₁ _ a v l w₁ i in
             let z = written-not cellsOf m₁ v r₂ m₂ _ k p w₂ t in
             written-refused cellsOf code u r₂ m₂ x k p
-            (way ∙ second-refused s (d - 1) (expr (d - 1) s c) m e (g .tree) a (g .is) negative k p (sym j ∙ o) (ap (λ (y : ℕ). expr (d - 1) s c y a) (sym (g .left)) ∙ z)) t
+            (way ∙ second-refused s (d - 1) (expr (d - 1) s c) m e (g .tree) a (g .is) negative k p (sym j ∙ o)
+            (ap (λ (y : ℕ). expr (d - 1) s c y a) (sym (g .left)) ∙ z)) t
 
-        pub whole-two : (b w t : ℕ) (r₃ : Progress) (m₃ : List ℕ) → r₂ ≡ Done b w t → Joined m₂ u w t negative r₃ m₃ (operandsEnd s (d - 1) t b) → Written cellsOf code u r₃ m₃ x
+        pub whole-two : (b w t : ℕ) (r₃ : Progress) (m₃ : List ℕ) → r₂ ≡ Done b w t → Joined m₂ u w t negative r₃ m₃ (operandsEnd s (d - 1) t b)
+            → Written cellsOf code u r₃ m₃ x
         whole-two b w t r₃ m₃ k z =
             let g = written-got cellsOf code (u + 1) r₁ m₁ _ a v l w₁ i in
             let y = written-got cellsOf m₁ v r₂ m₂ _ b w t w₂ k in
-            rw (way ∙ operands-two s (d - 1) (expr (d - 1) s c) m e (g .tree) a (g .is) negative (y .tree) b (sym j ∙ o) (ap (λ (z : ℕ). expr (d - 1) s c z a) (sym (g .left)) ∙ y .is))
-            (wrote-two code u (g .tree) (y .tree) v w t m₁ m₂ (g .free) (y .free) (y .left) (g .stored) (y .stored) negative r₃ m₃ (operandsEnd s (d - 1) (y .tree .left) b)
+            rw (way ∙ operands-two s (d - 1) (expr (d - 1) s c) m e (g .tree) a (g .is) negative (y .tree) b (sym j ∙ o)
+            (ap (λ (z : ℕ). expr (d - 1) s c z a) (sym (g .left)) ∙ y .is))
+            (wrote-two code u (g .tree) (y .tree) v w t m₁ m₂ (g .free) (y .free) (y .left) (g .stored) (y .stored) negative r₃ m₃
+            (operandsEnd s (d - 1) (y .tree .left) b)
             (joined-left m₂ u w t (y .tree .left) negative r₃ m₃ s b (y .left) z))
           where
             joined-left : (l₂ : List ℕ) (i₂ w₃ t₁ t₂ : ℕ) (neg : Bool) (p : Progress) (l₃ s₁ : List ℕ) (b₁ : ℕ) → t₁ ≡ t₂
@@ -119,7 +128,8 @@ abbrev alone : Progress → Parsed
 alone (Done a v l) = A.Done a v
 alone (Refused k p) = A.Refused k p
 
-alone-wrote : (code : List ℕ) (u : ℕ) (r : Progress) (m : List ℕ) (x : Read (Counted Expr)) → Written cellsOf code u r m x → Wrote cellsOf code u (alone r) m (andThen x (λ y. give (y .tree)))
+alone-wrote : (code : List ℕ) (u : ℕ) (r : Progress) (m : List ℕ) (x : Read (Counted Expr)) → Written cellsOf code u r m x
+    → Wrote cellsOf code u (alone r) m (andThen x (λ y. give (y .tree)))
 unfolding Written Wrote
 alone-wrote code u r m (got y n) h = (ap alone (h .0), h .1)
 alone-wrote code u r m (refused k p) h = ap alone h

@@ -51,6 +51,7 @@ abbrev pub inPieces : Kept → List String → Kept
 inPieces k [] = k
 inPieces k (s ∷ ss) = inPieces (goOn 8 k (bytes s)) ss
 
-pieces : (inPieces empty ("(abc" ∷ "defg" ∷ "" ∷ "hi" ∷ "j.k" ∷ "$" ∷ []) .bytes ≡ bytes "(abcdef.") × (inPieces empty ("(abcdefgh" ∷ " " ∷ "." ∷ []) .bytes ≡ bytes "(abcdefg")
+pieces : (inPieces empty ("(abc" ∷ "defg" ∷ "" ∷ "hi" ∷ "j.k" ∷ "$" ∷ []) .bytes ≡ bytes "(abcdef.")
+    × (inPieces empty ("(abcdefgh" ∷ " " ∷ "." ∷ []) .bytes ≡ bytes "(abcdefg")
 unfolding bytes kindOf inRun nameByte lookOf nextOf goOn
 pieces = (refl, refl)

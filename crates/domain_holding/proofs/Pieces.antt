@@ -41,7 +41,8 @@ full n l b o (x ∷ bs) e = rw (goOn, no-room n (l ++ b ∷ []) o x (omega (arit
 
     go : (o g m : Bool) → goOn n (kept (l ++ b ∷ []) true) bs .bytes ≡ l ++ decisive b bs ∷ [] → goOn n (kept (l ++ b ∷ []) false) bs .bytes ≡ l ++ b ∷ []
         → goOn n (kept (l ++ x ∷ []) false) bs .bytes ≡ l ++ x ∷ []
-        → goOn n (cond (o && g) (cond m (kept (l ++ b ∷ []) o) (kept (set (l ++ b ∷ []) (length (l ++ b ∷ []) - 1) x) false)) (kept (l ++ b ∷ []) false)) bs .bytes
+        → goOn n (cond (o && g) (cond m (kept (l ++ b ∷ []) o) (kept (set (l ++ b ∷ []) (length (l ++ b ∷ []) - 1) x) false))
+        (kept (l ++ b ∷ []) false)) bs .bytes
         ≡ l ++ cond o (cond g (cond m (decisive b bs) x) b) b ∷ []
     go false g m on off odd = off
     go true false m on off odd = off

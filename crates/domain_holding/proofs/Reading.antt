@@ -48,7 +48,8 @@ module _ (s : List ℕ) (at : ℕ) where
     run-token k d f =
         rw (e, not-past (length s) g low, lt-leb (length s) g within, d) (go k f)
       where
-        go : (k : Kind) → ((a b : ℕ) → onStart k a b b ≡ a) → onStart k (domainRun s g (endOf s 59 g)) (bracketOf (getD s g 0) g) (T.Refusal 2 g) ≡ T.Refusal (faultOf (part s g (endOf s 59 g))) g
+        go : (k : Kind) → ((a b : ℕ) → onStart k a b b ≡ a) → onStart k (domainRun s g (endOf s 59 g)) (bracketOf (getD s g 0) g) (T.Refusal 2 g) ≡
+            T.Refusal (faultOf (part s g (endOf s 59 g))) g
         go K.Digit f = long-word (part s g (endOf s 59 g)) g (endOf s 59 g) long
         go K.Letter f = long-word (part s g (endOf s 59 g)) g (endOf s 59 g) long
         go K.Bracket f = absurd (let o : ⊥ = omega (arith, f 1 0) in o)
@@ -133,9 +134,11 @@ module _ (p : List ℕ) (b : ℕ) (bs : List ℕ) (long : 32849 ≤ length p) wh
           drop-append-le (g + 1) p (b ∷ bs) i,
           at-cons p (g + 1) j,
         )
-        (same-fault (getD whole g 0) (getD p (g + 1) 0) (drop (g + 1 + 1) p ++ lastOf (b ∷ bs)) (drop (g + 1 + 1) p ++ b ∷ bs) (same-names (drop (g + 1 + 1) p) b bs))
+        (same-fault (getD whole g 0) (getD p (g + 1) 0) (drop (g + 1 + 1) p ++ lastOf (b ∷ bs)) (drop (g + 1 + 1) p ++ b ∷ bs)
+        (same-names (drop (g + 1 + 1) p) b bs))
 
-    run-both : (at : ℕ) → gapEnd held at ≡ g → gapEnd whole at ≡ g → (k : Kind) → kindOf (getD held g 0) ≡ k → ((a b : ℕ) → onStart k a b b ≡ a) → SameAt held whole at
+    run-both : (at : ℕ) → gapEnd held at ≡ g → gapEnd whole at ≡ g → (k : Kind) → kindOf (getD held g 0) ≡ k → ((a b : ℕ) → onStart k a b b ≡ a)
+        → SameAt held whole at
     unfolding bytes
     run-both at e d k x f =
         let l : g < length held = omega (arith, held-long) in

@@ -42,7 +42,8 @@ unfolding placeFrom
 none-of [] w i n h l = refl
 none-of (v ∷ vs) w i n h l = go (ltb (length v) n) refl h (λ k. none-of vs w (i + 1) n k l)
   where
-    go : (t : Bool) → ltb (length v) n ≡ t → (t && shorter n vs) ≡ true → (shorter n vs ≡ true → placeFrom (i + 1) vs w ≡ Nothing) → placeFrom i (v ∷ vs) w ≡ Nothing
+    go : (t : Bool) → ltb (length v) n ≡ t → (t && shorter n vs) ≡ true → (shorter n vs ≡ true → placeFrom (i + 1) vs w ≡ Nothing)
+        → placeFrom i (v ∷ vs) w ≡ Nothing
     go true e k f = rw (unlike v w (λ d. omega (arith, ltb-true (length v) n e))) (f k)
     go false e k f = absurd (let z : _≡_ {A = ℕ} 0 1 = cc in let y : ⊥ = omega arith in y)
 
@@ -101,7 +102,8 @@ long-word w p e h =
     marked : ltb 33 (length w) ≡ true
     marked = lt-ltb 33 (length w) (omega arith)
 
-    go : (a b c d : Bool) → byClass (cond a C.Number (cond b C.Name (cond c C.Variable (cond d C.Keyword C.Other)))) w p e ≡ T.Refusal (cond a 6 (cond b 5 (cond c 5 (cond d 5 3)))) p
+    go : (a b c d : Bool) → byClass (cond a C.Number (cond b C.Name (cond c C.Variable (cond d C.Keyword C.Other)))) w p e ≡ T.Refusal
+        (cond a 6 (cond b 5 (cond c 5 (cond d 5 3)))) p
     go true b c d = rw (number-long w (omega arith))
     go false true c d = rw sized
     go false false true d = rw marked
@@ -149,7 +151,8 @@ same-names [] b bs = go (goesOn b) refl
 same-names (x ∷ m) b bs = go (inRun 59 x) (same-names m b bs)
   where
     go : (t : Bool) → nameBytes (front (m ++ lastOf (b ∷ bs))) ≡ nameBytes (front (m ++ b ∷ bs))
-        → nameBytes (take (cond t (suc (run 59 (m ++ lastOf (b ∷ bs)))) 0) (x ∷ m ++ lastOf (b ∷ bs))) ≡ nameBytes (take (cond t (suc (run 59 (m ++ b ∷ bs))) 0) (x ∷ m ++ b ∷ bs))
+        → nameBytes (take (cond t (suc (run 59 (m ++ lastOf (b ∷ bs)))) 0) (x ∷ m ++ lastOf (b ∷ bs))) ≡ nameBytes
+        (take (cond t (suc (run 59 (m ++ b ∷ bs))) 0) (x ∷ m ++ b ∷ bs))
     go true e = rw e
     go false e = refl
 

@@ -40,7 +40,9 @@ module _ (block : List ℕ) (held : Held) (b : ℕ) where
     unfolding keptIn lookOf
     ended e = rw (full, lookOf, e) (go (held .going))
       where
-        go : (t : Bool) → kept (take (held .used) block) false ≡ cond (t && false) (cond (nameByte b) (kept (take (held .used) block) (held .going)) (kept (set (take (held .used) block) (length (take (held .used) block) - 1) b) false)) (kept (take (held .used) block) false)
+        go : (t : Bool) → kept (take (held .used) block) false ≡ cond (t && false)
+            (cond (nameByte b) (kept (take (held .used) block) (held .going))
+            (kept (set (take (held .used) block) (length (take (held .used) block) - 1) b) false)) (kept (take (held .used) block) false)
         go true = refl
         go false = refl
 
@@ -49,7 +51,8 @@ module _ (block : List ℕ) (held : Held) (b : ℕ) where
       unfolding keptIn lookOf
       named n = rw (full, lookOf, g, e, n)
 
-      pub odd : nameByte b ≡ false → keptIn (set block (length block - 1) b) (record { used = held .used; going = false }) ≡ nextOf (length block) (keptIn block held) b
+      pub odd : nameByte b ≡ false → keptIn (set block (length block - 1) b) (record { used = held .used; going = false }) ≡ nextOf (length block)
+          (keptIn block held) b
       unfolding keptIn lookOf
       odd n =
           let l : length (set block (length block - 1) b) ≤ held .used = simp length-set (omega arith) in

@@ -15,7 +15,8 @@ pub bases-start : (out : List ℕ) (at n : ℕ) (t : Table) → sets out (at + 0
 bases-start out at n t = rw (first-zero n t, add-zero at)
 
 -- the first index of number i, and those behind it
-bases-cons : (n : ℕ) (t : Table) (i : ℕ) → i < length t → basesFrom n (firstOf n t i) (drop i t) ≡ firstOf n t i ∷ basesFrom n (firstOf n t (i + 1)) (drop (i + 1) t)
+bases-cons : (n : ℕ) (t : Table) (i : ℕ) → i < length t → basesFrom n (firstOf n t i) (drop i t) ≡ firstOf n t i
+    ∷ basesFrom n (firstOf n t (i + 1)) (drop (i + 1) t)
 unfolding basesFrom
 bases-cons n t i h = rw (drop-cons t i (entry [] []) h, first-next n t i h, add-one i)
 

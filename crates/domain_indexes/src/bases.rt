@@ -21,7 +21,8 @@ pub fn put(out: &mut [usize], at: usize, x: usize)
 // The first indexes of the names of the table from `off` on, with n objects, stored from `at` on.
 pub fn bases_at(tables: &[u8], off: usize, count: usize, n: usize, out: &mut [u16], at: usize)
     requires { ⌜ ((s : Signatures (now tables) off count) × (sumOf n (s .table) < 65536)) × (n ≤ 64) × (at + count ≤ length (now out)) ⌝ }
-    ensures { λ _. ⌜ ((m to : ℕ) (t : Table) → Holds m (part (now (tables .entry)) off to) count t → AllSigned t → now (out .exit) ≡ sets (now (out .entry)) at (basesOf n t)) ⌝ }
+    ensures { λ _. ⌜ ((m to : ℕ) (t : Table) → Holds m (part (now (tables .entry)) off to) count t → AllSigned t
+        → now (out .exit) ≡ sets (now (out .entry)) at (basesOf n t)) ⌝ }
 {
     let mut i = 0;
     while i < count {

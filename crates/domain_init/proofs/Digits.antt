@@ -75,7 +75,8 @@ first-within n [] i h = absurd (let z : ⊥ = omega arith in z)
 first-within n (e ∷ t) zero h = omega arith
 first-within n (e ∷ t) (suc i) h = omega (arith, first-within n t i (omega arith))
 
-pub index-below : (n : ℕ) (t : Table) (r : Ref) → r .head < length t → length (r .args) ≡ arity (entryAt t (r .head)) → Objects n (r .args) → indexOf n t r < sumOf n t
+pub index-below : (n : ℕ) (t : Table) (r : Ref) → r .head < length t → length (r .args) ≡ arity (entryAt t (r .head)) → Objects n (r .args)
+    → indexOf n t r < sumOf n t
 unfolding indexOf indexIn
 index-below n t r h e o =
     let d : digits n 0 (map (objectOf []) (r .args)) < (0 + 1) * n ^ arity (entryAt t (r .head)) = rw (← e) (digits-below n 0 (r .args) o) in

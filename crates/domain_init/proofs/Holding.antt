@@ -76,7 +76,8 @@ pub record Holding (s : List ℕ) (c : Scope) (from : ℕ) (facts : List ℕ) (n
   pub stands : Stands facts numbers init
   pub on : (k : ℕ) → length s - from < k → (j : ℕ) × (length s - at < j) × (initTo k s c nothing from ≡ initTo j s c init at)
 
-pub holding-start : (s : List ℕ) (c : Scope) (from : ℕ) (facts : List ℕ) (numbers : List ℤ) → facts ≡ noFacts → numbers ≡ noNumbers → Holding s c from facts numbers from
+pub holding-start : (s : List ℕ) (c : Scope) (from : ℕ) (facts : List ℕ) (numbers : List ℤ) → facts ≡ noFacts → numbers ≡ noNumbers
+    → Holding s c from facts numbers from
 holding-start s c from facts numbers e q = record { init = nothing; stands = stands-first facts numbers e q; on = λ k h. (k, h, refl) }
 
 module _ (s : List ℕ) (c : Scope) (from : ℕ) (facts : List ℕ) (numbers : List ℤ) (at : ℕ) (o : Holding s c from facts numbers at) where

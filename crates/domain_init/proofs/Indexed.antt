@@ -77,7 +77,8 @@ module _ (s : List ℕ) (d : ℕ) (c : Scope) (t : Table) (i at : ℕ) where
   unfolding groundBehind reference
   behind-refused k p e = simp e
 
-  behind-got : (as′ : List Arg) (a : ℕ) → arguments s d c wanted at ≡ got as′ a → groundBehind s d c t i at ≡ got (indexOf (length (c .objects)) t (record { head = i; args = as′ })) a
+  behind-got : (as′ : List Arg) (a : ℕ) → arguments s d c wanted at ≡ got as′ a
+      → groundBehind s d c t i at ≡ got (indexOf (length (c .objects)) t (record { head = i; args = as′ })) a
   unfolding groundBehind reference
   behind-got as′ a e = simp e
 
@@ -88,7 +89,8 @@ module _ (s : List ℕ) (d : ℕ) (c : Scope) (t : Table) (i at : ℕ) where
   cells-many code r m a v w e = let g = stored-done code r m _ a v w e in g .count ∙ read-many (g .args) a (g .is)
 
   -- four cells are enough
-  pub cells-room : (code : List ℕ) (r : Parsed) (m : List ℕ) (a v : ℕ) → length code ≡ 4 → length wanted ≤ 4 → Wrote argCells code 0 r m (arguments s d c wanted at) → r ≡ Done a v
+  pub cells-room : (code : List ℕ) (r : Parsed) (m : List ℕ) (a v : ℕ) → length code ≡ 4 → length wanted ≤ 4
+      → Wrote argCells code 0 r m (arguments s d c wanted at) → r ≡ Done a v
       → (v ≤ length m) × (v ≤ 4)
   cells-room code r m a v four few w e =
       let g = stored-done code r m _ a v w e in
@@ -105,7 +107,15 @@ module _ (s : List ℕ) (d : ℕ) (c : Scope) (t : Table) (i at : ℕ) where
     behind-done code r m a v n first low four few h w e o f l =
         let g = stored-done code r m _ a v w e in
         let b : v ≤ length code = omega (arith, cells-many code r m a v w e) in
-        rw (behind-got (g .args) a (g .is), f, l, o, g .cells b, base-first (length (c .objects)) t i h, objects-cells (length (c .objects)) (g .args) (read-objects (g .args) a (g .is)))
+        rw (
+          behind-got (g .args) a (g .is),
+          f,
+          l,
+          o,
+          g .cells b,
+          base-first (length (c .objects)) t i h,
+          objects-cells (length (c .objects)) (g .args) (read-objects (g .args) a (g .is)),
+        )
 
     -- the index is below the sum over the table
     behind-below : (v a : ℕ) → AllSigned t → i < length t → groundBehind s d c t i at ≡ got v a → v < sumOf (length (c .objects)) t
@@ -114,7 +124,8 @@ module _ (s : List ℕ) (d : ℕ) (c : Scope) (t : Table) (i at : ℕ) where
         go : (x : Read (List Arg)) → arguments s d c wanted at ≡ x → v < sumOf (length (c .objects)) t
         go (got as′ n) q =
             let j : indexOf (length (c .objects)) t (record { head = i; args = as′ }) ≡ v = let z = sym (behind-got as′ n q) ∙ e in cc z in
-            rw (← j) (index-below (length (c .objects)) t (record { head = i; args = as′ }) h (read-many as′ n q ∙ sym (wanted-count t i g h)) (read-objects as′ n q))
+            rw (← j) (index-below (length (c .objects)) t (record { head = i; args = as′ }) h (read-many as′ n q ∙ sym (wanted-count t i g h))
+            (read-objects as′ n q))
         go (refused k p) q = absurd (let w = sym (behind-refused k p q) ∙ e in let z : _≡_ {A = ℕ} 0 1 = cc w in let y : ⊥ = omega arith in y)
 
 -- ---- with the name
@@ -129,7 +140,8 @@ module _ (s : List ℕ) (d : ℕ) (c : Scope) (t : Table) (p e : ℕ) where
   unfolding groundOf declared
   ground-below out g v a h = go (lookup t (part s p e)) refl h
     where
-      go : (f : Place) → lookup t (part s p e) ≡ f → andThen (onFound f (λ i. give i) (refuse 8 p) e) (λ i. groundBehind s d c t i) ≡ got v a → v < sumOf (length (c .objects)) t
+      go : (f : Place) → lookup t (part s p e) ≡ f → andThen (onFound f (λ i. give i) (refuse 8 p) e) (λ i. groundBehind s d c t i) ≡ got v a
+          → v < sumOf (length (c .objects)) t
       go (F.At i) q k = behind-below s d c t i e out v a g (found-below t (part s p e) i q) k
       go F.Nothing q k = absurd (let z : _≡_ {A = ℕ} 0 1 = cc k in let y : ⊥ = omega arith in y)
 

@@ -24,7 +24,8 @@ unfoldable pub Every : {A : Type 0} → (A → Type 0) → Read A → Type 0
 Every P (got a n) = P a
 Every P (refused k p) = Unit {0}
 
-every-then : {A B : Type 0} (P : A → Type 0) (Q : B → Type 0) (x : Read A) (f : A → Reader B) → Every P x → ((a : A) (n : ℕ) → P a → Every Q (f a n)) → Every Q (andThen x f)
+every-then : {A B : Type 0} (P : A → Type 0) (Q : B → Type 0) (x : Read A) (f : A → Reader B) → Every P x → ((a : A) (n : ℕ) → P a → Every Q (f a n))
+    → Every Q (andThen x f)
 unfolding Every
 every-then P Q (got a n) f h g = g a n h
 every-then P Q (refused k p) f h g = tt
@@ -34,7 +35,8 @@ unfolding Every
 every-any Q (got a n) f g = g a n
 every-any Q (refused k p) f g = tt
 
-every-close : {A : Type 0} (Q : A → Type 0) (at : ℕ) (t : Token) (f : ℕ → Reader A) (g : Reader A) → ((p : ℕ) → Every Q (f p at)) → Every Q (g at) → Every Q (onClose t f g at)
+every-close : {A : Type 0} (Q : A → Type 0) (at : ℕ) (t : Token) (f : ℕ → Reader A) (g : Reader A) → ((p : ℕ) → Every Q (f p at)) → Every Q (g at)
+    → Every Q (onClose t f g at)
 every-close Q at (T.Word w p e) f g h j = j
 every-close Q at (T.Number z p e) f g h j = j
 every-close Q at (T.Open p n) f g h j = j

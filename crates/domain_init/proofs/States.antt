@@ -78,10 +78,12 @@ given-from [] numbers i h k = or-false (ltZ undefined (getD numbers i undefined)
     or-false : (b : Bool) → b ≡ (b || false)
     or-false true = refl
     or-false false = refl
-given-from (v ∷ vs) numbers i h k = given-from vs (set numbers (v .index) (v .value)) i (h .1) (rw (length-set numbers (v .index) (v .value)) k) ∙ go (eqb i (v .index)) refl
+given-from (v ∷ vs) numbers i h k = given-from vs (set numbers (v .index) (v .value)) i (h .1) (rw (length-set numbers (v .index) (v .value)) k)
+    ∙ go (eqb i (v .index)) refl
   where
     go : (b : Bool) → eqb i (v .index) ≡ b
-        → (ltZ undefined (getD (set numbers (v .index) (v .value)) i undefined) || isGiven i vs) ≡ (ltZ undefined (getD numbers i undefined) || (b || isGiven i vs))
+        → (ltZ undefined (getD (set numbers (v .index) (v .value)) i undefined) || isGiven i vs) ≡
+        (ltZ undefined (getD numbers i undefined) || (b || isGiven i vs))
     go true q =
         let e = eqb-true i (v .index) q in
         let g : getD (set numbers (v .index) (v .value)) i undefined ≡ v .value = rw (← e) (getD-set-same numbers i (v .value) undefined k) in
@@ -99,7 +101,8 @@ none-given i = elim (decLe 1024 i) [
   | no k ↦ rw (getD-replicate 1024 i undefined undefined (omega arith))
 ]
 
-pub given-is-defined : (facts : List ℕ) (numbers : List ℤ) (x : Init) (i : ℕ) → Stands facts numbers x → i < 1024 → ltZ undefined (getD numbers i undefined) ≡ isGiven i (x .numbers)
+pub given-is-defined : (facts : List ℕ) (numbers : List ℤ) (x : Init) (i : ℕ) → Stands facts numbers x → i < 1024
+    → ltZ undefined (getD numbers i undefined) ≡ isGiven i (x .numbers)
 unfolding firstNumbers
 given-is-defined facts numbers x i h k =
     ap (λ (l : List ℤ). ltZ undefined (getD l i undefined)) (h .numbers-are)

@@ -80,9 +80,11 @@ number-in s at z p e h q = let w = rw q at (token-within s at h) in (omega (arit
 
 -- what is done with the index of a ground fact or number
 ground-on : {A : Type 0} (s : List ℕ) (d : ℕ) (c : Scope) (t : Table) (p e at : ℕ) (f : ℕ → Reader A)
-    → andThen (groundOf s d c t p e at) f ≡ andThen (declared t p (part s p e) at) (λ i b. andThen (reference s d c t i b) (λ r. f (indexOf (length (c .objects)) t r)))
+    → andThen (groundOf s d c t p e at) f ≡ andThen (declared t p (part s p e) at)
+    (λ i b. andThen (reference s d c t i b) (λ r. f (indexOf (length (c .objects)) t r)))
 unfolding groundOf groundBehind
-ground-on s d c t p e at f = then-then (declared t p (part s p e) at) _ f ∙ then-same (declared t p (part s p e) at) _ _ (λ i b. then-then (reference s d c t i b) _ f)
+ground-on s d c t p e at f = then-then (declared t p (part s p e) at) _ f
+    ∙ then-same (declared t p (part s p e) at) _ _ (λ i b. then-then (reference s d c t i b) _ f)
 
 -- ---- what was taken
 
@@ -100,12 +102,15 @@ module _ (s : List ℕ) (c : Scope) (x : Init) (p e : ℕ) (a : Parsed) (h : a �
   pub fact-refused : (facts : List ℕ) (numbers : List ℤ) (k q : ℕ) → a ≡ Refused k q → Took a facts numbers (factOf s c x p e e)
   fact-refused facts numbers k q i =
       took-refused a facts numbers _ k q
-      (sym (ground-on s 13 c (c .predicates) p e e (λ j. give (withFact x j))) ∙ ap (λ (y : Read ℕ). andThen y (λ j. give (withFact x j))) (answer-refused (groundOf s 13 c (c .predicates) p e e) k q (sym h ∙ i))) i
+      (sym (ground-on s 13 c (c .predicates) p e e (λ j. give (withFact x j)))
+      ∙ ap (λ (y : Read ℕ). andThen y (λ j. give (withFact x j))) (answer-refused (groundOf s 13 c (c .predicates) p e e) k q (sym h ∙ i))) i
 
-  pub fact-done : (facts facts′ : List ℕ) (numbers : List ℤ) (n i : ℕ) → a ≡ Done n i → facts′ ≡ set facts i 1 → Stands facts numbers x → Took (Done n 0) facts′ numbers (factOf s c x p e e)
+  pub fact-done : (facts facts′ : List ℕ) (numbers : List ℤ) (n i : ℕ) → a ≡ Done n i → facts′ ≡ set facts i 1 → Stands facts numbers x
+      → Took (Done n 0) facts′ numbers (factOf s c x p e e)
   fact-done facts facts′ numbers n i j k w =
       took-got facts′ numbers _ (withFact x i) n
-      (sym (ground-on s 13 c (c .predicates) p e e (λ y. give (withFact x y))) ∙ ap (λ (y : Read ℕ). andThen y (λ z. give (withFact x z))) (answer-done (groundOf s 13 c (c .predicates) p e e) n i (sym h ∙ j)))
+      (sym (ground-on s 13 c (c .predicates) p e e (λ y. give (withFact x y)))
+      ∙ ap (λ (y : Read ℕ). andThen y (λ z. give (withFact x z))) (answer-done (groundOf s 13 c (c .predicates) p e e) n i (sym h ∙ j)))
       (stands-fact facts numbers x w facts′ i k)
 
 -- ---- the number that is given
@@ -137,13 +142,15 @@ module _ (s : List ℕ) (c : Scope) (x : Init) (at : ℕ) (o : Parsed) (ho : o �
       pub target-refused : (k l : ℕ) → a ≡ Refused k l → a ≡ answerOf (targetOf s c x at)
       target-refused k l m = rw (target-as, answer-refused (groundOf s 12 c (c .functions) p e e) k l (sym ha ∙ m)) m
 
-      module _ (n v : ℕ) (m : a ≡ Done n v) (facts : List ℕ) (numbers : List ℤ) (st : Stands facts numbers x) (out : c .inAction ≡ false) (tables : List ℕ) (counts : Counts)
+      module _ (n v : ℕ) (m : a ≡ Done n v) (facts : List ℕ) (numbers : List ℤ) (st : Stands facts numbers x) (out : c .inAction ≡ false)
+          (tables : List ℕ) (counts : Counts)
           (sc : Scoped tables counts c) (fit : sumsFit c ≡ true) where
         ground-is : groundOf s 12 c (c .functions) p e e ≡ got v n
         ground-is = answer-done (groundOf s 12 c (c .functions) p e e) n v (sym ha ∙ m)
 
         given : ltZ undefined (getD numbers v undefined) ≡ isGiven v (x .numbers)
-        given = given-is-defined facts numbers x v st (omega (arith, ground-below s 12 c (c .functions) p e out (sc .numbers) v n ground-is, sums-numbers c fit))
+        given = given-is-defined facts numbers x v st (omega
+            (arith, ground-below s 12 c (c .functions) p e out (sc .numbers) v n ground-is, sums-numbers c fit))
 
         pub target-twice : ltZ undefined (getD numbers v undefined) ≡ true → Refused 7 p ≡ answerOf (targetOf s c x at)
         target-twice t = rw (target-as, ground-is, sym given ∙ t)
@@ -164,10 +171,12 @@ module _ (s : List ℕ) (x : Init) (i at : ℕ) (facts : List ℕ) where
     unfolding valueFor
     value-open numbers k l j = took-refused a facts numbers _ k l (rw (q, answer-refused (closing s 13 e) k l (sym h ∙ j))) j
 
-    pub value-done : (numbers numbers′ : List ℤ) (n v : ℕ) → a ≡ Done n v → numbers′ ≡ set numbers i z → Stands facts numbers x → Took (Done n 0) facts numbers′ (valueFor s x i at)
+    pub value-done : (numbers numbers′ : List ℤ) (n v : ℕ) → a ≡ Done n v → numbers′ ≡ set numbers i z → Stands facts numbers x
+        → Took (Done n 0) facts numbers′ (valueFor s x i at)
     unfolding valueFor
     value-done numbers numbers′ n v j k w =
-        took-got facts numbers′ _ (withNumber x i z) n (rw (q, answer-done (closing s 13 e) n v (sym h ∙ j))) (stands-number facts numbers x w numbers′ i z k (number-defined s at z p e q))
+        took-got facts numbers′ _ (withNumber x i z) n (rw (q, answer-done (closing s 13 e) n v (sym h ∙ j)))
+        (stands-number facts numbers x w numbers′ i z k (number-defined s at z p e q))
 
 module _ (s : List ℕ) (c : Scope) (x : Init) (at : ℕ) (a : Parsed) (h : a ≡ answerOf (targetOf s c x at)) where
   value-as : andThen (targetOf s c x at) (λ i. valueFor s x i) ≡ valueOf s c x at
@@ -181,7 +190,8 @@ module _ (s : List ℕ) (c : Scope) (x : Init) (at : ℕ) (a : Parsed) (h : a �
   pub number-refused : (facts : List ℕ) (numbers : List ℤ) (k p : ℕ) → a ≡ Refused k p → Took a facts numbers (valueOf s c x at)
   number-refused facts numbers k p i = took-refused a facts numbers _ k p (sym value-as ∙ rw (answer-refused (targetOf s c x at) k p (sym h ∙ i))) i
 
-  pub number-done : (facts : List ℕ) (numbers : List ℤ) (n v : ℕ) (r : Parsed) → a ≡ Done n v → Took r facts numbers (valueFor s x v n) → Took r facts numbers (valueOf s c x at)
+  pub number-done : (facts : List ℕ) (numbers : List ℤ) (n v : ℕ) (r : Parsed) → a ≡ Done n v → Took r facts numbers (valueFor s x v n)
+      → Took r facts numbers (valueOf s c x at)
   number-done facts numbers n v r i w = rw (← value-as, answer-done (targetOf s c x at) n v (sym h ∙ i)) w
 
 -- ---- with its brackets
@@ -196,7 +206,8 @@ module _ (s : List ℕ) (c : Scope) (x : Init) (at : ℕ) (o : Parsed) (ho : o �
         → r ≡ Refused (numberOf 13 t) (placeOf t) → Took r facts numbers (entryOf s c x at)
     unfolding entryOf
     entry-else t r e w z =
-        took-refused r facts numbers (entryOf s c x at) (numberOf 13 t) (placeOf t) (rw (answer-done (opening s 14 at) b q (sym ho ∙ i), ← e, not-word t _ _ w)) z
+        took-refused r facts numbers (entryOf s c x at) (numberOf 13 t) (placeOf t)
+        (rw (answer-done (opening s 14 at) b q (sym ho ∙ i), ← e, not-word t _ _ w)) z
 
     module _ (k : Word) (p e : ℕ) (t : tokenAt s b ≡ T.Word k p e) where
       entry-as : (j : Word) → k ≡ j → entryOf s c x at ≡ initWord s c x j p e e
@@ -206,7 +217,8 @@ module _ (s : List ℕ) (c : Scope) (x : Init) (at : ℕ) (o : Parsed) (ho : o �
       pub entry-fact : (r : Parsed) → k ≡ W.Name → Took r facts numbers (factOf s c x p e e) → Took r facts numbers (entryOf s c x at)
       entry-fact r w z = rw (entry-as W.Name w) z
 
-      pub entry-number : (r : Parsed) → k ≡ W.Operator → sameWord (part s p e) (bytes "=") ≡ true → Took r facts numbers (valueOf s c x e) → Took r facts numbers (entryOf s c x at)
+      pub entry-number : (r : Parsed) → k ≡ W.Operator → sameWord (part s p e) (bytes "=") ≡ true → Took r facts numbers (valueOf s c x e)
+          → Took r facts numbers (entryOf s c x at)
       entry-number r w y z = rw (entry-as W.Operator w, y) z
 
       pub entry-operator : k ≡ W.Operator → sameWord (part s p e) (bytes "=") ≡ false → Took (Refused 3 p) facts numbers (entryOf s c x at)

@@ -106,8 +106,10 @@ number-back z rest h = elim (ℕ-discrete (natAbs z % 1000) 0) [
     most = abs-most z 1099511627775 h
 
     whole : (t : Bool) → ltZ z (pos 0) ≡ t → natAbs z % 1000 ≡ 0 → numberIn (literal (cond t 24 16 + 16) (natAbs z / 1000) ++ rest) ≡ z
-    whole true q e = literal-back 40 true true (natAbs z / 1000) rest refl (omega (arith, mod-add-div (natAbs z) 1000, most)) ∙ rw (whole-back (natAbs z) e) (rw q at (signed-back z))
-    whole false q e = literal-back 32 false true (natAbs z / 1000) rest refl (omega (arith, mod-add-div (natAbs z) 1000, most)) ∙ rw (whole-back (natAbs z) e) (rw q at (signed-back z))
+    whole true q e = literal-back 40 true true (natAbs z / 1000) rest refl (omega (arith, mod-add-div (natAbs z) 1000, most))
+        ∙ rw (whole-back (natAbs z) e) (rw q at (signed-back z))
+    whole false q e = literal-back 32 false true (natAbs z / 1000) rest refl (omega (arith, mod-add-div (natAbs z) 1000, most))
+        ∙ rw (whole-back (natAbs z) e) (rw q at (signed-back z))
 
     fine : (t : Bool) → ltZ z (pos 0) ≡ t → numberIn (literal (cond t 24 16) (natAbs z) ++ rest) ≡ z
     fine true q = literal-back 24 true false (natAbs z) rest refl (omega (arith, most)) ∙ (rw q at (signed-back z))

@@ -43,7 +43,8 @@ bytes-length zero v = refl
 bytes-length (suc k) v = ap suc (bytes-length k (v / 256))
 
 -- the rest of the bytes, stored from the next place on
-pub bytes-step : (code : List ℕ) (at i k v : ℕ) → i < k → sets (set code (at + i) (v % 256)) (at + (i + 1)) (bytesOf (k - (i + 1)) (v / 256)) ≡ sets code (at + i) (bytesOf (k - i) v)
+pub bytes-step : (code : List ℕ) (at i k v : ℕ) → i < k → sets (set code (at + i) (v % 256)) (at + (i + 1)) (bytesOf (k - (i + 1)) (v / 256)) ≡ sets
+    code (at + i) (bytesOf (k - i) v)
 unfolding bytesOf
 bytes-step code at i k v h =
     let e : at + (i + 1) ≡ suc (at + i) = omega arith in

@@ -20,7 +20,8 @@ part-past : (a b : List ℕ) (n p e : ℕ) → length a ≡ n → part (a ++ b) 
 part-past a b n p e h =
     let k : n + e - (n + p) ≡ e - p = omega arith in
     let j : n + p ≡ length a + p = omega (arith, h) in
-    ap (λ (i : ℕ). take i (drop (n + p) (a ++ b))) k ∙ ap (λ (i : ℕ). take (e - p) (drop i (a ++ b))) j ∙ ap (λ (l : List ℕ). take (e - p) l) (drop-append-add a b p)
+    ap (λ (i : ℕ). take i (drop (n + p) (a ++ b))) k ∙ ap (λ (i : ℕ). take (e - p) (drop i (a ++ b))) j
+    ∙ ap (λ (l : List ℕ). take (e - p) l) (drop-append-add a b p)
 
 module _ (d : Domain) (os : Table) where
   types-long : length (rowsOf 17 (d .types)) ≡ 646

@@ -48,7 +48,8 @@ module _ (s t : List ℕ) (d : Domain) (p : Problem) (m n : ℕ) (e : readDomain
       ∙ signed-back 32 (declarations (d .actions)) (h .few) (h .short) (h .kept)
 
   actions-back : Fit AllSigned 32 (declarations (d .actions))
-      → actionsAt (sets (zeros 32768) 0 (actionsCells (d .actions))) (sets (zeros 96) 0 (startsOf 0 (d .actions))) 0 (signedIn (rowsOf 32 (declarations (d .actions))) (length (d .actions)))
+      → actionsAt (sets (zeros 32768) 0 (actionsCells (d .actions))) (sets (zeros 96) 0 (startsOf 0 (d .actions))) 0
+      (signedIn (rowsOf 32 (declarations (d .actions))) (length (d .actions)))
       ≡ d .actions
   actions-back h =
       ap (λ (l : Table). actionsAt (sets (zeros 32768) 0 (actionsCells (d .actions))) (sets (zeros 96) 0 (startsOf 0 (d .actions))) 0 l) (heads-back h)
@@ -57,7 +58,8 @@ module _ (s t : List ℕ) (d : Domain) (p : Problem) (m n : ℕ) (e : readDomain
 
   goal-read : conditionAt (sets (zeros 32768) 0 (condCells (p .goal))) 0 .tree ≡ p .goal
   goal-read =
-      let room : 0 + length (condCells (p .goal)) ≤ length (zeros 32768) = omega (arith, read-fits s t d p m n e f .problem .cells, length-replicate {A = ℕ} 32768 0) in
+      let room : 0 + length (condCells (p .goal)) ≤ length (zeros 32768) =
+      omega (arith, read-fits s t d p m n e f .problem .cells, length-replicate {A = ℕ} 32768 0) in
       ap (λ x. x .tree) (goal-back s t d p m n (sets (zeros 32768) 0 (condCells (p .goal))) 0 e f (stored (zeros 32768) 0 (condCells (p .goal)) room))
 
   pub model-back : decode (modelOf d p) ≡ readingOf d p

@@ -27,9 +27,13 @@ unfolding tablesOf
 tables-are tables n d os h long =
     let whole : part tables 0 5054 ≡ tables = take-all 5054 tables (omega (arith, long)) in
     let tail₄ : part tables 4294 5054 ≡ rowsOf 16 (d .functions) ++ rowsOf 4 [] =
-    joined tables 4294 4902 5054 (omega arith) (omega arith) ∙ ap (λ (r : List ℕ). r ++ part tables 4902 5054) (h .functions .are) ∙ ap (λ (r : List ℕ). rowsOf 16 (d .functions) ++ r) (h .variables .are) in
+    joined tables 4294 4902 5054 (omega arith) (omega arith) ∙ ap (λ (r : List ℕ). r ++ part tables 4902 5054) (h .functions .are)
+    ∙ ap (λ (r : List ℕ). rowsOf 16 (d .functions) ++ r) (h .variables .are) in
     let tail₃ : part tables 3078 5054 ≡ rowsOf 32 (d .predicates) ++ (rowsOf 16 (d .functions) ++ rowsOf 4 []) =
-    joined tables 3078 4294 5054 (omega arith) (omega arith) ∙ ap (λ (r : List ℕ). r ++ part tables 4294 5054) (h .predicates .are) ∙ ap (λ (r : List ℕ). rowsOf 32 (d .predicates) ++ r) tail₄ in
+    joined tables 3078 4294 5054 (omega arith) (omega arith) ∙ ap (λ (r : List ℕ). r ++ part tables 4294 5054) (h .predicates .are)
+    ∙ ap (λ (r : List ℕ). rowsOf 32 (d .predicates) ++ r) tail₄ in
     let tail₂ : part tables 646 5054 ≡ rowsOf 64 os ++ (rowsOf 32 (d .predicates) ++ (rowsOf 16 (d .functions) ++ rowsOf 4 [])) =
-    joined tables 646 3078 5054 (omega arith) (omega arith) ∙ ap (λ (r : List ℕ). r ++ part tables 3078 5054) (h .objects .are) ∙ ap (λ (r : List ℕ). rowsOf 64 os ++ r) tail₃ in
-    sym whole ∙ joined tables 0 646 5054 (omega arith) (omega arith) ∙ ap (λ (r : List ℕ). r ++ part tables 646 5054) (h .types .are) ∙ ap (λ (r : List ℕ). rowsOf 17 (d .types) ++ r) tail₂
+    joined tables 646 3078 5054 (omega arith) (omega arith) ∙ ap (λ (r : List ℕ). r ++ part tables 3078 5054) (h .objects .are)
+    ∙ ap (λ (r : List ℕ). rowsOf 64 os ++ r) tail₃ in
+    sym whole ∙ joined tables 0 646 5054 (omega arith) (omega arith) ∙ ap (λ (r : List ℕ). r ++ part tables 646 5054) (h .types .are)
+    ∙ ap (λ (r : List ℕ). rowsOf 17 (d .types) ++ r) tail₂

@@ -35,7 +35,8 @@ filled (suc m) q [] h = ap (λ (l : List ℕ). 0 ∷ l) (filled m q [] (omega ar
 filled zero q (b ∷ bs) h = absurd (let z : ⊥ = omega arith in z)
 filled (suc m) q (b ∷ bs) h = ap (λ (l : List ℕ). b ∷ l) (filled m q bs (omega arith))
 
-pub firsts-laid : (n : ℕ) (ps fs : Table) → length ps ≤ 32 → length fs ≤ 16 → set (sets (sets (zeros 49) 0 (basesOf n ps)) 32 (basesOf n fs)) 48 n ≡ firstsOf n ps fs
+pub firsts-laid : (n : ℕ) (ps fs : Table) → length ps ≤ 32 → length fs ≤ 16
+    → set (sets (sets (zeros 49) 0 (basesOf n ps)) 32 (basesOf n fs)) 48 n ≡ firstsOf n ps fs
 firsts-laid n ps fs h k =
     let bs = basesOf n ps in
     let cs = basesOf n fs in
@@ -44,8 +45,10 @@ firsts-laid n ps fs h k =
     let lp : length (padded 32 bs) ≡ 32 = length-padded 32 bs in
     let lq : length (padded 16 cs) ≡ 16 = length-padded 16 cs in
     ap (λ (l : List ℕ). set (sets l 32 cs) 48 n) (behind [] (zeros 49) bs 0 refl (omega arith) ∙ filled 32 (zeros 17) bs hb)
-    ∙ ap (λ (l : List ℕ). set l 48 n) (behind (padded 32 bs) (zeros 17) cs 32 lp (omega arith) ∙ ap (λ (l : List ℕ). padded 32 bs ++ l) (filled 16 (zeros 1) cs hc) ∙ sym (append-assoc (padded 32 bs) (padded 16 cs) (zeros 1)))
-    ∙ set-at (padded 32 bs ++ padded 16 cs) 0 [] n 48 (let z : length (padded 32 bs ++ padded 16 cs) ≡ 48 = omega (arith, length-append (padded 32 bs) (padded 16 cs)) in z)
+    ∙ ap (λ (l : List ℕ). set l 48 n) (behind (padded 32 bs) (zeros 17) cs 32 lp (omega arith)
+    ∙ ap (λ (l : List ℕ). padded 32 bs ++ l) (filled 16 (zeros 1) cs hc) ∙ sym (append-assoc (padded 32 bs) (padded 16 cs) (zeros 1)))
+    ∙ set-at (padded 32 bs ++ padded 16 cs) 0 [] n 48 (let z : length (padded 32 bs ++ padded 16 cs) ≡ 48 =
+    omega (arith, length-append (padded 32 bs) (padded 16 cs)) in z)
     ∙ append-assoc (padded 32 bs) (padded 16 cs) (n ∷ [])
 
 -- there is room for those of the functions
@@ -57,12 +60,30 @@ room n ps count h = let e : length (sets (zeros 49) 0 (basesOf n ps)) ≡ 49 = l
 module _ (tables : List ℕ) (n : Counts) (c : Scope) (h : Scoped tables n c) (fit : sumsFit c ≡ true) where
   pub facts-low : (s : Signatures tables 3078 (n .predicates)) × (sumOf (n .objects) (s .table) < 65536)
   facts-low = (
-    record { rows = 32; to = 4294; table = c .predicates; holds = h .predicates; signed = h .facts; few = omega (arith, h .predicates .fits); near = omega arith },
+    record {
+      rows = 32;
+      to = 4294;
+      table = c .predicates;
+      holds = h .predicates;
+      signed = h .facts;
+      few = omega (arith, h .predicates .fits);
+      near =
+          omega arith;
+    },
     rw (h .objects .count) (omega (arith, sums-fit c fit .0)),
   )
 
   pub numbers-low : (s : Signatures tables 4294 (n .functions)) × (sumOf (n .objects) (s .table) < 65536)
   numbers-low = (
-    record { rows = 16; to = 4902; table = c .functions; holds = h .functions; signed = h .numbers; few = omega (arith, h .functions .fits); near = omega arith },
+    record {
+      rows = 16;
+      to = 4902;
+      table = c .functions;
+      holds = h .functions;
+      signed = h .numbers;
+      few = omega (arith, h .functions .fits);
+      near =
+          omega arith;
+    },
     rw (h .objects .count) (omega (arith, sums-fit c fit .1)),
   )

@@ -91,7 +91,8 @@ module _ (s : List ℕ) (r : Known) (tables actions code starts : List ℕ) wher
   knows-not : (x : Read Domain) (k p : ℕ) → Answers x → r ≡ K.Refused k p → x ≡ refused k p
   unfolding Knows
   knows-not (got d m) k p h q =
-      absurd (let g : K.Done (h .from) (h .to) (countsIn d) (length (d .actions)) ≡ K.Refused k p = sym (h .is) ∙ q in let z : _≡_ {A = ℕ} 0 1 = cc in let y : ⊥ = omega arith in y)
+      absurd (let g : K.Done (h .from) (h .to) (countsIn d) (length (d .actions)) ≡ K.Refused k p = sym (h .is) ∙ q in let z : _≡_ {A = ℕ} 0 1 =
+      cc in let y : ⊥ = omega arith in y)
   knows-not (refused j i) k p h q =
       let g : K.Refused j i ≡ K.Refused k p = sym h ∙ q in
       let z : j ≡ k = cc in
@@ -99,7 +100,8 @@ module _ (s : List ℕ) (r : Known) (tables actions code starts : List ℕ) wher
       rw (z, y)
 
   module _ (h : Answers (readDomain s)) where
-    pub understood : (p e : ℕ) (c : Counts) (n : ℕ) → r ≡ K.Done p e c n → (name : List ℕ) → name ≡ part s p e → Understood s name (domainModel tables actions code starts c n)
+    pub understood : (p e : ℕ) (c : Counts) (n : ℕ) → r ≡ K.Done p e c n → (name : List ℕ) → name ≡ part s p e
+        → Understood s name (domainModel tables actions code starts c n)
     understood p e c n q name i = rw i (knows-got (readDomain s) p e c n refl h q)
 
     pub no-domain : (t : List ℕ) (k p : ℕ) (x : Loaded) → r ≡ K.Refused k p → x ≡ fixedOf (Is.Domain k p) → x ≡ loadOf s t
@@ -109,7 +111,8 @@ module _ (s : List ℕ) (r : Known) (tables actions code starts : List ℕ) wher
 -- ---- the problem, by its answer
 
 posed-got : (t : List ℕ) (d : Domain) (c : Counts) (r : Parsed) (tables facts : List ℕ) (numbers : List ℤ) (was goal : List ℕ) (x : Read Problem) (a v : ℕ)
-    → Posed t d c r tables facts numbers was goal x → r ≡ A.Done a v → (p : Problem) × (x ≡ got p a) × Poses t d c r tables facts numbers was goal p a × (v ≡ length (p .objects))
+    → Posed t d c r tables facts numbers was goal x → r ≡ A.Done a v → (p : Problem) × (x ≡ got p a) × Poses t d c r tables facts numbers was goal p a
+    × (v ≡ length (p .objects))
 unfolding Posed
 posed-got t d c r tables facts numbers was goal (got p m) a v h q =
     let g : A.Done m (length (p .objects)) ≡ A.Done a v = sym (h .answer) ∙ q in
@@ -161,7 +164,8 @@ module _ (t : List ℕ) (d : Domain) (c : Counts) (r : Parsed) (tables facts : L
           aimed = g .2 .goal;
         }
       where
-        scope-by : (p : Problem) → v ≡ length (p .objects) → Scoped tables (withObjects c (length (p .objects))) (scopeOf d (p .objects)) → Scoped tables (withObjects c v) (scopeOf d (p .objects))
+        scope-by : (p : Problem) → v ≡ length (p .objects) → Scoped tables (withObjects c (length (p .objects))) (scopeOf d (p .objects))
+            → Scoped tables (withObjects c v) (scopeOf d (p .objects))
         scope-by p e k = rw e k
 
 -- ---- both
@@ -169,17 +173,31 @@ module _ (t : List ℕ) (d : Domain) (c : Counts) (r : Parsed) (tables facts : L
 -- the arrays of a domain and a problem are those of their model
 same-model : (d : Domain) (p : Problem) (tables actions starts code goal firsts : List ℕ) (i j : ℕ) (facts : List ℕ) (numbers : List ℤ) (c : Counts) (n : ℕ)
     → tables ≡ tablesOf d (p .objects) → actions ≡ rowsOf 32 (declarations (d .actions)) → starts ≡ sets (zeros 96) 0 (startsOf 0 (d .actions))
-    → code ≡ sets (zeros 32768) 0 (actionsCells (d .actions)) → goal ≡ sets (zeros 32768) 0 (condCells (p .goal)) → firsts ≡ firstsOf (length (p .objects)) (d .predicates) (d .functions)
-    → i ≡ sumOf (length (p .objects)) (d .predicates) → j ≡ sumOf (length (p .objects)) (d .functions) → facts ≡ firstFacts (p .init) → numbers ≡ firstNumbers (p .init)
+    → code ≡ sets (zeros 32768) 0 (actionsCells (d .actions)) → goal ≡ sets (zeros 32768) 0 (condCells (p .goal))
+    → firsts ≡ firstsOf (length (p .objects)) (d .predicates) (d .functions)
+    → i ≡ sumOf (length (p .objects)) (d .predicates) → j ≡ sumOf (length (p .objects)) (d .functions) → facts ≡ firstFacts (p .init)
+    → numbers ≡ firstNumbers (p .init)
     → c ≡ withObjects (countsIn d) (length (p .objects)) → n ≡ length (d .actions)
     → record {
-      model = record { tables = tables; actions = actions; starts = starts; code = code; goal = goal; firsts = firsts; sizes = record { facts = i; numbers = j }; counts = c; acting = n };
+      model = record {
+        tables = tables;
+        actions = actions;
+        starts = starts;
+        code = code;
+        goal = goal;
+        firsts = firsts;
+        sizes =
+            record { facts = i; numbers = j };
+        counts = c;
+        acting = n;
+      };
       facts = facts;
       numbers = numbers;
       answer = Is.Loaded;
     } ≡ loadedOf d p
 unfolding loadedOf modelOf
-same-model d p tables actions starts code goal firsts i j facts numbers c n et ea es ec eg ef ei ej es′ ev eo em = rw (et, ea, es, ec, eg, ef, ei, ej, es′, ev, eo, em) refl
+same-model d p tables actions starts code goal firsts i j facts numbers c n et ea es ec eg ef ei ej es′ ev eo em =
+    rw (et, ea, es, ec, eg, ef, ei, ej, es′, ev, eo, em) refl
 
 -- the problem's arrays and numbers beside a model of its domain
 pub both-read : (t name : List ℕ) (d : Domain) (m : Model) → Models d name m → (p : Problem) (a : ℕ) → readProblem t d ≡ got p a
@@ -188,7 +206,18 @@ pub both-read : (t name : List ℕ) (d : Domain) (m : Model) → Models d name m
     → firsts ≡ firstsOf (length (p .objects)) (d .predicates) (d .functions) → i ≡ sumOf v (d .predicates) → j ≡ sumOf v (d .functions)
     → facts ≡ firstFacts (p .init) → numbers ≡ firstNumbers (p .init)
     → record {
-      model = record { tables = tables; actions = m .actions; starts = m .starts; code = m .code; goal = goal; firsts = firsts; sizes = record { facts = i; numbers = j }; counts = withObjects (m .counts) v; acting = m .acting };
+      model = record {
+        tables = tables;
+        actions = m .actions;
+        starts = m .starts;
+        code = m .code;
+        goal = goal;
+        firsts = firsts;
+        sizes =
+            record { facts = i; numbers = j };
+        counts = withObjects (m .counts) v;
+        acting = m .acting;
+      };
       facts = facts;
       numbers = numbers;
       answer = Is.Loaded;
@@ -204,5 +233,6 @@ pub domain-loaded : (s t : List ℕ) (d : Domain) (end : ℕ) → readDomain s �
 unfolding loadOf
 domain-loaded s t d end i x e = e ∙ rw i refl
 
-pub both-loaded : (s t : List ℕ) (d : Domain) (end : ℕ) → readDomain s ≡ got d end → (p : Problem) (a : ℕ) → readProblem t d ≡ got p a → (x : Loaded) → x ≡ loadedOf d p → x ≡ loadOf s t
+pub both-loaded : (s t : List ℕ) (d : Domain) (end : ℕ) → readDomain s ≡ got d end → (p : Problem) (a : ℕ) → readProblem t d ≡ got p a → (x : Loaded)
+    → x ≡ loadedOf d p → x ≡ loadOf s t
 both-loaded s t d end i p a j x e = domain-loaded s t d end i x (e ∙ rw j refl)

@@ -38,7 +38,8 @@ Each read rows = readAll read rows ≡ wanted rows
 -- ---- the vocabulary: types 0 `object`, 1 `tool`, 2 `drill` and 3 `saw` below it, 4 `place`
 
 abbrev types : Table
-types = entry (bytes "object") (0 ∷ []) ∷ entry (bytes "tool") (0 ∷ []) ∷ entry (bytes "drill") (1 ∷ []) ∷ entry (bytes "saw") (1 ∷ []) ∷ entry (bytes "place") (0 ∷ []) ∷ []
+types = entry (bytes "object") (0 ∷ []) ∷ entry (bytes "tool") (0 ∷ []) ∷ entry (bytes "drill") (1 ∷ []) ∷ entry (bytes "saw") (1 ∷ [])
+    ∷ entry (bytes "place") (0 ∷ []) ∷ []
 
 abbrev constants : Table
 constants = entry (bytes "home") (4 ∷ []) ∷ []
@@ -64,8 +65,16 @@ haul =
     record {
       declared = entry (bytes "haul") (3 ∷ 2 ∷ 4 ∷ 4 ∷ []);
       lasting = moment;
-      conditions = record { when = start; what = all (cons (atom true (to 1 (variable 0 ∷ variable 1 ∷ []))) (cons (same false (variable 1) (variable 2)) none)) } ∷ [];
-      effects = record { when = start; what = becomes false (to 1 (variable 0 ∷ variable 1 ∷ [])) ∷ becomes true (to 1 (variable 0 ∷ variable 2 ∷ [])) ∷ changes lower (to 0 []) (value (to 2 (variable 1 ∷ variable 2 ∷ []))) ∷ [] } ∷ [];
+      conditions = record {
+        when = start;
+        what = all (cons (atom true (to 1 (variable 0 ∷ variable 1 ∷ [])))
+            (cons (same false (variable 1) (variable 2)) none));
+      } ∷ [];
+      effects = record {
+        when = start;
+        what = becomes false (to 1 (variable 0 ∷ variable 1 ∷ [])) ∷ becomes true (to 1 (variable 0 ∷ variable 2 ∷ []))
+            ∷ changes lower (to 0 []) (value (to 2 (variable 1 ∷ variable 2 ∷ []))) ∷ [];
+      } ∷ [];
     }
 
 abbrev rest : Action
@@ -73,7 +82,11 @@ rest =
     record {
       declared = entry (bytes "rest") (0 ∷ []);
       lasting = rule (plus (value (to 0 [])) (number (pos 1000)));
-      conditions = record { when = start; what = all (cons (atom true (to 0 [])) (cons (all (cons (compare true more (value (to 0 [])) (number (pos 0))) none)) none)) } ∷ [];
+      conditions = record {
+        when = start;
+        what = all (cons (atom true (to 0 []))
+            (cons (all (cons (compare true more (value (to 0 [])) (number (pos 0))) none)) none));
+      } ∷ [];
       effects = record { when = end; what = becomes true (to 0 []) ∷ becomes true (to 0 []) ∷ [] } ∷ [];
     }
 

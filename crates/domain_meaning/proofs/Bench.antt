@@ -15,13 +15,20 @@ use Rattle.domain_meaning.specs.Terms.{object, variable, Ref, number, va
 use Rattle.domain_meaning.specs.Indexes.{sumOf, basesFrom, digits, indexIn, indexOf}
 use Rattle.domain_meaning.specs.Conditions.{atom, compare, atLeast, atomAt, comparison, sameObjects, equality, negation, listTo, conjunction, condition}
 use Rattle.domain_meaning.specs.Effects.{becomes, changes, assign, raise, becomesAt, target, changeAt, deletion, effectsTo, effect}
-use Rattle.domain_meaning.specs.Actions.{start, whole, end, moment, rule, timeOf, partBehind, partAt, partsTo, parts, durationRule, fieldOf, simpleBody, durativeBody, action}
-use Rattle.domain_meaning.specs.Domain.{Domain, beginsWith, ending, headingOf, flagsTo, actionsTo, flagsSection, typesSection, constantsSection, declaredSection, vocabulary, domainText, readDomain}
+use Rattle.domain_meaning.specs.Actions.{start, whole, end, moment, rule, timeOf, partBehind, partAt, partsTo, parts, durationRule, fieldOf, simpleBody}
+use Rattle.domain_meaning.specs.Actions.{durativeBody, action}
+use Rattle.domain_meaning.specs.Domain.{Domain, beginsWith, ending, headingOf, flagsTo, actionsTo, flagsSection, typesSection, constantsSection}
+use Rattle.domain_meaning.specs.Domain.{declaredSection, vocabulary, domainText, readDomain}
 use Rattle.domain_meaning.specs.Problem.{Valued, Problem, isGiven, initTo, sectionDueOf, initAndGoal, premises, problemText, readProblem}
 
 -- on an `unfolding` line this opens all that reading a domain or a problem goes through
 unfoldable pub open-texts : Unit {0}
-unfolding open-tokens headOf isFlag isReserved lookup fresh declared isBelow retype opening closing wordDue anyName newName typeNamed typeDue group item declare waiting typed namesTo variablesTo typesTo declaration declarations argument fits arguments reference counted operandsEnd expr expression atomAt comparison sameObjects equality negation listTo conjunction condition becomesAt target changeAt deletion effectsTo effect timeOf partBehind partAt partsTo parts durationRule fieldOf simpleBody durativeBody action beginsWith ending headingOf flagsTo actionsTo flagsSection typesSection constantsSection declaredSection vocabulary domainText readDomain sumOf basesFrom digits indexIn indexOf isGiven initTo sectionDueOf initAndGoal premises problemText readProblem
+unfolding open-tokens headOf isFlag isReserved lookup fresh declared isBelow retype opening closing wordDue anyName newName typeNamed typeDue group
+    item declare waiting typed namesTo variablesTo typesTo declaration declarations argument fits arguments reference counted operandsEnd expr
+    expression atomAt comparison sameObjects equality negation listTo conjunction condition becomesAt target changeAt deletion effectsTo effect timeOf
+    partBehind partAt partsTo parts durationRule fieldOf simpleBody durativeBody action beginsWith ending headingOf flagsTo actionsTo flagsSection
+    typesSection constantsSection declaredSection vocabulary domainText readDomain sumOf basesFrom digits indexIn indexOf isGiven initTo sectionDueOf
+    initAndGoal premises problemText readProblem
 open-texts = tt
 
 pub benchText : List ℕ
@@ -51,9 +58,27 @@ bench = record {
         effects = record { when = start; what = becomes false (ofPump 0) ∷ [] } ∷ record { when = end; what = becomes true (ofPump 0) ∷ [] }
             ∷ record { when = end; what = changes raise (ofPump 1) (number (pos 1000)) ∷ [] } ∷ [];
       }
-      ∷ record { declared = pump (bytes "off"); lasting = moment; conditions = record { when = start; what = atom true (ofPump 1) } ∷ []; effects = record { when = start; what = becomes false (ofPump 1) ∷ [] } ∷ [] }
-      ∷ record { declared = pump (bytes "note"); lasting = moment; conditions = []; effects = record { when = start; what = changes raise (ofPump 1) (number (pos 1000)) ∷ [] } ∷ [] }
-      ∷ record { declared = pump (bytes "zero"); lasting = moment; conditions = []; effects = record { when = start; what = changes assign (ofPump 1) (number (pos 0)) ∷ [] } ∷ [] }
+      ∷ record {
+        declared = pump (bytes "off");
+        lasting = moment;
+        conditions = record { when = start; what = atom true (ofPump 1) } ∷ [];
+        effects =
+            record { when = start; what = becomes false (ofPump 1) ∷ [] } ∷ [];
+      }
+      ∷ record {
+        declared = pump (bytes "note");
+        lasting = moment;
+        conditions = [];
+        effects =
+            record { when = start; what = changes raise (ofPump 1) (number (pos 1000)) ∷ [] } ∷ [];
+      }
+      ∷ record {
+        declared = pump (bytes "zero");
+        lasting = moment;
+        conditions = [];
+        effects =
+            record { when = start; what = changes assign (ofPump 1) (number (pos 0)) ∷ [] } ∷ [];
+      }
       ∷ [];
 }
 

@@ -37,7 +37,8 @@ module _ {A : Type 0} {P : A → ℕ → Type 0} {Q : ℕ → ℕ → Type 0} wh
   pub given-refused : {r : Read A} {k p : ℕ} → Given P Q r → r ≡ refused k p → Q k p
   given-refused g e = of-refused (rw e at g)
 
-  pub given-then : {B : Type 0} {O : B → ℕ → Type 0} {r : Read A} (f : A → Reader B) → Given P Q r → ((a : A) (n : ℕ) → P a n → Given O Q (f a n)) → Given O Q (andThen r f)
+  pub given-then : {B : Type 0} {O : B → ℕ → Type 0} {r : Read A} (f : A → Reader B) → Given P Q r → ((a : A) (n : ℕ) → P a n → Given O Q (f a n))
+      → Given O Q (andThen r f)
   given-then f (reads h) k = k _ _ h
   given-then f (refuses h) k = refuses h
 
@@ -47,7 +48,8 @@ module _ {A : Type 0} {P : A → ℕ → Type 0} {Q : ℕ → ℕ → Type 0} wh
 
 -- R holds of the token
 module _ {A : Type 0} {P : A → ℕ → Type 0} {Q : ℕ → ℕ → Type 0} (R : Token → Type 0) where
-  pub given-word : (t : Token) (f : Word → ℕ → ℕ → Reader A) (g : Reader A) (n : ℕ) → R t → ((k : Word) (p e : ℕ) → R (T.Word k p e) → Given P Q (f k p e n)) → Given P Q (g n) → Given P Q (onWord t f g n)
+  pub given-word : (t : Token) (f : Word → ℕ → ℕ → Reader A) (g : Reader A) (n : ℕ) → R t
+      → ((k : Word) (p e : ℕ) → R (T.Word k p e) → Given P Q (f k p e n)) → Given P Q (g n) → Given P Q (onWord t f g n)
   given-word (T.Word k p e) f g n r h o = h k p e r
   given-word (T.Number z p e) f g n r h o = o
   given-word (T.Open p e) f g n r h o = o
@@ -56,7 +58,8 @@ module _ {A : Type 0} {P : A → ℕ → Type 0} {Q : ℕ → ℕ → Type 0} (R
   given-word (T.Refusal k p) f g n r h o = o
   given-word (T.End p) f g n r h o = o
 
-  pub given-number : (t : Token) (f : ℤ → ℕ → Reader A) (g : Reader A) (n : ℕ) → R t → ((z : ℤ) (p e : ℕ) → R (T.Number z p e) → Given P Q (f z p n)) → Given P Q (g n) → Given P Q (onNumber t f g n)
+  pub given-number : (t : Token) (f : ℤ → ℕ → Reader A) (g : Reader A) (n : ℕ) → R t → ((z : ℤ) (p e : ℕ) → R (T.Number z p e) → Given P Q (f z p n))
+      → Given P Q (g n) → Given P Q (onNumber t f g n)
   given-number (T.Word k p e) f g n r h o = o
   given-number (T.Number z p e) f g n r h o = h z p e r
   given-number (T.Open p e) f g n r h o = o
@@ -65,7 +68,8 @@ module _ {A : Type 0} {P : A → ℕ → Type 0} {Q : ℕ → ℕ → Type 0} (R
   given-number (T.Refusal k p) f g n r h o = o
   given-number (T.End p) f g n r h o = o
 
-  pub given-open : (t : Token) (f : ℕ → Reader A) (g : Reader A) (n : ℕ) → R t → ((p e : ℕ) → R (T.Open p e) → Given P Q (f p n)) → Given P Q (g n) → Given P Q (onOpen t f g n)
+  pub given-open : (t : Token) (f : ℕ → Reader A) (g : Reader A) (n : ℕ) → R t → ((p e : ℕ) → R (T.Open p e) → Given P Q (f p n)) → Given P Q (g n)
+      → Given P Q (onOpen t f g n)
   given-open (T.Word k p e) f g n r h o = o
   given-open (T.Number z p e) f g n r h o = o
   given-open (T.Open p e) f g n r h o = h p e r
@@ -74,7 +78,8 @@ module _ {A : Type 0} {P : A → ℕ → Type 0} {Q : ℕ → ℕ → Type 0} (R
   given-open (T.Refusal k p) f g n r h o = o
   given-open (T.End p) f g n r h o = o
 
-  pub given-close : (t : Token) (f : ℕ → Reader A) (g : Reader A) (n : ℕ) → R t → ((p e : ℕ) → R (T.Close p e) → Given P Q (f p n)) → Given P Q (g n) → Given P Q (onClose t f g n)
+  pub given-close : (t : Token) (f : ℕ → Reader A) (g : Reader A) (n : ℕ) → R t → ((p e : ℕ) → R (T.Close p e) → Given P Q (f p n)) → Given P Q (g n)
+      → Given P Q (onClose t f g n)
   given-close (T.Word k p e) f g n r h o = o
   given-close (T.Number z p e) f g n r h o = o
   given-close (T.Open p e) f g n r h o = o
@@ -83,7 +88,8 @@ module _ {A : Type 0} {P : A → ℕ → Type 0} {Q : ℕ → ℕ → Type 0} (R
   given-close (T.Refusal k p) f g n r h o = o
   given-close (T.End p) f g n r h o = o
 
-  pub given-end : (t : Token) (f : ℕ → Reader A) (g : Reader A) (n : ℕ) → R t → ((p : ℕ) → R (T.End p) → Given P Q (f p n)) → Given P Q (g n) → Given P Q (onEnd t f g n)
+  pub given-end : (t : Token) (f : ℕ → Reader A) (g : Reader A) (n : ℕ) → R t → ((p : ℕ) → R (T.End p) → Given P Q (f p n)) → Given P Q (g n)
+      → Given P Q (onEnd t f g n)
   given-end (T.Word k p e) f g n r h o = o
   given-end (T.Number z p e) f g n r h o = o
   given-end (T.Open p e) f g n r h o = o
@@ -138,7 +144,8 @@ module _ {A : Type 0} {P : A → ℕ → Type 0} {Q : ℕ → ℕ → Type 0} wh
   given-also (reads h) k = reads (k _ _ h)
   given-also (refuses h) k = refuses h
 
-  pub word-ahead : (t : Token) (f : Word → ℕ → ℕ → Reader A) (g : Reader A) (n : ℕ) → ((k : Word) (p e : ℕ) → Given P Q (f k p e n)) → Given P Q (g n) → Given P Q (onWord t f g n)
+  pub word-ahead : (t : Token) (f : Word → ℕ → ℕ → Reader A) (g : Reader A) (n : ℕ) → ((k : Word) (p e : ℕ) → Given P Q (f k p e n)) → Given P Q (g n)
+      → Given P Q (onWord t f g n)
   word-ahead t f g n h o = given-word (λ _. Unit {0}) t f g n tt (λ k p e _. h k p e) o
 
   pub close-ahead : (t : Token) (f : ℕ → Reader A) (g : Reader A) (n : ℕ) → ((p : ℕ) → Given P Q (f p n)) → Given P Q (g n) → Given P Q (onClose t f g n)
@@ -176,7 +183,8 @@ here : (s : List ℕ) (at : ℕ) → Here s at (tokenAt s at)
 here s at = (token-in s at, refl, refl)
 
 module _ {A : Type 0} {P : A → ℕ → Type 0} {Q : ℕ → ℕ → Type 0} (s : List ℕ) (at : ℕ) where
-  pub word-gives : (f : Word → ℕ → ℕ → Reader A) (g : Reader A) → ((k : Word) (p e : ℕ) → p < e → at < e → e ≤ length s → Sized k (e - p) → Given P Q (f k p e e))
+  pub word-gives : (f : Word → ℕ → ℕ → Reader A) (g : Reader A)
+      → ((k : Word) (p e : ℕ) → p < e → at < e → e ≤ length s → Sized k (e - p) → Given P Q (f k p e e))
       → Given P Q (g (afterOf (tokenAt s at))) → Given P Q (onWord (tokenAt s at) f g (afterOf (tokenAt s at)))
   unfolding Within
   word-gives f g h o =
@@ -186,7 +194,8 @@ module _ {A : Type 0} {P : A → ℕ → Type 0} {Q : ℕ → ℕ → Type 0} (s
   pub number-gives : (f : ℤ → ℕ → Reader A) (g : Reader A) → ((z : ℤ) (p e : ℕ) → tokenAt s at ≡ T.Number z p e → Given P Q (f z p e))
       → Given P Q (g (afterOf (tokenAt s at))) → Given P Q (onNumber (tokenAt s at) f g (afterOf (tokenAt s at)))
   number-gives f g h o =
-      given-number (Here s at) (tokenAt s at) f g (afterOf (tokenAt s at)) (here s at) (λ z p e r. subst (λ (n : ℕ). Given P Q (f z p n)) (r .1) (h z p e (r .2))) o
+      given-number (Here s at) (tokenAt s at) f g (afterOf (tokenAt s at)) (here s at)
+      (λ z p e r. subst (λ (n : ℕ). Given P Q (f z p n)) (r .1) (h z p e (r .2))) o
 
   pub open-gives : (f : ℕ → Reader A) (g : Reader A) → ((p e : ℕ) → at < e → e ≤ length s → Given P Q (f p e))
       → Given P Q (g (afterOf (tokenAt s at))) → Given P Q (onOpen (tokenAt s at) f g (afterOf (tokenAt s at)))

@@ -64,7 +64,14 @@ module _ (s : List ℕ) (d at : ℕ) where
       go : (k : Word) (p e : ℕ) → p < e → at < e → e ≤ length s → Sized k (e - p)
           → Given (Spelt s at) Any (cond (isNameWord k) (give (record { place = p; word = part s p e })) (refuse 3 p) e)
       go W.Name p e l h i z =
-          reads {n = e} (record { is = refl; good = let y : length (part s p e) ≤ 32 = omega (arith, z, part-length s p e i) in y; starts = omega arith; past = h; within = i })
+          reads {n = e} (record {
+            is = refl;
+            good = let y : length (part s p e) ≤ 32 = omega (arith, z, part-length s p e i) in y;
+            starts =
+                omega arith;
+            past = h;
+            within = i;
+          })
       go W.Variable p e l h i z = stops
       go W.Keyword p e l h i z = stops
       go W.Operator p e l h i z = stops
@@ -107,7 +114,8 @@ module _ (s : List ℕ) where
       (λ k q i y h l z. either-gives (sameWord (part s q i) (bytes "start")) _ _ i (fits tt (omega arith) (omega arith))
       (either-gives (sameWord (part s q i) (bytes "end")) _ _ i (fits tt (omega arith) (omega arith)) stops))
       stops)
-      (either-gives (over && sameWord (part s p e) (bytes "over")) _ _ at (given-then _ (word-due-fits s d at (bytes "all")) (λ q i h. fits tt (omega arith) (omega arith))) stops)
+      (either-gives (over && sameWord (part s p e) (bytes "over")) _ _ at
+      (given-then _ (word-due-fits s d at (bytes "all")) (λ q i h. fits tt (omega arith) (omega arith))) stops)
 
   -- the head of a duration rule, and `?duration`
   pub rule-ahead : {A : Type 0} {P : A → ℕ → Type 0} (at : ℕ) (f : ℕ → Reader A) → ((p n : ℕ) → at < n → Given P Any (f p n))
@@ -119,11 +127,13 @@ module _ (s : List ℕ) where
       spot i h l (S.At p e) q = r p e (omega (arith, spot-within s i (bytes "?duration") p e l q))
       spot i h l S.Other q = stops
 
-      head : (t : Bool) (p e : ℕ) → at < e → e ≤ length s → Given P Any (andThen (cond t (give p) (refuse 11 p) e) (λ _ i. andThen (durationSpot s (spotAt s i (bytes "?duration")) i) f))
+      head : (t : Bool) (p e : ℕ) → at < e → e ≤ length s → Given P Any
+          (andThen (cond t (give p) (refuse 11 p) e) (λ _ i. andThen (durationSpot s (spotAt s i (bytes "?duration")) i) f))
       head true p e h l = spot e h l (spotAt s e (bytes "?duration")) refl
       head false p e h l = stops
 
-      refusal : (t : Bool) (k p n : ℕ) → Given P Any (andThen {A = ℕ} (cond t (refuse 11 p) (refuse k p) n) (λ _ i. andThen (durationSpot s (spotAt s i (bytes "?duration")) i) f))
+      refusal : (t : Bool) (k p n : ℕ) → Given P Any (andThen {A = ℕ} (cond t (refuse 11 p) (refuse k p) n)
+          (λ _ i. andThen (durationSpot s (spotAt s i (bytes "?duration")) i) f))
       refusal true k p n = stops
       refusal false k p n = stops
 
@@ -144,12 +154,14 @@ module _ (s : List ℕ) where
       none : Fits (λ _. Unit {0}) (λ b. cond b 1 0) at 0 (got false at)
       none = fits tt (omega arith) (omega arith)
 
-      one : (t : Bool) → at < afterOf (tokenAt s at) → Fits (λ _. Unit {0}) (λ b. cond b 1 0) at 0 (cond t (λ n. got true (afterOf (tokenAt s n))) (give false) at)
+      one : (t : Bool) → at < afterOf (tokenAt s at) → Fits (λ _. Unit {0}) (λ b. cond b 1 0) at 0
+          (cond t (λ n. got true (afterOf (tokenAt s n))) (give false) at)
       one true h = fits {a = true} {n = afterOf (tokenAt s at)} tt (omega arith) (omega arith)
       one false h = none
 
       go : (t : Token) → tokenAt s at ≡ t → Within s at t
-          → Fits (λ _. Unit {0}) (λ b. cond b 1 0) at 0 (onWord t (λ k p e. cond (sameWord (part s p e) w) (λ n. got true (afterOf (tokenAt s n))) (give false)) (give false) at)
+          → Fits (λ _. Unit {0}) (λ b. cond b 1 0) at 0 (onWord t
+          (λ k p e. cond (sameWord (part s p e) w) (λ n. got true (afterOf (tokenAt s n))) (give false)) (give false) at)
       go (T.Word k p e) q i = one (sameWord (part s p e) w) (rw q (let z : at < e = omega (arith, i .0, i .1) in z))
       go (T.Number z p e) q i = none
       go (T.Open p e) q i = none

@@ -21,9 +21,11 @@ use Rattle.text_tokens.proofs.Within.{Sized, part-length}
 use Rattle.domain_meaning.specs.Read.{Reader, andThen, give, refuse}
 use Rattle.domain_meaning.specs.Tables.{entry, Table, lookup, onFound, withType, retype}
 use Rattle.domain_meaning.specs.Due.{opening, closing}
-use Rattle.domain_meaning.specs.Lists.{typeNamed, typeOfWord, typeOfOther, eitherOf, typeDue, group, Item, closes, dash, names, itemOf, item, onItem, declare, waiting, typed, namesTo, variablesTo, signature, declaration, declarations}
+use Rattle.domain_meaning.specs.Lists.{typeNamed, typeOfWord, typeOfOther, eitherOf, typeDue, group, Item, closes, dash, names, itemOf, item, onItem}
+use Rattle.domain_meaning.specs.Lists.{declare, waiting, typed, namesTo, variablesTo, signature, declaration, declarations}
 use Rattle.domain_meaning.specs.Domain.{beginsWith, declaredSection}
-use Rattle.domain_meaning.proofs.Given.{Gives, Fits, Ahead, reads, fits, stops, behind, given-then, given-also, word-gives, open-gives, close-gives, close-ahead, opened-gives, either-gives}
+use Rattle.domain_meaning.proofs.Given.{Gives, Fits, Ahead, reads, fits, stops, behind, given-then, given-also, word-gives, open-gives, close-gives}
+use Rattle.domain_meaning.proofs.Given.{close-ahead, opened-gives, either-gives}
 use Rattle.domain_meaning.proofs.Steps.{ahead, new-name-fits, fresh-fits}
 
 -- ---- a type is due
@@ -68,7 +70,8 @@ module _ (s : List ℕ) where
       (fits {a = names p (part s p e)} (let l : length (part s p e) ≤ 32 = omega (arith, z, part-length s p e i) in l) (omega arith) (omega arith))
   item-of var W.Variable p e at h i z =
       either-gives var _ _ e
-      (fits {a = names p (part s (p + 1) e)} (let l : length (part s (p + 1) e) ≤ 32 = omega (arith, z, part-length s (p + 1) e i) in l) (omega arith) (omega arith))
+      (fits {a = names p (part s (p + 1) e)} (let l : length (part s (p + 1) e) ≤ 32 = omega (arith, z, part-length s (p + 1) e i) in l) (omega arith)
+      (omega arith))
       stops
   item-of var W.Keyword p e at h i z = stops
   item-of var W.Operator p e at h i z = either-gives (sameWord (part s p e) (bytes "-")) _ _ e (fits {a = dash p} tt (omega arith) (omega arith)) stops
@@ -76,7 +79,8 @@ module _ (s : List ℕ) where
   item-fits : (var : Bool) (at : ℕ) → Fits ShortItem (λ _. 0) at 0 (item s var at)
   unfolding item
   item-fits var at =
-      close-gives s at _ _ (λ p e h i. fits {a = closes} tt (omega arith) (omega arith)) (word-gives s at _ _ (λ k p e l h i z. item-of var k p e at h i z) stops)
+      close-gives s at _ _ (λ p e h i. fits {a = closes} tt (omega arith) (omega arith))
+      (word-gives s at _ _ (λ k p e l h i z. item-of var k p e at h i z) stops)
 
 -- ---- typed lists
 
@@ -114,7 +118,8 @@ module _ (P : Table → Type 0) (max : ℕ) (again : (g k : ℕ) (t : Table) →
   typed-keeps var own ts zero t g at n l h = stops
   typed-keeps var own ts (suc k) t g at n l h =
       given-then _ (item-fits s var n)
-      (λ x a i. step-keeps x own ts t g at a (λ y j. typed k s var own ts max y j) (omega arith) (i .good) h (λ y j b u v. typed-keeps var own ts k y j at b u v))
+      (λ x a i. step-keeps x own ts t g at a (λ y j. typed k s var own ts max y j) (omega arith) (i .good) h
+      (λ y j b u v. typed-keeps var own ts k y j at b u v))
 
   pub names-keep : (ts t : Table) (at : ℕ) → P t → Gives P (namesTo s ts max t at)
   unfolding namesTo
@@ -134,7 +139,8 @@ retype-length (suc g) k (e ∷ t) = ap suc (retype-length g k t)
 
 pub variables-few : (s : List ℕ) (ts : Table) (max at : ℕ) → Fits (λ t. length t ≤ max) (λ _. 0) at 0 (variablesTo s ts max at)
 variables-few s ts max at =
-    variables-keep (λ t. length t ≤ max) max (λ g k t h. rw (retype-length g k t) h) (λ t w r b h. omega (arith, length-append t (entry w (0 ∷ []) ∷ []))) s ts at (omega arith)
+    variables-keep (λ t. length t ≤ max) max (λ g k t h. rw (retype-length g k t) h)
+    (λ t w r b h. omega (arith, length-append t (entry w (0 ∷ []) ∷ []))) s ts at (omega arith)
 
 -- ---- predicates and functions
 

@@ -15,7 +15,8 @@ use Rattle.domain_meaning.specs.Read.{Read, got}
 use Rattle.domain_meaning.specs.Tables.{Table}
 use Rattle.domain_meaning.specs.Lists.{typesTo, namesTo, declarations}
 use Rattle.domain_meaning.specs.Domain as G
-use Rattle.domain_meaning.specs.Domain.{opened, other, sectionWord, behindOpen, beginsWith, flagsTo, onlyObject, flagsSection, typesSection, constantsSection, declaredSection}
+use Rattle.domain_meaning.specs.Domain.{opened, other, sectionWord, behindOpen, beginsWith, flagsTo, onlyObject, flagsSection, typesSection, constantsSection}
+use Rattle.domain_meaning.specs.Domain.{declaredSection}
 use Rattle.domain_due.specs.Answers.{Ahead}
 use Rattle.domain_due.specs.declared.Parsed.{Parsed}
 use Rattle.domain_due.specs.declared.Parsed.the-variants.{Done, Refused}

@@ -73,7 +73,8 @@ module _ (ts os ps fs l l1 l2 l3 l4 : List ℕ) (e1 : l1 ≡ sets l 0 ts) (e2 : 
       ∙ ap (λ (k : List ℕ). part k 4902 5054) e2 ∙ part-behind os l1 4902 5054 646 (omega arith)
       ∙ ap (λ (k : List ℕ). part k 4902 5054) e1 ∙ part-behind ts l 4902 5054 0 (omega arith)
 
-  scoped : l ≡ rowsOf 133 [] → (len : ℕ) (h : Name) (from p e : ℕ) (r : Preamble) (v : Vocabulary) (n : ℕ) → Lists len h from p e r ts os ps fs v n → Scoped l4 (countsOf v) (scopeIn v)
+  scoped : l ≡ rowsOf 133 [] → (len : ℕ) (h : Name) (from p e : ℕ) (r : Preamble) (v : Vocabulary) (n : ℕ) → Lists len h from p e r ts os ps fs v n
+      → Scoped l4 (countsOf v) (scopeIn v)
   scoped z len h from p e r v n x = record {
     types = rw types-part (x .types);
     objects = rw objects-part (x .objects);
@@ -87,8 +88,10 @@ module _ (ts os ps fs l l1 l2 l3 l4 : List ℕ) (e1 : l1 ≡ sets l 0 ts) (e2 : 
 
 -- ---- the heading, the flags and the tables together
 
-module _ (s : List ℕ) (a from p e v : ℕ) (r : Preamble) (ts os ps fs l l4 : List ℕ) (z : l ≡ rowsOf 133 []) (q : l4 ≡ sets (sets (sets (sets l 0 ts) 646 os) 3078 ps) 4294 fs) where
-  declares-by : (h : Name) → Title p e h → headingOf s (bytes "domain") 0 ≡ got h a → a ≤ from → (y : Read Vocabulary) → Listed (length s) h from p e r ts os ps fs y → Declares s r l4 y
+module _ (s : List ℕ) (a from p e v : ℕ) (r : Preamble) (ts os ps fs l l4 : List ℕ) (z : l ≡ rowsOf 133 [])
+    (q : l4 ≡ sets (sets (sets (sets l 0 ts) 646 os) 3078 ps) 4294 fs) where
+  declares-by : (h : Name) → Title p e h → headingOf s (bytes "domain") 0 ≡ got h a → a ≤ from → (y : Read Vocabulary)
+      → Listed (length s) h from p e r ts os ps fs y → Declares s r l4 y
   unfolding Listed Declares
   declares-by h x g b (refused k i) y = y
   declares-by h x g b (got u n) y =
@@ -111,7 +114,8 @@ module _ (s : List ℕ) (a from p e v : ℕ) (r : Preamble) (ts os ps fs l l4 : 
       }
 
   pub declares : (t : Titled) → t ≡ titledOf (headingOf s (bytes "domain") 0) → t ≡ T.At a p e → flagsSection s a ≡ got v from → a ≤ from
-      → ((h : Name) (b w : ℕ) → headingOf s (bytes "domain") 0 ≡ got h b → flagsSection s b ≡ got w from → Listed (length s) h from p e r ts os ps fs (vocabulary s 0))
+      → ((h : Name) (b w : ℕ) → headingOf s (bytes "domain") 0 ≡ got h b → flagsSection s b ≡ got w from
+      → Listed (length s) h from p e r ts os ps fs (vocabulary s 0))
       → Declares s r l4 (vocabulary s 0)
   declares t g i c b f =
       let x = titled (headingOf s (bytes "domain") 0) a p e (sym g ∙ i) in

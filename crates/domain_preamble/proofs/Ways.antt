@@ -53,7 +53,8 @@ untitled-by : (x : Read Name) (k i : ℕ) → titledOf x ≡ T.Refused k i → x
 untitled-by (got n b) k i h = absurd (let z : _≡_ {A = ℕ} 0 1 = cc in let y : ⊥ = omega arith in y)
 untitled-by (refused j o) k i h = let z : j ≡ k = cc in let y : o ≡ i = cc in cc
 
-pub untitled : (s tables : List ℕ) (t : Titled) (k i : ℕ) → t ≡ titledOf (headingOf s (bytes "domain") 0) → t ≡ T.Refused k i → Declares s (Refused k i) tables (vocabulary s 0)
+pub untitled : (s tables : List ℕ) (t : Titled) (k i : ℕ) → t ≡ titledOf (headingOf s (bytes "domain") 0) → t ≡ T.Refused k i
+    → Declares s (Refused k i) tables (vocabulary s 0)
 unfolding vocabulary Declares
 untitled s tables t k i g q = rw (untitled-by (headingOf s (bytes "domain") 0) k i (sym g ∙ q))
 
@@ -72,7 +73,8 @@ onwards-done n at a v r q h = rw q at h
 
 -- ---- predicates and functions are signed
 
-declared-signed : (s w : List ℕ) (ts : Table) (max most : ℕ) → most ≤ 4 → (at : ℕ) (u : Table) (n : ℕ) → declaredSection s w ts max most at ≡ got u n → AllSigned u
+declared-signed : (s w : List ℕ) (ts : Table) (max most : ℕ) → most ≤ 4 → (at : ℕ) (u : Table) (n : ℕ) → declaredSection s w ts max most at ≡ got u n
+    → AllSigned u
 declared-signed s w ts max most few at u n q = given-got (section-signed s w ts max most at few) q
 
 -- ---- the sections behind the flags
@@ -80,7 +82,8 @@ declared-signed s w ts max most few at u n q = given-got (section-signed s w ts 
 held : (m : ℕ) (rows : List ℕ) (a n : ℕ) (x : Read Table) (t : As m rows a n x) → Holds m rows (length (t .table)) (t .table)
 held m rows a n x t = rw (t .holds .count) at (t .holds)
 
-module _ (s : List ℕ) (h : Name) (a v from : ℕ) (g : headingOf s (bytes "domain") 0 ≡ got h a) (x1 : flagsSection s a ≡ got v from) (p e : ℕ) (ts os ps fs : List ℕ) where
+module _ (s : List ℕ) (h : Name) (a v from : ℕ) (g : headingOf s (bytes "domain") 0 ≡ got h a) (x1 : flagsSection s a ≡ got v from) (p e : ℕ)
+    (ts os ps fs : List ℕ) where
   module _ (r : Parsed) (k i : ℕ) (q : r ≡ A.Refused k i) where
     stops : (x : Read Vocabulary) → x ≡ refused k i → Listed (length s) h from p e (Refused k i) ts os ps fs x
     unfolding Listed
@@ -96,20 +99,31 @@ module _ (s : List ℕ) (h : Name) (a v from : ℕ) (g : headingOf s (bytes "dom
       constants-refused z = stops (vocabulary s 0) (rw (g, x1, x2, outcome-refused (constantsSection s t a2) 64 r os k i z q))
 
       module _ (o : Table) (a3 : ℕ) (x3 : constantsSection s t a2 ≡ got o a3) where
-        pub predicates-refused : Outcome 32 r ps (declaredSection s (bytes ":predicates") t 32 3 a3) → Listed (length s) h from p e (Refused k i) ts os ps fs (vocabulary s 0)
+        pub predicates-refused : Outcome 32 r ps (declaredSection s (bytes ":predicates") t 32 3 a3)
+            → Listed (length s) h from p e (Refused k i) ts os ps fs (vocabulary s 0)
         unfolding vocabulary
         predicates-refused z = stops (vocabulary s 0) (rw (g, x1, x2, x3, outcome-refused (declaredSection s (bytes ":predicates") t 32 3 a3) 32 r ps k i z q))
 
         pub functions-refused : (f : Table) (a4 : ℕ) → declaredSection s (bytes ":predicates") t 32 3 a3 ≡ got f a4
             → Outcome 16 r fs (declaredSection s (bytes ":functions") t 16 2 a4) → Listed (length s) h from p e (Refused k i) ts os ps fs (vocabulary s 0)
         unfolding vocabulary
-        functions-refused f a4 x4 z = stops (vocabulary s 0) (rw (g, x1, x2, x3, x4, outcome-refused (declaredSection s (bytes ":functions") t 16 2 a4) 16 r fs k i z q))
+        functions-refused f a4 x4 z = stops (vocabulary s 0)
+            (rw (g, x1, x2, x3, x4, outcome-refused (declaredSection s (bytes ":functions") t 16 2 a4) 16 r fs k i z q))
 
   -- every section was read
   pub all-listed : (a2 a3 a4 n tn on pn fn : ℕ) (t : As 17 ts a2 tn (typesSection s from)) (o : As 64 os a3 on (constantsSection s (t .table) a2))
-      (f : As 32 ps a4 pn (declaredSection s (bytes ":predicates") (t .table) 32 3 a3)) → As 16 fs n fn (declaredSection s (bytes ":functions") (t .table) 16 2 a4)
+      (f : As 32 ps a4 pn (declaredSection s (bytes ":predicates") (t .table) 32 3 a3))
+      → As 16 fs n fn (declaredSection s (bytes ":functions") (t .table) 16 2 a4)
       → from ≤ n → n ≤ length s
-      → Listed (length s) h from p e (Done n p e (record { types = tn; objects = on; predicates = pn; functions = fn; variables = 0; in_action = false })) ts os ps fs (vocabulary s 0)
+      → Listed (length s) h from p e (Done n p e (record {
+        types = tn;
+        objects = on;
+        predicates = pn;
+        functions = fn;
+        variables = 0;
+        in_action =
+            false;
+      })) ts os ps fs (vocabulary s 0)
   unfolding vocabulary Listed
   all-listed a2 a3 a4 n tn on pn fn t o f c lo hi = rw (g, x1, t .is, o .is, f .is, c .is) (record {
     is = rw (t .holds .count, o .holds .count, f .holds .count, c .holds .count);

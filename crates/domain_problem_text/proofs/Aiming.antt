@@ -56,7 +56,8 @@ module _ (n : ℕ) (c : Scope) (r : Parsed) (goal goal′ : List ℕ) where
   aimed-by judged (refused k p) h f = h
 
 module _ (s : List ℕ) (c : Scope) (at : ℕ) (judged : Bool) (r : Parsed) (goal goal′ : List ℕ) where
-  pub aimed-undue : (k p : ℕ) → sectionDueOf s (bytes ":goal") at ≡ refused k p → r ≡ Refused k p → Aimed (length s) c judged r goal goal′ (goalFrom s c judged at)
+  pub aimed-undue : (k p : ℕ) → sectionDueOf s (bytes ":goal") at ≡ refused k p → r ≡ Refused k p
+      → Aimed (length s) c judged r goal goal′ (goalFrom s c judged at)
   unfolding goalFrom Aimed
   aimed-undue k p e q = rw e q
 
@@ -65,11 +66,13 @@ module _ (s : List ℕ) (c : Scope) (at : ℕ) (judged : Bool) (r : Parsed) (goa
     unfolding goalFrom
     aimed-judged j h = rw (q, j) (aimed-by (length s) c r goal goal′ true (goalTo s c a) h (λ z. absurd (true≢false z)))
 
-    pub aimed-unfit : (k p : ℕ) → judged ≡ false → r ≡ answerOf (sumsAt c v a) → r ≡ Refused k p → Aimed (length s) c judged r goal goal′ (goalFrom s c judged at)
+    pub aimed-unfit : (k p : ℕ) → judged ≡ false → r ≡ answerOf (sumsAt c v a) → r ≡ Refused k p
+        → Aimed (length s) c judged r goal goal′ (goalFrom s c judged at)
     unfolding goalFrom Aimed
     aimed-unfit k p j h e = rw (q, j, answer-refused (sumsAt c v a) k p (sym h ∙ e)) e
 
-    pub aimed-fits : judged ≡ false → sumsFit c ≡ true → Reached (length s) r goal goal′ (goalTo s c a) → Aimed (length s) c judged r goal goal′ (goalFrom s c judged at)
+    pub aimed-fits : judged ≡ false → sumsFit c ≡ true → Reached (length s) r goal goal′ (goalTo s c a)
+        → Aimed (length s) c judged r goal goal′ (goalFrom s c judged at)
     unfolding goalFrom
     aimed-fits j f h = rw (q, j, f) (aimed-by (length s) c r goal goal′ false (goalTo s c a) h (λ _. f))
 

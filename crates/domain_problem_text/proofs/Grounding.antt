@@ -23,7 +23,8 @@ use Rattle.domain_terms.specs.declared.scope.Counts.{Counts}
 use Rattle.domain_problem_text.specs.Grounded.{withObjects, Grounded}
 
 -- a copy of all rows holds what they hold
-pub copied : (m : ℕ) (rows : List ℕ) (n : ℕ) (t : Table) (v was new : List ℕ) → Holds m rows n t → v ≡ rows → length was ≡ 38 * m → new ≡ sets was 0 v → Holds m new n t
+pub copied : (m : ℕ) (rows : List ℕ) (n : ℕ) (t : Table) (v was new : List ℕ) → Holds m rows n t → v ≡ rows → length was ≡ 38 * m → new ≡ sets was 0 v
+    → Holds m new n t
 copied m rows n t v was new h e l q = rw (q, e, sets-whole was rows (l ∙ sym (rows-long m rows n t h))) h
 
 -- ---- the tables with other objects
@@ -74,7 +75,8 @@ module _ (was : List ℕ) (n : Counts) (d : Domain) (h : Scoped was n (scopeOf d
 pub grounded-by : (n : Counts) (r : Parsed) (tables : List ℕ) (d : Domain) (x y : Read Table) → x ≡ y → Grounded n r tables d y → Grounded n r tables d x
 grounded-by n r tables d x y e h = rw e h
 
-pub grounded-refused : (n : Counts) (r : Parsed) (tables : List ℕ) (d : Domain) (x : Read Table) (k p : ℕ) → x ≡ refused k p → r ≡ Refused k p → Grounded n r tables d x
+pub grounded-refused : (n : Counts) (r : Parsed) (tables : List ℕ) (d : Domain) (x : Read Table) (k p : ℕ) → x ≡ refused k p → r ≡ Refused k p
+    → Grounded n r tables d x
 unfolding Grounded
 grounded-refused n r tables d x k p e h = rw e h
 

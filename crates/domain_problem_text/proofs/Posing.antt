@@ -29,7 +29,8 @@ none-of : (t : Table) → 0 ≡ length t → t ≡ []
 none-of [] e = refl
 none-of (x ∷ t) e = absurd (let z : ⊥ = omega arith in z)
 
-pub domain-scoped : (w tables : List ℕ) (n : Counts) (c : Scope) → Scoped tables n c → n .variables ≡ 0 → n .in_action ≡ false → Scoped tables n (scopeOf (domainOf w c) (c .objects))
+pub domain-scoped : (w tables : List ℕ) (n : Counts) (c : Scope) → Scoped tables n c → n .variables ≡ 0 → n .in_action ≡ false
+    → Scoped tables n (scopeOf (domainOf w c) (c .objects))
 domain-scoped w tables n c h v a = record {
   types = h .types;
   objects = h .objects;
@@ -66,7 +67,8 @@ module _ (counts : Counts) (r : Parsed) (tables : List ℕ) (d : Domain) where
   grounded-not (refused j q) k p h e = let o : Refused j q ≡ Refused k p = sym h ∙ e in let i : j ≡ k = cc in let z : q ≡ p = cc in rw (i, z)
 
 -- what a call may ask of the tables then
-pub premises-scope : (counts : Counts) (tables : List ℕ) (d : Domain) (a v : ℕ) (x : Read Table) → Premises counts tables d a v x → Scopes tables (withObjects counts v)
+pub premises-scope : (counts : Counts) (tables : List ℕ) (d : Domain) (a v : ℕ) (x : Read Table) → Premises counts tables d a v x
+    → Scopes tables (withObjects counts v)
 premises-scope counts tables d a v x h = (scopeOf d (h .objects), h .scope)
 
 -- ---- the whole
@@ -93,7 +95,8 @@ module _ (s : List ℕ) (d : Domain) (counts : Counts) (r : Parsed) (tables fact
       }
   posed-by os (refused k p) h l q = q
 
-  pub posed : (a v : ℕ) (x : Premises counts tables d a v (premises s d 0)) → Settled s (scopeOf d (x .objects)) r facts numbers was goal′ (restOf s (scopeOf d (x .objects)) a)
+  pub posed : (a v : ℕ) (x : Premises counts tables d a v (premises s d 0))
+      → Settled s (scopeOf d (x .objects)) r facts numbers was goal′ (restOf s (scopeOf d (x .objects)) a)
       → Posed s d counts r tables facts numbers was goal′ (readProblem s d)
   unfolding readProblem problemText restOf
   posed a v x h = rw (x .is) (posed-by (x .objects) _ (rw (x .count) at (x .scope)) (x .long) h)

@@ -29,12 +29,14 @@ module _ (s : List ℕ) (c : Scope) where
   problemOf x g = record { objects = c .objects; init = x; goal = g }
 
   goal-parts : (x : Init) (o : Opened) (at : ℕ)
-      → andThen (sectionDueOf s (bytes ":goal") at) (λ q b. andThen (onOpened o (λ p. give q) (sumsAt c q) b) (λ _ e. andThen (goalTo s c e) (λ g. give (problemOf x g))))
+      → andThen (sectionDueOf s (bytes ":goal") at) (λ q b. andThen (onOpened o (λ p. give q) (sumsAt c q) b)
+      (λ _ e. andThen (goalTo s c e) (λ g. give (problemOf x g))))
       ≡ andThen (goalFrom s c (onOpened o (λ p. true) false) at) (λ g. give (problemOf x g))
   unfolding goalFrom
   goal-parts x o at = go o (sectionDueOf s (bytes ":goal") at)
     where
-      on : (y : Read ℕ) → andThen y (λ _ e. andThen (goalTo s c e) (λ g. give (problemOf x g))) ≡ andThen (andThen y (λ _. goalTo s c)) (λ g. give (problemOf x g))
+      on : (y : Read ℕ) → andThen y (λ _ e. andThen (goalTo s c e) (λ g. give (problemOf x g))) ≡ andThen (andThen y (λ _. goalTo s c))
+          (λ g. give (problemOf x g))
       on (got v e) = refl
       on (refused k p) = refl
 
@@ -51,14 +53,19 @@ module _ (s : List ℕ) (c : Scope) where
   parts at = go (beginsWith s (bytes ":init") at)
     where
       on : (o : Opened) (y : Read Init)
-          → andThen y (λ x b. andThen (sectionDueOf s (bytes ":goal") b) (λ q d. andThen (onOpened o (λ p. give q) (sumsAt c q) d) (λ _ e. andThen (goalTo s c e) (λ g. give (problemOf x g)))))
-          ≡ andThen (andThen y (λ x. give (starting (onOpened o (λ p. true) false) x))) (λ x b. andThen (goalFrom s c (x .judged) b) (λ g. give (problemOf (x .init) g)))
+          → andThen y (λ x b. andThen (sectionDueOf s (bytes ":goal") b)
+          (λ q d. andThen (onOpened o (λ p. give q) (sumsAt c q) d) (λ _ e. andThen (goalTo s c e) (λ g. give (problemOf x g)))))
+          ≡ andThen (andThen y (λ x. give (starting (onOpened o (λ p. true) false) x)))
+          (λ x b. andThen (goalFrom s c (x .judged) b) (λ g. give (problemOf (x .init) g)))
       on o (got x b) = goal-parts x o b
       on o (refused k p) = refl
 
       go : (y : Read Opened)
-          → andThen y (λ o n. andThen (onOpened o (λ p. initAt s c p) (give nothing) n) (λ x b. andThen (sectionDueOf s (bytes ":goal") b) (λ q d. andThen (onOpened o (λ p. give q) (sumsAt c q) d) (λ _ e. andThen (goalTo s c e) (λ g. give (problemOf x g))))))
-          ≡ andThen (andThen y (λ o n. andThen (onOpened o (λ p. initAt s c p) (give nothing) n) (λ x. give (starting (onOpened o (λ p. true) false) x)))) (λ x b. andThen (goalFrom s c (x .judged) b) (λ g. give (problemOf (x .init) g)))
+          → andThen y (λ o n. andThen (onOpened o (λ p. initAt s c p) (give nothing) n)
+          (λ x b. andThen (sectionDueOf s (bytes ":goal") b)
+          (λ q d. andThen (onOpened o (λ p. give q) (sumsAt c q) d) (λ _ e. andThen (goalTo s c e) (λ g. give (problemOf x g))))))
+          ≡ andThen (andThen y (λ o n. andThen (onOpened o (λ p. initAt s c p) (give nothing) n)
+          (λ x. give (starting (onOpened o (λ p. true) false) x)))) (λ x b. andThen (goalFrom s c (x .judged) b) (λ g. give (problemOf (x .init) g)))
       go (got o n) = on o (onOpened o (λ p. initAt s c p) (give nothing) n)
       go (refused k p) = refl
 
@@ -87,7 +94,8 @@ module _ (s : List ℕ) (c : Scope) (at : ℕ) (r : Parsed) (facts : List ℕ) (
       fit true e = x .fits (sym (x .flag) ∙ e)
       fit false e = g .fits e
 
-      pub settled : (z : Parsed) (n w i : ℕ) → z ≡ answerOf (ending s b) → z ≡ Done n w → i ≡ length (c .objects) → r ≡ Done n i → Settled s c r facts numbers was goal′ (restOf s c at)
+      pub settled : (z : Parsed) (n w i : ℕ) → z ≡ answerOf (ending s b) → z ≡ Done n w → i ≡ length (c .objects) → r ≡ Done n i
+          → Settled s c r facts numbers was goal′ (restOf s c at)
       unfolding restOf Settled
       settled z n w i q e o f =
           let k = answer-done (ending s b) n w (sym q ∙ e) in

@@ -27,7 +27,8 @@ sums-fit c p at r a v q e = go (sumsFit c) (sym q ∙ e)
     go true h = refl
     go false h = never-done 12 p a v h
 
-start-begins : (c : Scope) (r : Parsed) (facts : List ℕ) (numbers : List ℤ) (x : Read Init) (a v : ℕ) → Begins r facts numbers x → r ≡ Done a v → sumsFit c ≡ true
+start-begins : (c : Scope) (r : Parsed) (facts : List ℕ) (numbers : List ℤ) (x : Read Init) (a v : ℕ) → Begins r facts numbers x → r ≡ Done a v
+    → sumsFit c ≡ true
     → Started c (Done a 1) facts numbers (andThen x (λ i. give (starting true i)))
 unfolding Begins Started
 start-begins c r facts numbers (got i n) a v h e f = let q : Done n 0 ≡ Done a v = sym (h .0) ∙ e in let z : n ≡ a = cc in (rw z, h .1, h .2, λ _. f)

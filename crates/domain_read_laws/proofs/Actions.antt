@@ -17,7 +17,8 @@ use Rattle.domain_meaning.specs.Lists.{signature}
 use Rattle.domain_meaning.specs.Terms.{Scope, Counted}
 use Rattle.domain_meaning.specs.Conditions.{Cond, condition}
 use Rattle.domain_meaning.specs.Effects.{Effect, effect}
-use Rattle.domain_meaning.specs.Actions.{When, start, Timed, moment, rule, Action, partBehind, partAt, partsTo, parts, durationRule, whenField, within, simpleBody, durativeBody, action}
+use Rattle.domain_meaning.specs.Actions.{When, start, Timed, moment, rule, Action, partBehind, partAt, partsTo, parts, durationRule, whenField, within}
+use Rattle.domain_meaning.specs.Actions.{simpleBody, durativeBody, action}
 use Rattle.domain_meaning.proofs.Given.{Fits, fits, stops, fits-also, given-then, word-gives, close-ahead, either-gives}
 use Rattle.domain_meaning.proofs.Steps.{opening-fits, closing-fits, word-due-fits, new-name-fits, fresh-fits, time-ahead, rule-ahead, field-ahead}
 use Rattle.domain_meaning.proofs.Tables.{variables-few}
@@ -64,7 +65,8 @@ module _ {A : Type 0} (P : A → Type 0) (g : A → List ℕ) where
   partsSize x = length (partsCells g (x .tree))
 
   -- f reads what stands in one
-  module _ (s : List ℕ) (over : Bool) (f : ℕ → ℕ → Reader (Counted A)) (r : (d n at : ℕ) → d ≤ 16 → Fits (λ x. P (x .tree)) (λ x. length (g (x .tree))) at 1 (f d n at)) where
+  module _ (s : List ℕ) (over : Bool) (f : ℕ → ℕ → Reader (Counted A))
+      (r : (d n at : ℕ) → d ≤ 16 → Fits (λ x. P (x .tree)) (λ x. length (g (x .tree))) at 1 (f d n at)) where
     behind-time-fits : (d n p e at : ℕ) → d ≤ 16 → Fits GoodOf partsSize at 1 (partBehind s over f d n p e at)
     unfolding partBehind GoodParts
     behind-time-fits d n p e at deep =
@@ -107,7 +109,8 @@ field-fits {A} P w more s k r at g h f = given-then _ (field-ahead s (bytes k) a
     go true n l u = fits-also (f n) l (λ a m v. omega arith)
     go false n l u = fits {a = []} {n = n} g l (omega arith)
 
-action-size : (a : Action) → length (actionCells a) ≡ length (lastingCells (a .lasting)) + length (partsCells condCells (a .conditions)) + length (partsCells listCells (a .effects))
+action-size : (a : Action) → length (actionCells a) ≡ length (lastingCells (a .lasting)) + length (partsCells condCells (a .conditions)) + length
+    (partsCells listCells (a .effects))
 unfolding actionCells
 action-size a =
     omega (
@@ -139,15 +142,18 @@ module _ (s : List ℕ) (c : Scope) (z : Sized c) where
   duration-fits at =
       given-then _ (opening-fits s 14 at)
       (λ p a h. rule-ahead s a _
-      (λ q b l. given-then _ (expression-fits s c z 13 b (omega arith)) (λ x i u. given-then _ (closing-fits s 13 i) (λ m n y. fits (u .good) (omega arith) (omega arith)))))
+      (λ q b l. given-then _ (expression-fits s c z 13 b (omega arith))
+      (λ x i u. given-then _ (closing-fits s 13 i) (λ m n y. fits (u .good) (omega arith) (omega arith)))))
 
   simple-fits : (e : Entry) (at : ℕ) → Fits (Body e) actionSize at 3 (simpleBody s c e at)
   unfolding simpleBody lastingCells GoodParts GoodLasting
   simple-fits e at =
       given-then _ (field-fits (GoodParts (GoodCond 16)) condsSize 1 s ":precondition" _ at tt (omega (arith, no-part (GoodCond 16) condCells))
-      (λ n. given-then _ (condition-fits s c z 14 32 n (omega arith)) (λ x i h. fits (h .good, tt) (omega arith) (omega (arith, one-part (GoodCond 16) condCells start (x .tree))))))
+      (λ n. given-then _ (condition-fits s c z 14 32 n (omega arith))
+      (λ x i h. fits (h .good, tt) (omega arith) (omega (arith, one-part (GoodCond 16) condCells start (x .tree))))))
       (λ cs a h. given-then _ (field-fits (GoodParts GoodEffects) listsSize 2 s ":effect" _ a tt (omega (arith, no-part GoodEffects listCells))
-      (λ n. given-then _ (listed-fits s c z 14 16 n (omega arith)) (λ x i l. fits (l .good, tt) (omega arith) (omega (arith, one-part GoodEffects listCells start (x .tree))))))
+      (λ n. given-then _ (listed-fits s c z 14 16 n (omega arith))
+      (λ x i l. fits (l .good, tt) (omega arith) (omega (arith, one-part GoodEffects listCells start (x .tree))))))
       (λ es b l. given-then _ (closing-fits s 14 b)
       (λ q i v. fits (record { good = record { lasting = tt; conditions = h .good; effects = l .good }; own = refl }) (omega arith)
       (omega (arith, action-size (record { declared = e; lasting = moment; conditions = cs; effects = es }))))))
@@ -157,10 +163,14 @@ module _ (s : List ℕ) (c : Scope) (z : Sized c) where
   durative-fits e at =
       given-then _ (word-due-fits s 14 at (bytes ":duration"))
       (λ p a h. given-then _ (duration-fits a)
-      (λ x b l. given-then _ (field-fits (GoodParts (GoodCond 16)) condsSize 1 s ":condition" _ b (none-good (GoodCond 16) condCells) (omega (arith, no-part (GoodCond 16) condCells))
-      (λ n. given-then _ (parts-fits (GoodCond 16) condCells s true (λ d m. condition d s c m) loose-condition 14 32 n (omega arith)) (λ y i v. fits (v .good) (omega arith) (omega arith))))
-      (λ cs i v. given-then _ (field-fits (GoodParts GoodEffects) listsSize 1 s ":effect" _ i (none-good GoodEffects listCells) (omega (arith, no-part GoodEffects listCells))
-      (λ n. given-then _ (parts-fits GoodEffects listCells s false (λ d m. effect d s c m) (listed-fits s c z) 14 16 n (omega arith)) (λ y j o. fits (o .good) (omega arith) (omega arith))))
+      (λ x b l. given-then _ (field-fits (GoodParts (GoodCond 16)) condsSize 1 s ":condition" _ b (none-good (GoodCond 16) condCells)
+      (omega (arith, no-part (GoodCond 16) condCells))
+      (λ n. given-then _ (parts-fits (GoodCond 16) condCells s true (λ d m. condition d s c m) loose-condition 14 32 n (omega arith))
+      (λ y i v. fits (v .good) (omega arith) (omega arith))))
+      (λ cs i v. given-then _ (field-fits (GoodParts GoodEffects) listsSize 1 s ":effect" _ i (none-good GoodEffects listCells)
+      (omega (arith, no-part GoodEffects listCells))
+      (λ n. given-then _ (parts-fits GoodEffects listCells s false (λ d m. effect d s c m) (listed-fits s c z) 14 16 n (omega arith))
+      (λ y j o. fits (o .good) (omega arith) (omega arith))))
       (λ es j o. given-then _ (closing-fits s 14 j)
       (λ q m t. fits (record { good = record { lasting = l .good; conditions = v .good; effects = o .good }; own = refl }) (omega arith)
       (omega (arith, action-size (record { declared = e; lasting = rule x; conditions = cs; effects = es }))))))))
@@ -203,7 +213,8 @@ action-fits s c z durative as′ at g =
     (λ y m f. fits
     (record {
       names = rw (sym (heads-join as′ y), f .good .own)
-          (fit-more AllSigned 32 (heads as′) x (l .good) (h .good) (signed-more (heads as′) x (g .names .kept) (signed-signature (n .word) vs (r .good))) (g .names));
+          (fit-more AllSigned 32 (heads as′) x (l .good) (h .good)
+          (signed-more (heads as′) x (g .names .kept) (signed-signature (n .word) vs (r .good))) (g .names));
       trees = trees-join as′ y (g .trees) (f .good .good);
     })
     (omega arith) (omega (arith, actions-join as′ y))))))))
@@ -212,5 +223,7 @@ action-fits s c z durative as′ at g =
     inside vs = record { objects = z .objects; facts = z .facts; numbers = z .numbers }
 
     body : (n : Name) (vs : Table) (j : ℕ)
-        → Fits (Body (signature (n .word) vs)) actionSize j 3 (cond durative (durativeBody s (within c vs) (signature (n .word) vs)) (simpleBody s (within c vs) (signature (n .word) vs)) j)
-    body n vs j = either-gives durative _ _ j (durative-fits s (within c vs) (inside vs) (signature (n .word) vs) j) (simple-fits s (within c vs) (inside vs) (signature (n .word) vs) j)
+        → Fits (Body (signature (n .word) vs)) actionSize j 3
+        (cond durative (durativeBody s (within c vs) (signature (n .word) vs)) (simpleBody s (within c vs) (signature (n .word) vs)) j)
+    body n vs j = either-gives durative _ _ j (durative-fits s (within c vs) (inside vs) (signature (n .word) vs) j)
+        (simple-fits s (within c vs) (inside vs) (signature (n .word) vs) j)

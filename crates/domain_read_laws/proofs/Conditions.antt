@@ -13,7 +13,9 @@ use Rattle.text_tokens.specs.declared.tokens.Word.{Word}
 use Rattle.text_tokens.specs.declared.tokens.Word.the-variants as W
 use Rattle.domain_meaning.specs.Read.{Reader, andThen}
 use Rattle.domain_meaning.specs.Terms.{Scope, Counted, counted}
-use Rattle.domain_meaning.specs.Conditions.{Comparison, equal, less, atMost, more, atLeast, Cond, Conds, all, atom, same, compare, none, cons, atomAt, comparison, sameObjects, equality, operated, negatedHead, inNegation, negation, listTo, conjunction, conditionHead, condition}
+use Rattle.domain_meaning.specs.Conditions.{Comparison, equal, less, atMost, more, atLeast, Cond, Conds, all, atom, same, compare, none, cons, atomAt}
+use Rattle.domain_meaning.specs.Conditions.{comparison, sameObjects, equality, operated, negatedHead, inNegation, negation, listTo, conjunction, conditionHead}
+use Rattle.domain_meaning.specs.Conditions.{condition}
 use Rattle.domain_meaning.proofs.Given.{Fits, fits, stops, fits-also, given-then, given-also, word-gives, word-ahead, close-ahead, name-gives}
 use Rattle.domain_meaning.proofs.Steps.{opening-fits, closing-fits, counted-fits}
 use Rattle.domain_expressions.specs.Codes.{cellsOf}
@@ -55,7 +57,8 @@ module _ (s : List ℕ) (c : Scope) (z : Sized c) (e : ℕ) where
   atom-fits d yes′ n p i at =
       given-then _ (declared-fits (c .predicates) p (part s p i) at)
       (λ j a h. given-then _ (counted-fits p n a)
-      (λ m b l. given-then _ (reference-fits s c z d (c .predicates) j b 3 (z .facts)) (λ r k v. fits (v .good) (omega arith) (omega (arith, ref-size (cond yes′ 4 8) r)))))
+      (λ m b l. given-then _ (reference-fits s c z d (c .predicates) j b 3 (z .facts))
+      (λ r k v. fits (v .good) (omega arith) (omega (arith, ref-size (cond yes′ 4 8) r)))))
 
   same-fits : (d : ℕ) (yes′ : Bool) (m at : ℕ) → Fits (GoodOf (suc e)) condSize at 2 (sameObjects s d c yes′ m at)
   unfolding sameObjects condCells GoodCond
@@ -64,7 +67,8 @@ module _ (s : List ℕ) (c : Scope) (z : Sized c) (e : ℕ) where
       (λ a i h. given-then _ (argument-fits s c z d i)
       (λ b j l. given-then _ (closing-fits s d j) (λ q n v. fits (h .good, l .good) (omega arith) (omega arith))))
 
-  counted-first : (p n at : ℕ) (f : ℕ → Reader (Counted Cond)) → ((m i : ℕ) → Fits (GoodOf (suc e)) condSize i 2 (f m i)) → Fits (GoodOf (suc e)) condSize at 2 (andThen (counted p n at) f)
+  counted-first : (p n at : ℕ) (f : ℕ → Reader (Counted Cond)) → ((m i : ℕ) → Fits (GoodOf (suc e)) condSize i 2 (f m i))
+      → Fits (GoodOf (suc e)) condSize at 2 (andThen (counted p n at) f)
   counted-first p n at f h = given-then f (counted-fits p n at) (λ m i l. fits-also (h m i) (l .on) (λ a k u. omega arith))
 
   module _ (d : ℕ) (deep : d ≤ 15) where
@@ -107,7 +111,8 @@ module _ (s : List ℕ) (c : Scope) (z : Sized c) (e : ℕ) where
   unfolding negation
   negation-fits d n at deep =
       given-then _ (opening-fits s d at)
-      (λ p i h. given-then _ (in-negation-fits (d - 1) (omega arith) n i) (λ x j l. given-then _ (closing-fits s d j) (λ q m v. fits (l .good) (omega arith) (omega arith))))
+      (λ p i h. given-then _ (in-negation-fits (d - 1) (omega arith) n i)
+      (λ x j l. given-then _ (closing-fits s d j) (λ q m v. fits (l .good) (omega arith) (omega arith))))
 
 -- ---- lists, of which f reads a part of e levels
 
@@ -141,7 +146,8 @@ module _ (s : List ℕ) (c : Scope) (z : Sized c) where
   levels-fit (suc d) n at h =
       given-then _ (opening-fits s (suc d) at)
       (λ p i l. word-gives s i _ _
-      (λ k q e t u v y. fits-also (head-fits d (condition d s c) (omega arith) (λ m j. levels-fit d m j (omega arith)) n k q e e) (omega arith) (λ a m o. omega arith)) stops)
+      (λ k q e t u v y. fits-also (head-fits d (condition d s c) (omega arith) (λ m j. levels-fit d m j (omega arith)) n k q e e) (omega arith)
+      (λ a m o. omega arith)) stops)
 
   pub condition-fits : (d n at : ℕ) → d ≤ 16 → Fits (λ x. GoodCond 16 (x .tree)) (λ x. length (condCells (x .tree))) at 0 (condition d s c n at)
   condition-fits d n at h =

@@ -14,7 +14,8 @@ use Rattle.text_tokens.specs.declared.tokens.Word.{Word}
 use Rattle.text_tokens.specs.declared.tokens.Word.the-variants as W
 use Rattle.domain_meaning.specs.Read.{Reader}
 use Rattle.domain_meaning.specs.Terms.{Scope, Counted}
-use Rattle.domain_meaning.specs.Effects.{Change, assign, raise, lower, Effect, becomes, changes, becomesAt, target, changeAt, deletedWord, inDeletion, deletion, effectsTo, effectHead, effectWord, effect}
+use Rattle.domain_meaning.specs.Effects.{Change, assign, raise, lower, Effect, becomes, changes, becomesAt, target, changeAt, deletedWord, inDeletion, deletion}
+use Rattle.domain_meaning.specs.Effects.{effectsTo, effectHead, effectWord, effect}
 use Rattle.domain_meaning.proofs.Given.{Fits, fits, stops, fits-also, given-then, word-gives, close-ahead, name-gives}
 use Rattle.domain_meaning.proofs.Steps.{opening-fits, closing-fits, any-name-fits, counted-fits}
 use Rattle.domain_expressions.specs.Codes.{refCells, cellsOf}
@@ -128,7 +129,8 @@ module _ (s : List ℕ) (c : Scope) (z : Sized c) where
   effect-fits (suc d) n at h =
       given-then _ (opening-fits s (suc d) at)
       (λ p i l. word-gives s i _ _
-      (λ k q e t u v y. fits-also (effect-word-fits d (effect d s c) (omega arith) (λ m j. effect-fits d m j (omega arith)) n k q e e) (omega arith) (λ a m o. omega arith)) stops)
+      (λ k q e t u v y. fits-also (effect-word-fits d (effect d s c) (omega arith) (λ m j. effect-fits d m j (omega arith)) n k q e e) (omega arith)
+      (λ a m o. omega arith)) stops)
 
   -- with the cell that ends its list
   pub listed-fits : (d n at : ℕ) → d ≤ 16 → Fits (λ x. GoodEffects (x .tree)) (λ x. length (listCells (x .tree))) at 1 (effect d s c n at)

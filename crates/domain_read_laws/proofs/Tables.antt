@@ -1,4 +1,5 @@
--- A table that is read fits its rows: no more names than there is room for, each of at most 32 bytes, with the numbers that its rows give back. Assumes nothing.
+-- A table that is read fits its rows: no more names than there is room for, each of at most 32 bytes, with the numbers that its rows give back.
+-- Assumes nothing.
 use mathlib.Core.Path.{refl}
 use mathlib.Core.List.{List, [], _∷_, _++_, map}
 use mathlib.Core.Bool.{true, false}
@@ -29,7 +30,8 @@ short-join : (t : Table) (e : Entry) → Short t → length (nameOf e) ≤ 32 �
 short-join [] e h k = (k, tt)
 short-join (x ∷ t) e h k = (h .0, short-join t e (h .1) k)
 
-pub fit-more : (K : Table → Type 0) (most : ℕ) (t : Table) (e : Entry) → length t < most → length (nameOf e) ≤ 32 → K (t ++ e ∷ []) → Fit K most t → Fit K most (t ++ e ∷ [])
+pub fit-more : (K : Table → Type 0) (most : ℕ) (t : Table) (e : Entry) → length t < most → length (nameOf e) ≤ 32 → K (t ++ e ∷ []) → Fit K most t
+    → Fit K most (t ++ e ∷ [])
 fit-more K most t e h k g f = record { few = omega (arith, length-append t (e ∷ [])); short = short-join t e (f .short) k; kept = g }
 
 typed-join : (t : Table) (e : Entry) → AllTyped t → Typed e → AllTyped (t ++ e ∷ [])
@@ -90,7 +92,8 @@ module _ (s : List ℕ) where
   types-fit : (at : ℕ) → Gives (Fit AllTyped 17) (typesTo s at)
   unfolding typesTo
   types-fit at =
-      given-also (typed-keeps (Fit AllTyped 17) 17 (again 17) (more 17) s false true [] (length s + 1) onlyObject 1 at at (omega arith) object-typed) (λ t n k. k .good)
+      given-also (typed-keeps (Fit AllTyped 17) 17 (again 17) (more 17) s false true [] (length s + 1) onlyObject 1 at at (omega arith) object-typed)
+      (λ t n k. k .good)
 
   pub types-section-fits : (at : ℕ) → Gives (Fit AllTyped 17) (typesSection s at)
   unfolding typesSection
@@ -120,4 +123,5 @@ module _ (s w : List ℕ) (ts : Table) (max args : ℕ) (four : args ≤ 4) wher
   pub declared-section-fits : (at : ℕ) → Gives (Fit (Declared args) max) (declaredSection s w ts max args at)
   unfolding AllFew
   declared-section-fits at =
-      section-keeps (Fit (Declared args) max) s ts max args signature-more w at (record { few = omega arith; short = tt; kept = record { signed = tt; few = tt } })
+      section-keeps (Fit (Declared args) max) s ts max args signature-more w at
+      (record { few = omega arith; short = tt; kept = record { signed = tt; few = tt } })

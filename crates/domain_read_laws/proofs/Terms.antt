@@ -18,9 +18,11 @@ use Rattle.text_tokens.specs.declared.tokens.Word.the-variants as W
 use Rattle.domain_meaning.specs.Read.{Reader, give, refuse}
 use Rattle.domain_meaning.specs.Tables.{Table, entryAt, wantedOf, lookup, onFound, declared, isBelow}
 use Rattle.domain_meaning.specs.Due.{afterOf}
-use Rattle.domain_meaning.specs.Terms.{Scope, Ref, Expr, number, value, minus, difference, plus, Given, givenBy, argument, arguments, reference, Counted, leaf, operandsEnd, plusOf, minusOf, operation, headed, expr, expression}
+use Rattle.domain_meaning.specs.Terms.{Scope, Ref, Expr, number, value, minus, difference, plus, Given, givenBy, argument, arguments, reference, Counted, leaf}
+use Rattle.domain_meaning.specs.Terms.{operandsEnd, plusOf, minusOf, operation, headed, expr, expression}
 use Rattle.domain_meaning.specs.Terms as G
-use Rattle.domain_meaning.proofs.Given.{Fits, Ahead, fits, stops, fits-also, given-then, word-gives, number-gives, open-gives, close-gives, close-ahead, either-gives}
+use Rattle.domain_meaning.proofs.Given.{Fits, Ahead, fits, stops, fits-also, given-then, word-gives, number-gives, open-gives, close-gives, close-ahead}
+use Rattle.domain_meaning.proofs.Given.{either-gives}
 use Rattle.domain_meaning.proofs.Steps.{closing-fits, counted-fits}
 use Rattle.domain_terms.specs.Cells.{cellOf}
 use Rattle.domain_terms.proofs.Kept.{found-below}
@@ -61,7 +63,8 @@ module _ (s : List ℕ) (c : Scope) (z : Sized c) where
   given-fits W.Name p e at =
       given-then _ (declared-fits (c .objects) p (part s p e) at) (λ i n h. fits (omega (arith, z .objects)) (omega arith) (omega arith))
   given-fits W.Variable p e at =
-      either-gives (c .inAction) _ _ at (given-then _ (declared-fits (c .variables) p (part s (p + 1) e) at) (λ i n h. fits tt (omega arith) (omega arith))) stops
+      either-gives (c .inAction) _ _ at (given-then _ (declared-fits (c .variables) p (part s (p + 1) e) at)
+      (λ i n h. fits tt (omega arith) (omega arith))) stops
   given-fits W.Keyword p e at = stops
   given-fits W.Operator p e at = stops
 
@@ -128,7 +131,8 @@ module _ (s : List ℕ) (c : Scope) (z : Sized c) (d e : ℕ) (f : ℕ → Reade
   plus-fits n at =
       given-then _ (r n at)
       (λ a i h. given-then _ (r (a .left) i)
-      (λ b j l. given-then _ (end-fits s d (b .left) j) (λ q k u. fits (h .good, l .good) (omega arith) (omega (arith, length-append (cellsOf (a .tree)) (cellsOf (b .tree)))))))
+      (λ b j l. given-then _ (end-fits s d (b .left) j) (λ q k u. fits (h .good, l .good) (omega arith)
+      (omega (arith, length-append (cellsOf (a .tree)) (cellsOf (b .tree)))))))
 
   minus-fits : (n at : ℕ) → Fits (GoodOf (suc e)) exprSize at 2 (minusOf s d f n at)
   unfolding cellsOf GoodExpr
@@ -136,7 +140,8 @@ module _ (s : List ℕ) (c : Scope) (z : Sized c) (d e : ℕ) (f : ℕ → Reade
       given-then _ (r n at)
       (λ a i h. close-ahead (tokenAt s i) _ _ i (λ p. given-then _ (closing-fits s d i) (λ q k u. fits (h .good) (omega arith) (omega arith)))
       (given-then _ (r (a .left) i)
-      (λ b j l. given-then _ (end-fits s d (b .left) j) (λ q k u. fits (h .good, l .good) (omega arith) (omega (arith, length-append (cellsOf (a .tree)) (cellsOf (b .tree))))))))
+      (λ b j l. given-then _ (end-fits s d (b .left) j) (λ q k u. fits (h .good, l .good) (omega arith)
+      (omega (arith, length-append (cellsOf (a .tree)) (cellsOf (b .tree))))))))
 
   operation-fits : (n : ℕ) (w : HeadWord) (p at : ℕ) → Fits (GoodOf (suc e)) exprSize at 2 (operation s d f n w p at)
   operation-fits n H.Plus p at = given-then _ (counted-fits p n at) (λ m i h. fits-also (plus-fits m i) (h .on) (λ a k l. omega arith))

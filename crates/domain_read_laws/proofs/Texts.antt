@@ -15,8 +15,10 @@ use Rattle.domain_meaning.specs.Tables.{Table}
 use Rattle.domain_meaning.specs.Due.{afterOf, wrong, onEnd, onOpen, onClose}
 use Rattle.domain_meaning.specs.Terms.{Scope}
 use Rattle.domain_meaning.specs.Actions.{Action, action}
-use Rattle.domain_meaning.specs.Domain.{Domain, Vocabulary, opened, other, beginsWith, headingOf, flagsSection, vocabulary, scopeIn, actionsTo, ending, domainText, readDomain}
-use Rattle.domain_meaning.specs.Problem.{Init, Problem, sumsFit, sumsAt, scopeOf, ofDomain, premises, initAt, initTo, nothing, sectionDueOf, goalTo, initAndGoal, problemText, readProblem}
+use Rattle.domain_meaning.specs.Domain.{Domain, Vocabulary, opened, other, beginsWith, headingOf, flagsSection, vocabulary, scopeIn, actionsTo, ending}
+use Rattle.domain_meaning.specs.Domain.{domainText, readDomain}
+use Rattle.domain_meaning.specs.Problem.{Init, Problem, sumsFit, sumsAt, scopeOf, ofDomain, premises, initAt, initTo, nothing, sectionDueOf, goalTo}
+use Rattle.domain_meaning.specs.Problem.{initAndGoal, problemText, readProblem}
 use Rattle.domain_meaning.proofs.Readings.{never}
 use Rattle.domain_meaning.proofs.Given.{Given, Any, Gives, Fits, reads, fits, stops, behind, given-got, given-then, fits-also, opened-gives}
 use Rattle.domain_meaning.proofs.Steps.{closing-fits, begins-ahead}
@@ -34,7 +36,8 @@ ending-in : (s : List ℕ) (at q a : ℕ) → ending s at ≡ got q a → at ≤
 unfolding ending Within
 ending-in s at q a h = go (tokenAt s at) (token-in s at) h
   where
-    go : (t : Token) → Within s at t → onClose t (λ p b. onEnd (tokenAt s b) (λ i. give i) (wrong 16 (tokenAt s b)) (afterOf (tokenAt s b))) (onOpen t (λ p b. wrong 14 (tokenAt s b) (afterOf (tokenAt s b))) (wrong 15 t)) (afterOf t) ≡ got q a → at ≤ 32768
+    go : (t : Token) → Within s at t → onClose t (λ p b. onEnd (tokenAt s b) (λ i. give i) (wrong 16 (tokenAt s b)) (afterOf (tokenAt s b)))
+        (onOpen t (λ p b. wrong 14 (tokenAt s b) (afterOf (tokenAt s b))) (wrong 15 t)) (afterOf t) ≡ got q a → at ≤ 32768
     go (T.Word k p e) w i = never i
     go (T.Number z p e) w i = never i
     go (T.Open p e) w i = never i
@@ -86,8 +89,10 @@ actionsSize bs = length (actionsCells bs)
 module _ (s : List ℕ) (c : Scope) (z : Sized c) where
   -- an action, behind which f reads on
   next-fits : (durative : Bool) (as′ : List Action) (at a : ℕ) (f : List Action → Reader (List Action)) → at ≤ a → Acting as′
-      → ((bs : List Action) (b : ℕ) → Acting bs → Fits Acting actionsSize b (actionsSize bs) (f bs b)) → Fits Acting actionsSize at (actionsSize as′) (andThen (action s c durative as′ a) f)
-  next-fits durative as′ at a f h g r = given-then _ (action-fits s c z durative as′ a g) (λ bs b l. fits-also (r bs b (l .good)) (omega arith) (λ x n v. omega arith))
+      → ((bs : List Action) (b : ℕ) → Acting bs → Fits Acting actionsSize b (actionsSize bs) (f bs b))
+      → Fits Acting actionsSize at (actionsSize as′) (andThen (action s c durative as′ a) f)
+  next-fits durative as′ at a f h g r = given-then _ (action-fits s c z durative as′ a g)
+      (λ bs b l. fits-also (r bs b (l .good)) (omega arith) (λ x n v. omega arith))
 
   actions-fits : (k : ℕ) (as′ : List Action) (at : ℕ) → Acting as′ → Fits Acting actionsSize at (actionsSize as′) (actionsTo k s c as′ at)
   unfolding actionsTo
@@ -96,7 +101,8 @@ module _ (s : List ℕ) (c : Scope) (z : Sized c) where
       given-then _ (begins-ahead s (bytes ":action") at)
       (λ o a h. opened-gives o _ _ a (λ p. next-fits false as′ at a _ (h .on) g (λ bs b l. actions-fits k bs b l))
       (given-then _ (begins-ahead s (bytes ":durative-action") a)
-      (λ d i u. opened-gives d _ _ i (λ p. next-fits true as′ at i _ (omega arith) g (λ bs b l. actions-fits k bs b l)) (fits {a = as′} {n = i} g (omega arith) (omega arith)))))
+      (λ d i u. opened-gives d _ _ i (λ p. next-fits true as′ at i _ (omega arith) g (λ bs b l. actions-fits k bs b l))
+      (fits {a = as′} {n = i} g (omega arith) (omega arith)))))
 
 no-actions : Acting []
 unfolding GoodActions
@@ -106,7 +112,8 @@ domain-text-fits : (s : List ℕ) (at : ℕ) → Gives DomainRead (domainText s 
 unfolding domainText actionsCells
 domain-text-fits s at =
     given-then _ (vocabulary-fits s at)
-    (λ v a h. given-then _ (actions-fits s (scopeIn v) (record { objects = h .constants .few; facts = h .predicates .kept .few; numbers = h .functions .kept .few }) (length s + 1) [] a no-actions)
+    (λ v a h. given-then _ (actions-fits s (scopeIn v) (record
+    { objects = h .constants .few; facts = h .predicates .kept .few; numbers = h .functions .kept .few }) (length s + 1) [] a no-actions)
     (λ as′ b g. given-then _ (ending-fits s b)
     (λ q i l. reads
     (record {

@@ -21,10 +21,12 @@ pub record Fitting (d : Domain) (p : Problem) : Type 0 where
 pub read-fits : (s t : List ℕ) (d : Domain) (p : Problem) (m n : ℕ) → readDomain s ≡ got d m → readProblem t d ≡ got p n → Fitting d p
 read-fits s t d p m n e f = let r = domain-read s d m e in record { domain = r; problem = problem-read t d p n r f }
 
-pub domain-back : (s : List ℕ) (d : Domain) (n : ℕ) (code starts : List ℕ) → readDomain s ≡ got d n → length (actionsCells (d .actions)) ≤ length code → 3 * length (d .actions) ≤ length starts
+pub domain-back : (s : List ℕ) (d : Domain) (n : ℕ) (code starts : List ℕ) → readDomain s ≡ got d n → length (actionsCells (d .actions)) ≤ length code
+    → 3 * length (d .actions) ≤ length starts
     → actionsAt (sets code 0 (actionsCells (d .actions))) (sets starts 0 (startsOf 0 (d .actions))) 0 (map (λ a. a .declared) (d .actions)) ≡ d .actions
 domain-back s d n code starts e h k = actions-back (d .actions) code starts (domain-read s d n e .actions) h k
 
-pub goal-back : (s t : List ℕ) (d : Domain) (p : Problem) (m n : ℕ) (code : List ℕ) (at : ℕ) → readDomain s ≡ got d m → readProblem t d ≡ got p n → Stands code at (condCells (p .goal))
+pub goal-back : (s t : List ℕ) (d : Domain) (p : Problem) (m n : ℕ) (code : List ℕ) (at : ℕ) → readDomain s ≡ got d m → readProblem t d ≡ got p n
+    → Stands code at (condCells (p .goal))
     → conditionAt code at ≡ decoded (p .goal) (at + length (condCells (p .goal)))
 goal-back s t d p m n code at e f c = cond-read (p .goal) code at 16 (read-fits s t d p m n e f .problem .goal) c

@@ -26,7 +26,8 @@ alike {A = A} {m = m} h s u a d = go (m s 0) (m s 0) (m u 0) d refl (h s (edgeFo
     agrees : (r : Read A) → Agrees (edgeOf s (edgeFor r)) u
     agrees r = record { same = λ at i. a at }
 
-    go : (r x y : Read A) → ((k p : ℕ) → x ≡ refused k p → 0 < k) → x ≡ r → Good (edgeOf s (edgeFor r)) (nextOf s 0) (Over (edgeOf s (edgeFor r)) (nextOf s)) x y → x ≡ y
+    go : (r x y : Read A) → ((k p : ℕ) → x ≡ refused k p → 0 < k) → x ≡ r
+        → Good (edgeOf s (edgeFor r)) (nextOf s 0) (Over (edgeOf s (edgeFor r)) (nextOf s)) x y → x ≡ y
     go (got b n) x y d e (far z) = absurd (let o : ⊥ = omega (arith, (rw e at z) .past) in o)
     go (refused k p) x y d e (far z) = absurd (let o : ⊥ = omega (arith, (rw e at z) (d k p e)) in o)
     go r x y d e (near i f) = f

@@ -16,7 +16,8 @@ use Rattle.domain_meaning.specs.Due.{placeOf, closing}
 use Rattle.domain_meaning.specs.Terms.{Scope, Given, objectAt, variableAt, givenBy, argument, fits, arguments, reference}
 use Rattle.domain_refusal_laws.proofs.Sight.{seen-later}
 use Rattle.domain_refusal_laws.proofs.Nearness.{Fits}
-use Rattle.domain_refusal_laws.proofs.Local.{Edge, next, Far, Good, far, near, settle, refusal, widen, Over, Local, Plain, Told, Behind, token-then, peek-then, after, refuses, wrongs, choose-then, Held, stays, stops, held, worded, tailed, on-close}
+use Rattle.domain_refusal_laws.proofs.Local.{Edge, next, Far, Good, far, near, settle, refusal, widen, Over, Local, Plain, Told, Behind, token-then}
+use Rattle.domain_refusal_laws.proofs.Local.{peek-then, after, refuses, wrongs, choose-then, Held, stays, stops, held, worded, tailed, on-close}
 use Rattle.domain_refusal_laws.proofs.Heads.{declared-held, word-then}
 
 -- ---- one argument
@@ -64,7 +65,8 @@ pub record Ended (E : Edge) (n : ℕ) : Type 0 where
   pub ends : E .edge < n
   pub over : Over E (next E) n
 
-mapped : {A B : Type 0} {E : Edge} {fl : ℕ → ℕ} {F : ℕ → Type 0} {m : List ℕ → Reader B} (j : B → A) → Local E fl F m → Local E fl F (λ v. _>>=_ (m v) (λ b. give (j b)))
+mapped : {A B : Type 0} {E : Edge} {fl : ℕ → ℕ} {F : ℕ → Type 0} {m : List ℕ → Reader B} (j : B → A) → Local E fl F m
+    → Local E fl F (λ v. _>>=_ (m v) (λ b. give (j b)))
 unfolding Far
 mapped {B = B} {E = E} {fl = fl} {F = F} {m = m} j h = record { good = λ u a at. go (fl at) (m (E .text) at) (m u at) (h .good u a at) }
   where
@@ -101,4 +103,7 @@ unfolding reference
 closes-local d c t i = mapped (λ as′. record { head = i; args = as′ }) (arguments-local d c (wantedOf (entryAt t i)))
 
 pub reference-local : {E : Edge} (d : ℕ) (c : Scope) (t : Table) (i : ℕ) → Plain E (λ v. reference v d c t i)
-reference-local {E} d c t i = record { good = λ u a at. widen (next E at) (reference (E .text) d c t i at) (reference u d c t i at) (λ n h. h .over) (closes-local d c t i .good u a at) }
+reference-local {E} d c t i = record {
+  good = λ u a at. widen (next E at) (reference (E .text) d c t i at) (reference u d c t i at) (λ n h. h .over)
+      (closes-local d c t i .good u a at);
+}

@@ -20,10 +20,13 @@ use Rattle.domain_meaning.specs.Tables.{Table}
 use Rattle.domain_meaning.specs.Due.{token, wrong, afterOf, onClose, onEnd}
 use Rattle.domain_meaning.specs.Terms.{Scope}
 use Rattle.domain_meaning.specs.Actions.{Action, action}
-use Rattle.domain_meaning.specs.Domain.{Opened, opened, other, onOpened, sectionWord, beginsWith, ending, headingOf, flagWord, flagOf, flagsTo, actionsTo, onlyObject, flagsSection, typesSection, constantsSection, declaredSection, vocabulary, scopeIn, domainText}
+use Rattle.domain_meaning.specs.Domain.{Opened, opened, other, onOpened, sectionWord, beginsWith, ending, headingOf, flagWord, flagOf, flagsTo, actionsTo}
+use Rattle.domain_meaning.specs.Domain.{onlyObject, flagsSection, typesSection, constantsSection, declaredSection, vocabulary, scopeIn, domainText}
 use Rattle.domain_refusal_laws.specs.Lowest.{nextOf}
-use Rattle.domain_refusal_laws.proofs.Local.{Edge, next, Over, Local, Plain, gives, never, then, bounded, Behind, token-then, after, follow, refuses, wrongs, choose, Held, stays, stops, gives-behind, worded, begun, on-word, on-close, on-refusal, on-open}
-use Rattle.domain_refusal_laws.proofs.Suffice.{held-at, forward, word-strict, bracket-facts, bracket-next, bracket-strict, Enough, enough, fewer, and-same}
+use Rattle.domain_refusal_laws.proofs.Local.{Edge, next, Over, Local, Plain, gives, never, then, bounded, Behind, token-then, after, follow, refuses}
+use Rattle.domain_refusal_laws.proofs.Local.{wrongs, choose, Held, stays, stops, gives-behind, worded, begun, on-word, on-close, on-refusal, on-open}
+use Rattle.domain_refusal_laws.proofs.Suffice.{held-at, forward, word-strict, bracket-facts, bracket-next, bracket-strict, Enough, enough, fewer}
+use Rattle.domain_refusal_laws.proofs.Suffice.{and-same}
 use Rattle.domain_refusal_laws.proofs.Heads.{opening-local, closing-local, word-local, name-then}
 use Rattle.domain_refusal_laws.proofs.Rows.{names-local, types-local, declarations-local}
 use Rattle.domain_refusal_laws.proofs.Parts.{action-local}
@@ -89,12 +92,14 @@ flags-suffice s zero k at ej ek = absurd (let y : ⊥ = omega arith in y)
 flags-suffice s (suc j) zero at ej ek = absurd (let y : ⊥ = omega arith in y)
 flags-suffice s (suc j) (suc k) at ej ek = go (λ n a b. flags-suffice s j k n a b) (tokenAt s at) refl
   where
-    refusal-same : (b : Bool) (x p n : ℕ) (g h : ℕ → Reader ℕ) → andThen (cond b (refuse 11 p) (refuse x p) n) g ≡ andThen (cond b (refuse 11 p) (refuse x p) n) h
+    refusal-same : (b : Bool) (x p n : ℕ) (g h : ℕ → Reader ℕ)
+        → andThen (cond b (refuse 11 p) (refuse x p) n) g ≡ andThen (cond b (refuse 11 p) (refuse x p) n) h
     refusal-same true x p n g h = refl
     refusal-same false x p n g h = refl
 
     go : ((n : ℕ) → Enough s j n → Enough s k n → flagsTo j s n ≡ flagsTo k s n) → (t : Token) → tokenAt s at ≡ t
-        → onClose t (λ p. give p) (_>>=_ (flagOf s t) (λ i. flagsTo j s)) (afterOf t) ≡ onClose t (λ p. give p) (_>>=_ (flagOf s t) (λ i. flagsTo k s)) (afterOf t)
+        → onClose t (λ p. give p) (_>>=_ (flagOf s t) (λ i. flagsTo j s)) (afterOf t) ≡ onClose t (λ p. give p)
+        (_>>=_ (flagOf s t) (λ i. flagsTo k s)) (afterOf t)
     go f (T.Word x p e) q =
         and-same (flagWord s x p e e) (λ i n h.
         let r : n ≡ e = held-at (flagWord s x p e e) (flag-held s x p e e) h in
@@ -164,7 +169,8 @@ module _ (s : List ℕ) (c : Scope) (j k : ℕ) (f : (as′ : List Action) (n : 
       f bs n (fewer ej b) (fewer ek b))
 
   durative-step : (o : Opened) (e : ℕ) → Begun s at o e
-      → onOpened o (λ p. _>>=_ (action s c true as′) (λ bs. actionsTo j s c bs)) (give as′) e ≡ onOpened o (λ p. _>>=_ (action s c true as′) (λ bs. actionsTo k s c bs)) (give as′) e
+      → onOpened o (λ p. _>>=_ (action s c true as′) (λ bs. actionsTo j s c bs)) (give as′) e ≡ onOpened o
+      (λ p. _>>=_ (action s c true as′) (λ bs. actionsTo k s c bs)) (give as′) e
   durative-step (opened p) e h = action-step true p e h
   durative-step other e h = refl
 
@@ -174,9 +180,11 @@ module _ (s : List ℕ) (c : Scope) (j k : ℕ) (f : (as′ : List Action) (n : 
       ≡ onOpened o (λ p. _>>=_ (action s c false as′) (λ bs. actionsTo k s c bs))
       (_>>=_ (beginsWith s (bytes ":durative-action")) (λ d. onOpened d (λ p. _>>=_ (action s c true as′) (λ bs. actionsTo k s c bs)) (give as′))) e
   simple-step (opened p) e h = action-step false p e h
-  simple-step other e h = rw h (and-same (beginsWith s (bytes ":durative-action") at) (λ o n i. durative-step o n (begun-at s (bytes ":durative-action") at n o i)))
+  simple-step other e h = rw h (and-same (beginsWith s (bytes ":durative-action") at)
+      (λ o n i. durative-step o n (begun-at s (bytes ":durative-action") at n o i)))
 
-actions-suffice : (s : List ℕ) (c : Scope) (j k : ℕ) (as′ : List Action) (at : ℕ) → Enough s j at → Enough s k at → actionsTo j s c as′ at ≡ actionsTo k s c as′ at
+actions-suffice : (s : List ℕ) (c : Scope) (j k : ℕ) (as′ : List Action) (at : ℕ) → Enough s j at → Enough s k at
+    → actionsTo j s c as′ at ≡ actionsTo k s c as′ at
 unfolding actionsTo
 actions-suffice s c zero k as′ at ej ek = absurd (let y : ⊥ = omega arith in y)
 actions-suffice s c (suc j) zero as′ at ej ek = absurd (let y : ⊥ = omega arith in y)
@@ -193,7 +201,8 @@ actions-local (suc k) c as′ =
 
 flags-section : {E : Edge} → Section E flagsSection
 unfolding flagsSection
-flags-section = section-local ":requirements" 0 (wide (bounded flagsTo (λ s at j k a b. flags-suffice s j k at (enough s j at a) (enough s k at b)) flags-local))
+flags-section = section-local ":requirements" 0 (wide (bounded flagsTo (λ s at j k a b. flags-suffice s j k at (enough s j at a) (enough s k at b))
+    flags-local))
 
 types-section : {E : Edge} → Section E typesSection
 unfolding typesSection
@@ -217,4 +226,6 @@ vocabulary-local =
 pub domain-local : {E : Edge} → Plain E domainText
 unfolding domainText
 domain-local =
-    then vocabulary-local (λ v. then (bounded (λ k s. actionsTo k s (scopeIn v) []) (λ s at j k a b. actions-suffice s (scopeIn v) j k [] at (enough s j at a) (enough s k at b)) (λ k. actions-local k (scopeIn v) [])) (λ as′. then ending-local (λ i. gives)))
+    then vocabulary-local (λ v. then (bounded (λ k s. actionsTo k s (scopeIn v) [])
+    (λ s at j k a b. actions-suffice s (scopeIn v) j k [] at (enough s j at a) (enough s k at b)) (λ k. actions-local k (scopeIn v) []))
+    (λ as′. then ending-local (λ i. gives)))

@@ -26,7 +26,8 @@ reached = refl
 -- ---- why two rows look further: texts that are the same to the end of the token, and are not refused in the same way
 
 -- the bracket, and the token behind it
-either-decides : (readDomain (bytes "(define (domain d) (:types a - (b)))") ≡ refused 3 31) × (readDomain (bytes "(define (domain d) (:types a - (either b)))") ≡ refused 11 32)
+either-decides : (readDomain (bytes "(define (domain d) (:types a - (b)))") ≡ refused 3 31)
+    × (readDomain (bytes "(define (domain d) (:types a - (either b)))") ≡ refused 11 32)
 unfolding open-texts
 either-decides = (refl, refl)
 
@@ -41,6 +42,7 @@ small = record {
 }
 
 -- the function's name, and its argument
-argument-decides : (readProblem (bytes "(define (problem q) (:domain d) (:init (= (f a) 1) (= (f a)") small ≡ refused 7 55) × (readProblem (bytes "(define (problem q) (:domain d) (:init (= (f a) 1) (= (f b)") small ≡ refused 4 59)
+argument-decides : (readProblem (bytes "(define (problem q) (:domain d) (:init (= (f a) 1) (= (f a)") small ≡ refused 7 55)
+    × (readProblem (bytes "(define (problem q) (:domain d) (:init (= (f a) 1) (= (f b)") small ≡ refused 4 59)
 unfolding open-texts small
 argument-decides = (refl, refl)

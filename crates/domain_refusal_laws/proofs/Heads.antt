@@ -17,7 +17,8 @@ use Rattle.text_tokens.specs.declared.tokens.Token.the-variants as T
 use Rattle.domain_meaning.specs.Read.{_>>=_, Reader, give, refuse}
 use Rattle.domain_meaning.specs.Tables.{Table, lookup, onFound, fresh, declared}
 use Rattle.domain_meaning.specs.Due.{wrong, afterOf, onWord, opening, closing, isNameWord, wordDue, Name, anyName, newName}
-use Rattle.domain_refusal_laws.proofs.Local.{Edge, next, Local, Plain, assoc, Behind, token-then, refuses, wrongs, choose, choose-then, Held, stays, stops, gives-behind, worded, on-word, on-open, on-close}
+use Rattle.domain_refusal_laws.proofs.Local.{Edge, next, Local, Plain, assoc, Behind, token-then, refuses, wrongs, choose, choose-then, Held, stays}
+use Rattle.domain_refusal_laws.proofs.Local.{stops, gives-behind, worded, on-word, on-open, on-close}
 
 -- ---- what reads nothing
 
@@ -85,4 +86,5 @@ pub new-then : {A : Type 0} {E : Edge} {F : ℕ → Type 0} {g : List ℕ → Na
     → ((n : Name) (e : ℕ) → Behind E (T.Word W.Name (n .place) e) e F (λ v. g v n)) → Local E (next E) F (λ v. _>>=_ (newName v d) (g v))
 unfolding newName
 new-then {g = g} d f =
-    assoc (λ v. anyName v d) (λ v n. cond (isReserved (n .word)) (refuse 3 (n .place)) (give n)) g (name-then d (λ n e. choose-then (λ v. refuse 3 (n .place)) (λ v. give n) g (isReserved (n .word)) refuses (f n e)))
+    assoc (λ v. anyName v d) (λ v n. cond (isReserved (n .word)) (refuse 3 (n .place)) (give n)) g
+    (name-then d (λ n e. choose-then (λ v. refuse 3 (n .place)) (λ v. give n) g (isReserved (n .word)) refuses (f n e)))

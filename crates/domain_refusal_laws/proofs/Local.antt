@@ -166,7 +166,8 @@ module _ {A : Type 0} {E : Edge} {fl : ℕ → ℕ} {F : ℕ → Type 0} where
   pub bounded : (m : ℕ → List ℕ → Reader A) → Steady m → ((k : ℕ) → Local E fl F (m k)) → Local E fl F (λ v. m (length v + 1) v)
   bounded m f h = record { good = λ u a at. go u a at (length (E .text) + length u + 1) (omega arith) (omega arith) }
     where
-      go : (u : List ℕ) → Agrees E u → (at k : ℕ) → length (E .text) < k → length u < k → Good E (fl at) F (m (length (E .text) + 1) (E .text) at) (m (length u + 1) u at)
+      go : (u : List ℕ) → Agrees E u → (at k : ℕ) → length (E .text) < k → length u < k
+          → Good E (fl at) F (m (length (E .text) + 1) (E .text) at) (m (length u + 1) u at)
       go u a at k i j = rw (f (E .text) at (length (E .text) + 1) k (omega arith) i, f u at (length u + 1) k (omega arith) j) (h k .good u a at)
 
 -- ---- behind a token
@@ -219,7 +220,8 @@ module _ {A : Type 0} {E : Edge} {F : ℕ → Type 0} {t : Token} {n : ℕ} wher
   pub after : {m : List ℕ → Reader A} → Local E (next E) F m → Behind E t n F m
   after {m} h = record { good = λ u k. lower (placeOf t) (next E n) (m (E .text) n) (m u n) (k .on) (h .good u (k .agrees) n) }
 
-  pub follow : {B : Type 0} {by : ℕ → ℕ} {m : List ℕ → Reader B} {g : List ℕ → B → Reader A} → Behind E t n (Over E by) m → ((b : B) → Local E by F (λ v. g v b))
+  pub follow : {B : Type 0} {by : ℕ → ℕ} {m : List ℕ → Reader B} {g : List ℕ → B → Reader A} → Behind E t n (Over E by) m
+      → ((b : B) → Local E by F (λ v. g v b))
       → Behind E t n F (λ v. _>>=_ (m v) (g v))
   follow {m = m} {g = g} h k =
       record { good = λ u r. bind (placeOf t) (m (E .text) n) (m u n) (g (E .text)) (g u) (h .good u r) (λ b i. k b .good u (r .agrees) i) }
@@ -235,7 +237,8 @@ module _ {A : Type 0} {E : Edge} {F : ℕ → Type 0} {t : Token} {n : ℕ} wher
   choose true h k = h
   choose false h k = k
 
-  pub choose-then : {B : Type 0} (m o : List ℕ → Reader B) (g : List ℕ → B → Reader A) (b : Bool) → Behind E t n F (λ v. _>>=_ (m v) (g v)) → Behind E t n F (λ v. _>>=_ (o v) (g v))
+  pub choose-then : {B : Type 0} (m o : List ℕ → Reader B) (g : List ℕ → B → Reader A) (b : Bool) → Behind E t n F (λ v. _>>=_ (m v) (g v))
+      → Behind E t n F (λ v. _>>=_ (o v) (g v))
       → Behind E t n F (λ v. _>>=_ (cond b (m v) (o v)) (g v))
   choose-then m o g true h k = h
   choose-then m o g false h k = k
@@ -249,7 +252,8 @@ module _ {A : Type 0} {E : Edge} {t : Token} {n : ℕ} where
   pub gives-behind : {a : A} → Behind E t n (Over E (next E)) (λ v. give a)
   gives-behind = after gives
 
-  pub held : {B : Type 0} {F : ℕ → Type 0} (m : Reader B) {g : List ℕ → B → Reader A} → ((n : ℕ) → Held (placeOf t) n (m n)) → ((b : B) → Behind E t n F (λ v. g v b))
+  pub held : {B : Type 0} {F : ℕ → Type 0} (m : Reader B) {g : List ℕ → B → Reader A} → ((n : ℕ) → Held (placeOf t) n (m n))
+      → ((b : B) → Behind E t n F (λ v. g v b))
       → Behind E t n F (λ v. _>>=_ m (g v))
   held {B = B} {F = F} m {g} h k = record { good = λ u r. go u r (h n) }
     where
@@ -275,7 +279,8 @@ module _ {A : Type 0} {E : Edge} {F : ℕ → Type 0} where
     tailed f = record { good = λ u r. rw (← r .tail) (f (part (E .text) (p + 1) e) .good u r) }
 
   -- so is the first byte of what is refused
-  pub begun : {k p n : ℕ} (h : List ℕ → ℕ → Reader A) → ((b : ℕ) → Behind E (T.Refusal k p) n F (λ v. h v b)) → Behind E (T.Refusal k p) n F (λ v. h v (getD v p 0))
+  pub begun : {k p n : ℕ} (h : List ℕ → ℕ → Reader A) → ((b : ℕ) → Behind E (T.Refusal k p) n F (λ v. h v b))
+      → Behind E (T.Refusal k p) n F (λ v. h v (getD v p 0))
   begun {p = p} h f = record { good = λ u r. rw (← r .first) (f (getD (E .text) p 0) .good u r) }
 
   module _ {by : Token → ℕ} {o : List ℕ → Token → Reader A} where

@@ -23,7 +23,8 @@ within-edge k p x y h i e (near j d) = sym d ∙ e
 pub lowest-in-domain : LowestInDomain
 unfolding readDomain
 lowest-in-domain s t k p a e =
-    within-edge {E = E} k p (domainText s 0) (domainText t 0) (listed-in-domain s k p e .least) (le-refl (reach s k p)) e (domain-local {E = E} .good t (agrees-bytes E t a) 0)
+    within-edge {E = E} k p (domainText s 0) (domainText t 0) (listed-in-domain s k p e .least) (le-refl (reach s k p)) e
+    (domain-local {E = E} .good t (agrees-bytes E t a) 0)
   where
     E : Edge
     E = record { text = s; edge = reach s k p; reaches = reach s; above = reach-above s; bracket = reach-bracket s }
@@ -31,7 +32,8 @@ lowest-in-domain s t k p a e =
 pub lowest-in-problem : LowestInProblem
 unfolding readProblem reachInProblem
 lowest-in-problem s t d k p a e =
-    within-edge {E = E} k p (problemText s d 0) (problemText t d 0) (listed-in-problem s d k p e .least) (le-refl (reachInProblem s k p)) e (problem-local {E = E} (waits s) d .good t (agrees-bytes E t a) 0)
+    within-edge {E = E} k p (problemText s d 0) (problemText t d 0) (listed-in-problem s d k p e .least) (le-refl (reachInProblem s k p)) e
+    (problem-local {E = E} (waits s) d .good t (agrees-bytes E t a) 0)
   where
     E : Edge
     E = edgeOf s (reachInProblem s k p)

@@ -19,7 +19,8 @@ use Rattle.text_tokens.proofs.Steps.{gap-within, run-within}
 use Rattle.text_tokens.specs.Runs.{part, gapEnd}
 use Rattle.text_tokens.specs.Numbers.{numberOf}
 use Rattle.text_tokens.specs.Classes.{classOf}
-use Rattle.text_tokens.specs.Tokens.{sizedOf, asToken, numberToken, byClass, domainWord, isPast, bracketOf, domainRun, endOf, tokenFrom, tokenAt, spotBehind, spotAt}
+use Rattle.text_tokens.specs.Tokens.{sizedOf, asToken, numberToken, byClass, domainWord, isPast, bracketOf, domainRun, endOf, tokenFrom, tokenAt, spotBehind}
+use Rattle.text_tokens.specs.Tokens.{spotAt}
 use Rattle.text_tokens.specs.declared.numbers.Number.{Number}
 use Rattle.text_tokens.specs.declared.numbers.Number.the-variants.{Thousandths, Malformed}
 use Rattle.text_tokens.specs.declared.classes.Class.{Class}
@@ -102,11 +103,15 @@ bracket-shape s p h = go (eqb (getD s p 0) 40) refl (eqb (getD s p 0) 41)
 start-shape : (s : List ℕ) (p : ℕ) → p < length s → (k : Kind) → kindOf (getD s p 0) ≡ k
     → Shape s p (onStart k (domainRun s p (endOf s 59 p)) (bracketOf (getD s p 0) p) (T.Refusal 2 p))
 unfolding Fits seen
-start-shape s p i K.Digit h = word-shape s p (endOf s 59 p) (rw (h, seen)) (run-within s 59 (p + 1) (omega arith) .1) (omega (arith, run-behind s (p + 1))) (part s p (endOf s 59 p))
-start-shape s p i K.Letter h = word-shape s p (endOf s 59 p) (rw (h, seen)) (run-within s 59 (p + 1) (omega arith) .1) (omega (arith, run-behind s (p + 1))) (part s p (endOf s 59 p))
+start-shape s p i K.Digit h = word-shape s p (endOf s 59 p) (rw (h, seen)) (run-within s 59 (p + 1) (omega arith) .1)
+    (omega (arith, run-behind s (p + 1))) (part s p (endOf s 59 p))
+start-shape s p i K.Letter h = word-shape s p (endOf s 59 p) (rw (h, seen)) (run-within s 59 (p + 1) (omega arith) .1)
+    (omega (arith, run-behind s (p + 1))) (part s p (endOf s 59 p))
 start-shape s p i K.Bracket h = bracket-shape s p (rw (h, seen))
-start-shape s p i K.White h = word-shape s p (endOf s 59 p) (rw (h, seen)) (run-within s 59 (p + 1) (omega arith) .1) (omega (arith, run-behind s (p + 1))) (part s p (endOf s 59 p))
-start-shape s p i K.Mark h = word-shape s p (endOf s 59 p) (rw (h, seen)) (run-within s 59 (p + 1) (omega arith) .1) (omega (arith, run-behind s (p + 1))) (part s p (endOf s 59 p))
+start-shape s p i K.White h = word-shape s p (endOf s 59 p) (rw (h, seen)) (run-within s 59 (p + 1) (omega arith) .1)
+    (omega (arith, run-behind s (p + 1))) (part s p (endOf s 59 p))
+start-shape s p i K.Mark h = word-shape s p (endOf s 59 p) (rw (h, seen)) (run-within s 59 (p + 1) (omega arith) .1)
+    (omega (arith, run-behind s (p + 1))) (part s p (endOf s 59 p))
 start-shape s p i K.Refused h = record { place = refl; fits = own (omega arith) (omega arith) }
 
 past-low : (long g : ℕ) → isPast long g ≡ true → (32768 < long) × (32768 ≤ g)
@@ -136,7 +141,8 @@ unfolding Fits
 from-shape s g = go (isPast (length s) g) refl (leb (length s) g) refl
   where
     go : (t : Bool) → isPast (length s) g ≡ t → (u : Bool) → leb (length s) g ≡ u
-        → Shape s (cond t 32768 g) (cond t (T.Refusal 1 32768) (cond u (T.End g) (onStart (kindOf (getD s g 0)) (domainRun s g (endOf s 59 g)) (bracketOf (getD s g 0) g) (T.Refusal 2 g))))
+        → Shape s (cond t 32768 g) (cond t (T.Refusal 1 32768)
+        (cond u (T.End g) (onStart (kindOf (getD s g 0)) (domainRun s g (endOf s 59 g)) (bracketOf (getD s g 0) g) (T.Refusal 2 g))))
     go true d u e = record { place = refl; fits = record { least = omega arith; most = omega arith; long = λ _. (refl, past-low (length s) g d .0) } }
     go false d true e = record { place = refl; fits = leb-true (length s) g e }
     go false d false e = start-shape s g (leb-false (length s) g e) (kindOf (getD s g 0)) refl
@@ -149,7 +155,8 @@ token-shape s at = from-shape s (gapEnd s at)
 pub token-stands : (s : List ℕ) (at : ℕ) → at ≤ length s → (nextOf s at ≤ length s) × (nextOf s at ≤ 32768)
 token-stands s at h = rw (token-shape s at .place) (go (isPast (length s) (gapEnd s at)) refl (decLe (length s) 32768))
   where
-    go : (t : Bool) → isPast (length s) (gapEnd s at) ≡ t → Dec (length s ≤ 32768) → (cond t 32768 (gapEnd s at) ≤ length s) × (cond t 32768 (gapEnd s at) ≤ 32768)
+    go : (t : Bool) → isPast (length s) (gapEnd s at) ≡ t → Dec (length s ≤ 32768) → (cond t 32768 (gapEnd s at) ≤ length s)
+        × (cond t 32768 (gapEnd s at) ≤ 32768)
     go true e d = omega (arith, past-low (length s) (gapEnd s at) e)
     go false e (yes i) = omega (arith, gap-within s at h)
     go false e (no i) = omega (arith, gap-within s at h, past-high (length s) (gapEnd s at) (omega arith) e)
@@ -236,7 +243,8 @@ unfolding sameWord
 first-byte c ws f b bs h = go (eqb (lowerOf b) (lowerOf c)) refl
   where
     go : (t : Bool) → eqb (lowerOf b) (lowerOf c) ≡ t → (t && sameWord bs ws) ≡ false
-    go true e = let z : true ≡ false = sym (f b (eqb-true (lowerOf b) (lowerOf c) e)) ∙ h in let y : _≡_ {A = ℕ} 0 1 = cc in absurd (let x : ⊥ = omega arith in x)
+    go true e = let z : true ≡ false = sym (f b (eqb-true (lowerOf b) (lowerOf c) e)) ∙ h in let y : _≡_ {A = ℕ} 0 1 =
+        cc in absurd (let x : ⊥ = omega arith in x)
     go false e = refl
 
 -- a letter without its case is itself or 32 before
@@ -338,12 +346,14 @@ module _ (s u : List ℕ) (q : ℕ) (a : take q s ≡ take q u) where
           rw (← gap-same at (omega (arith, seen-low s (gapEnd s at)))) (from-same (gapEnd s at) k)
 
   spot-start : (w : List ℕ) → Wordly w → (g : ℕ) → g < length s → (k : Kind) → kindOf (getD s g 0) ≡ k → seen s g ≤ q
-      → cond (sameWord (part s g (endOf s 59 g)) w) (P.At g (endOf s 59 g)) P.Other ≡ cond (sameWord (part u g (endOf u 59 g)) w) (P.At g (endOf u 59 g)) P.Other
+      → cond (sameWord (part s g (endOf s 59 g)) w) (P.At g (endOf s 59 g)) P.Other ≡ cond (sameWord (part u g (endOf u 59 g)) w)
+      (P.At g (endOf u 59 g)) P.Other
   unfolding seen
   spot-start w f g i k e h = go k e (rw (e, seen) at h)
     where
       goal : Type 0
-      goal = cond (sameWord (part s g (endOf s 59 g)) w) (P.At g (endOf s 59 g)) P.Other ≡ cond (sameWord (part u g (endOf u 59 g)) w) (P.At g (endOf u 59 g)) P.Other
+      goal = cond (sameWord (part s g (endOf s 59 g)) w) (P.At g (endOf s 59 g)) P.Other ≡ cond (sameWord (part u g (endOf u 59 g)) w)
+          (P.At g (endOf u 59 g)) P.Other
 
       run : endOf s 59 g + 1 ≤ q → goal
       run r = rw (word-same g r, end-same g r)
@@ -388,7 +398,8 @@ Spotted p P.Other = Unit {0}
 
 pub spot-place : (s : List ℕ) (at : ℕ) (w : List ℕ) → Spotted (nextOf s at) (spotAt s at w)
 unfolding spotAt
-spot-place s at w = rw (token-shape s at .place) (go (isPast (length s) (gapEnd s at)) (leb (length s) (gapEnd s at)) (sameWord (part s (gapEnd s at) (endOf s 59 (gapEnd s at))) w))
+spot-place s at w = rw (token-shape s at .place) (go (isPast (length s) (gapEnd s at)) (leb (length s) (gapEnd s at))
+    (sameWord (part s (gapEnd s at) (endOf s 59 (gapEnd s at))) w))
   where
     go : (t u v : Bool) → Spotted (cond t 32768 (gapEnd s at)) (cond (t || u) P.Other (cond v (P.At (gapEnd s at) (endOf s 59 (gapEnd s at))) P.Other))
     go true u v = tt

@@ -48,7 +48,8 @@ rest a (refused k p) e = off e
 
 module _ (s : List ℕ) (d : ℕ) (c : Scope) where
   -- the last argument is followed by the bracket
-  last : (at k n : ℕ) (as′ : List Arg) (t : Token) → tokenAt s at ≡ t → at ≤ length s → length s < k + at → arguments s d c [] at ≡ got as′ n → closed k s at ≡ n
+  last : (at k n : ℕ) (as′ : List Arg) (t : Token) → tokenAt s at ≡ t → at ≤ length s → length s < k + at → arguments s d c [] at ≡ got as′ n
+      → closed k s at ≡ n
   unfolding arguments closed closing argument Fits
   last at zero n as′ t e h l g = absurd (let y : ⊥ = omega arith in y)
   last at (suc k) n as′ (T.Word x p m) e h l g = absurd (unended (givenBy s c x p m m) (simp e at g))
@@ -63,10 +64,12 @@ module _ (s : List ℕ) (d : ℕ) (c : Scope) where
   last at (suc k) n as′ (T.End p) e h l g = off (simp e at g)
 
   -- an argument, and those behind it
-  module _ (want : ℕ) (wants : List ℕ) (on : (at k n : ℕ) (as′ : List Arg) → at ≤ length s → length s < k + at → arguments s d c wants at ≡ got as′ n → closed k s at ≡ n) where
+  module _ (want : ℕ) (wants : List ℕ) (on : (at k n : ℕ) (as′ : List Arg) → at ≤ length s → length s < k + at → arguments s d c wants at ≡ got as′ n
+      → closed k s at ≡ n) where
     fitting : (g : Given) (at k n : ℕ) (as′ : List Arg) → at ≤ length s → length s < k + at → Held (g .place) at (fits c want g at)
         → andThen (fits c want g at) (λ a. _>>=_ (arguments s d c wants) (λ bs. give (a ∷ bs))) ≡ got as′ n → closed k s at ≡ n
-    fitting g at k n as′ h l (stays a e) i = let r : (bs : List Arg) × (arguments s d c wants at ≡ got bs n) = rest a (arguments s d c wants at) (rw e at i) in on at k n (r .0) h l (r .1)
+    fitting g at k n as′ h l (stays a e) i = let r : (bs : List Arg) × (arguments s d c wants at ≡ got bs n) =
+        rest a (arguments s d c wants at) (rw e at i) in on at k n (r .0) h l (r .1)
     fitting g at k n as′ h l (stops x e) i = off (rw e at i)
 
     one : (x : Read Given) (p at k n : ℕ) (as′ : List Arg) → at ≤ length s → length s < k + at → Held p at x
@@ -74,7 +77,8 @@ module _ (s : List ℕ) (d : ℕ) (c : Scope) where
     one x p at k n as′ h l (stays g e) i = fitting g at k n as′ h l (fits-held c want g at) (rw e at i)
     one x p at k n as′ h l (stops j e) i = off (rw e at i)
 
-    more : (at k n : ℕ) (as′ : List Arg) (t : Token) → tokenAt s at ≡ t → at ≤ length s → length s < k + at → arguments s d c (want ∷ wants) at ≡ got as′ n → closed k s at ≡ n
+    more : (at k n : ℕ) (as′ : List Arg) (t : Token) → tokenAt s at ≡ t → at ≤ length s → length s < k + at
+        → arguments s d c (want ∷ wants) at ≡ got as′ n → closed k s at ≡ n
     unfolding arguments closed argument Within
     more at zero n as′ t e h l g = absurd (let y : ⊥ = omega arith in y)
     more at (suc k) n as′ (T.Word x p m) e h l g =
@@ -87,7 +91,8 @@ module _ (s : List ℕ) (d : ℕ) (c : Scope) where
     more at (suc k) n as′ (T.Refusal x p) e h l g = off (simp e at g)
     more at (suc k) n as′ (T.End p) e h l g = off (simp e at g)
 
-  arguments-closed : (wants : List ℕ) (at k n : ℕ) (as′ : List Arg) → at ≤ length s → length s < k + at → arguments s d c wants at ≡ got as′ n → closed k s at ≡ n
+  arguments-closed : (wants : List ℕ) (at k n : ℕ) (as′ : List Arg) → at ≤ length s → length s < k + at → arguments s d c wants at ≡ got as′ n
+      → closed k s at ≡ n
   arguments-closed [] at k n as′ h l g = last at k n as′ (tokenAt s at) refl h l g
   arguments-closed (want ∷ wants) at k n as′ h l g = more want wants (arguments-closed wants) at k n as′ (tokenAt s at) refl h l g
 
@@ -95,6 +100,7 @@ module _ (s : List ℕ) (d : ℕ) (c : Scope) where
   unfolding reference
   reference-closed t i at n r h g = go (arguments s d c (wantedOf (entryAt t i)) at) refl g
     where
-      go : (x : Read (List Arg)) → arguments s d c (wantedOf (entryAt t i)) at ≡ x → andThen x (λ as′. give (record { head = i; args = as′ })) ≡ got r n → closed (length s + 1) s at ≡ n
+      go : (x : Read (List Arg)) → arguments s d c (wantedOf (entryAt t i)) at ≡ x
+          → andThen x (λ as′. give (record { head = i; args = as′ })) ≡ got r n → closed (length s + 1) s at ≡ n
       go (got as′ m) e j = let q : m ≡ n = cc in arguments-closed (wantedOf (entryAt t i)) at (length s + 1) n as′ h (omega arith) (rw (← q) e)
       go (refused k p) e j = off j

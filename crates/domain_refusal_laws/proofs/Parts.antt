@@ -21,11 +21,14 @@ use Rattle.domain_meaning.specs.Tables.{Entry, fresh}
 use Rattle.domain_meaning.specs.Due.{token, wrong, onWord, afterOf, wordDue}
 use Rattle.domain_meaning.specs.Lists.{signature}
 use Rattle.domain_meaning.specs.Terms.{Scope, Counted, counts}
-use Rattle.domain_meaning.specs.Actions.{start, whole, end, Action, startOrEnd, timeOf, partBehind, partAt, partsTo, parts, ruleHead, durationSpot, durationRule, fieldOf, whenField, within, simpleBody, durativeBody, action}
+use Rattle.domain_meaning.specs.Actions.{start, whole, end, Action, startOrEnd, timeOf, partBehind, partAt, partsTo, parts, ruleHead, durationSpot}
+use Rattle.domain_meaning.specs.Actions.{durationRule, fieldOf, whenField, within, simpleBody, durativeBody, action}
 use Rattle.domain_refusal_laws.specs.Lowest.{seen, nextOf}
 use Rattle.domain_refusal_laws.proofs.Sight.{seen-later}
 use Rattle.domain_refusal_laws.proofs.Nearness.{Spotted, spot-place, next-on}
-use Rattle.domain_refusal_laws.proofs.Local.{Edge, next, Agrees, agrees-self, Far, Good, far, near, beyond, Over, Plain, gives, never, then, either-way, bounded, Behind, token-then, peek-then, after, follow, refuses, wrongs, choose, gives-behind, held, worded, on-word, on-close, on-refusal}
+use Rattle.domain_refusal_laws.proofs.Local.{Edge, next, Agrees, agrees-self, Far, Good, far, near, beyond, Over, Plain, gives, never, then, either-way}
+use Rattle.domain_refusal_laws.proofs.Local.{bounded, Behind, token-then, peek-then, after, follow, refuses, wrongs, choose, gives-behind, held, worded}
+use Rattle.domain_refusal_laws.proofs.Local.{on-word, on-close, on-refusal}
 use Rattle.domain_refusal_laws.proofs.Suffice.{Strict, opens-strict, Enough, enough, fewer, and-same, close-same}
 use Rattle.domain_refusal_laws.proofs.Heads.{fresh-held, opening-local, closing-local, word-local, new-then}
 use Rattle.domain_refusal_laws.proofs.Rows.{variables-local}
@@ -44,7 +47,8 @@ time-behind : {E : Edge} (d : ℕ) (over : Bool) (k : Word) (p e : ℕ) → Behi
 unfolding timeOf
 time-behind d over k p e =
     worded
-    (λ v w. cond (sameWord w (bytes "at")) (_>>=_ (token v) (startOrEnd v d)) (cond (over && sameWord w (bytes "over")) (_>>=_ (wordDue v d (bytes "all")) (λ i. give whole)) (refuse 3 p)))
+    (λ v w. cond (sameWord w (bytes "at")) (_>>=_ (token v) (startOrEnd v d))
+    (cond (over && sameWord w (bytes "over")) (_>>=_ (wordDue v d (bytes "all")) (λ i. give whole)) (refuse 3 p)))
     (λ w. choose (sameWord w (bytes "at")) (after (token-then (start-behind d)))
     (choose (over && sameWord w (bytes "over")) (after (then (word-local d (bytes "all")) (λ i. gives))) refuses))
 
@@ -62,7 +66,8 @@ module _ {A : Type 0} (over : Bool) {f : List ℕ → ℕ → ℕ → Reader (Co
 
   part-strict : (d n : ℕ) → Strict (λ v. partAt v over (f v) d n)
   unfolding partAt
-  part-strict d n = opens-strict d (λ v i. _>>=_ (token v) (λ t. onWord t (λ k p e. partBehind v over (f v) (d - 1) n p e) (wrong (d - 1) t))) (λ s q i. part-rest (d - 1) n)
+  part-strict d n = opens-strict d (λ v i. _>>=_ (token v) (λ t. onWord t (λ k p e. partBehind v over (f v) (d - 1) n p e) (wrong (d - 1) t)))
+      (λ s q i. part-rest (d - 1) n)
 
   parts-to : {E : Edge} (k d n : ℕ) → Plain E (λ v. partsTo v over (f v) k d n)
   unfolding partsTo
@@ -130,7 +135,8 @@ spot-local {E} = record { good = λ u a at. go u a at (decLe (seen (E .text) (ne
 rule-local : {E : Edge} (c : Scope) → Plain E (λ v. durationRule v c)
 unfolding durationRule
 rule-local c =
-    then (opening-local 14) (λ i. token-then (λ t. follow (rule-behind t) (λ j. then spot-local (λ k. then (expression-local 13 c) (λ x. then (closing-local 13) (λ l. gives {a = x}))))))
+    then (opening-local 14) (λ i. token-then (λ t. follow (rule-behind t)
+    (λ j. then spot-local (λ k. then (expression-local 13 c) (λ x. then (closing-local 13) (λ l. gives {a = x}))))))
 
 -- ---- fields and actions
 
@@ -162,6 +168,7 @@ module _ {E : Edge} (c : Scope) (e : Entry) where
 pub action-local : {E : Edge} (c : Scope) (durative : Bool) (as′ : List Action) → Plain E (λ v. action v c durative as′)
 unfolding action
 action-local c durative as′ =
-    new-then 14 (λ n e. held (fresh 32 (map (λ a. a .declared) as′) (n .place) (n .word)) (fresh-held 32 (map (λ a. a .declared) as′) (n .place) (n .word)) (λ i.
+    new-then 14 (λ n e. held (fresh 32 (map (λ a. a .declared) as′) (n .place) (n .word))
+    (fresh-held 32 (map (λ a. a .declared) as′) (n .place) (n .word)) (λ i.
     after (then (word-local 14 (bytes ":parameters")) (λ j. then (opening-local 14) (λ k. then (variables-local (c .types) 4) (λ vs.
     then (either-way durative (durative-local (within c vs) (signature (n .word) vs)) (simple-local (within c vs) (signature (n .word) vs))) (λ a. gives)))))))

@@ -19,12 +19,15 @@ use Rattle.domain_meaning.specs.Tables.{declared}
 use Rattle.domain_meaning.specs.Due.{token, wrong, afterOf, onOpen, onWord, opening, closing, wordDue, Name}
 use Rattle.domain_meaning.specs.Terms.{Scope, Ref, reference}
 use Rattle.domain_meaning.specs.Domain.{Domain}
-use Rattle.domain_meaning.specs.Problem.{Init, isGiven, once, numberDue, withFact, withNumber, valueOf, initWord, initTo, sumsFit, sumsAt, sectionDueOf, scopeOf, sameDomain, ofDomain, nothing, initAt, goalTo, initAndGoal, premises, problemText}
+use Rattle.domain_meaning.specs.Problem.{Init, isGiven, once, numberDue, withFact, withNumber, valueOf, initWord, initTo, sumsFit, sumsAt, sectionDueOf}
+use Rattle.domain_meaning.specs.Problem.{scopeOf, sameDomain, ofDomain, nothing, initAt, goalTo, initAndGoal, premises, problemText}
 use Rattle.domain_meaning.specs.Indexes.{indexOf}
 use Rattle.domain_refusal_laws.specs.Lowest.{seen, nextOf, closed}
 use Rattle.domain_refusal_laws.proofs.Sight.{seen-later}
 use Rattle.domain_refusal_laws.proofs.Nearness.{Fits}
-use Rattle.domain_refusal_laws.proofs.Local.{Edge, next, agrees-self, Far, Good, far, near, beyond, Over, Local, Plain, gives, never, then, bounded, Told, Behind, token-then, peek-then, after, follow, refuses, wrongs, choose, choose-then, Held, stays, stops, gives-behind, held, worded, on-word, on-number, on-close}
+use Rattle.domain_refusal_laws.proofs.Local.{Edge, next, agrees-self, Far, Good, far, near, beyond, Over, Local, Plain, gives, never, then, bounded}
+use Rattle.domain_refusal_laws.proofs.Local.{Told, Behind, token-then, peek-then, after, follow, refuses, wrongs, choose, choose-then, Held, stays}
+use Rattle.domain_refusal_laws.proofs.Local.{stops, gives-behind, held, worded, on-word, on-number, on-close}
 use Rattle.domain_refusal_laws.proofs.Suffice.{waits, Strict, opens-strict, Enough, enough, fewer, and-same, close-same}
 use Rattle.domain_refusal_laws.proofs.Heads.{declared-held, opening-local, closing-local, word-then, name-then}
 use Rattle.domain_refusal_laws.proofs.Rows.{names-local}
@@ -54,7 +57,8 @@ module _ {A : Type 0} {E : Edge} {F : ℕ → Type 0} (w : List ℕ) (g : List �
     (y : (k : Word) (p e : ℕ) → Behind E (T.Word k p e) e F (λ v. g v p)) where
   due-word : (k : Word) (p e : ℕ) → Behind E (T.Word k p e) e F (λ v. _>>=_ (cond (sameWord (part v p e) w) (give p) (refuse 3 p)) (g v))
   due-word k p e =
-      worded (λ v x. _>>=_ (cond (sameWord x w) (give p) (refuse 3 p)) (g v)) (λ x. choose-then (λ v. give p) (λ v. refuse 3 p) g (sameWord x w) (y k p e) refuses)
+      worded (λ v x. _>>=_ (cond (sameWord x w) (give p) (refuse 3 p)) (g v))
+      (λ x. choose-then (λ v. give p) (λ v. refuse 3 p) g (sameWord x w) (y k p e) refuses)
 
   due-inner : Local E (next E) F (λ v. _>>=_ (wordDue v 14 w) (g v))
   unfolding wordDue
@@ -102,7 +106,10 @@ module _ {E : Edge} (waiting : (p : ℕ) → closed (length (E .text) + 1) (E .t
   -- a number that was given is known where its `(f ..)` is closed
   number-behind : (x : Init) (p e f : ℕ) → Behind E (T.Word W.Name p e) e (Over E (next E)) (λ v. _>>=_ (reference v 12 c (c .functions) f) (numbered c x p v))
   unfolding Far Fits
-  number-behind x p e f = record { good = λ u r. go u r (reference s 12 c (c .functions) f e) (reference u 12 c (c .functions) f e) refl (closes-local 12 c (c .functions) f .good u (r .agrees) e) }
+  number-behind x p e f = record {
+    good = λ u r. go u r (reference s 12 c (c .functions) f e) (reference u 12 c (c .functions) f e) refl
+        (closes-local 12 c (c .functions) f .good u (r .agrees) e);
+  }
     where
       s : List ℕ
       s = E .text
@@ -126,7 +133,8 @@ module _ {E : Edge} (waiting : (p : ℕ) → closed (length (E .text) + 1) (E .t
       same u r j a n true = near j refl
       same u r j a n false = on _ _ j (valued-local x (numberOf c a) .good u (r .agrees) n)
 
-      both : (u : List ℕ) → Told E u (T.Word W.Name p e) e → seen s p ≤ E .edge → (a : Read Ref) → Good E p O (andThen a (numbered c x p s)) (andThen a (numbered c x p u))
+      both : (u : List ℕ) → Told E u (T.Word W.Name p e) e → seen s p ≤ E .edge → (a : Read Ref)
+          → Good E p O (andThen a (numbered c x p s)) (andThen a (numbered c x p u))
       both u r j (got a n) = same u r j a n (isGiven (numberOf c a) (x .numbers))
       both u r j (refused k m) = near j refl
 
@@ -143,7 +151,8 @@ module _ {E : Edge} (waiting : (p : ℕ) → closed (length (E .text) + 1) (E .t
 
   init-word : (x : Init) (k : Word) (p e : ℕ) → Behind E (T.Word k p e) e (Over E (next E)) (λ v. initWord v c x k p e)
   init-word x W.Name p e =
-      worded (λ v w. _>>=_ (declared (c .predicates) p w) (λ i. _>>=_ (reference v 13 c (c .predicates) i) (λ r. give (withFact x (indexOf (length (c .objects)) (c .predicates) r)))))
+      worded (λ v w. _>>=_ (declared (c .predicates) p w) (λ i. _>>=_ (reference v 13 c (c .predicates) i)
+      (λ r. give (withFact x (indexOf (length (c .objects)) (c .predicates) r)))))
       (λ w. held (declared (c .predicates) p w) (declared-held (c .predicates) p w) (λ i. after (then (reference-local 13 c (c .predicates) i) (λ r. gives))))
   init-word x W.Operator p e =
       worded (λ v w. cond (sameWord w (bytes "=")) (valueOf v c x) (refuse 3 p)) (λ w. choose (sameWord w (bytes "=")) (after (value-local x)) refuses)
@@ -184,14 +193,18 @@ module _ {E : Edge} (waiting : (p : ℕ) → closed (length (E .text) + 1) (E .t
   goal-local = then (condition-local 14 c 64) (λ g. then (closing-local 14) (λ i. gives))
 
   init-behind : {k : Word} {e : ℕ} (p : ℕ) → Behind E (T.Word k p e) e (Over E (word E)) (λ v. initAt v c p)
-  init-behind p = held (sumsAt c p) (sums-held c p) (λ i. after (wide (bounded (λ k v. initTo k v c nothing) (λ s at j k a b. init-suffices s c j k nothing at (enough s j at a) (enough s k at b)) (λ k. init-local waiting c k nothing))))
+  init-behind p = held (sumsAt c p) (sums-held c p) (λ i. after
+      (wide (bounded (λ k v. initTo k v c nothing) (λ s at j k a b. init-suffices s c j k nothing at (enough s j at a) (enough s k at b))
+      (λ k. init-local waiting c k nothing))))
 
   both-local : Local E (word E) (Over E (next E)) (λ v. initAndGoal v c)
   unfolding initAndGoal
   both-local =
       begins-then (bytes ":init") _
-      (λ k p e. follow (init-behind p) (λ x. due-then (bytes ":goal") _ (λ l q f. after (then goal-local (λ g. gives {a = record { objects = c .objects; init = x; goal = g }})))))
-      (due-then (bytes ":goal") _ (λ l q f. held (sumsAt c q) (sums-held c q) (λ i. after (then goal-local (λ g. gives {a = record { objects = c .objects; init = nothing; goal = g }})))))
+      (λ k p e. follow (init-behind p) (λ x. due-then (bytes ":goal") _
+      (λ l q f. after (then goal-local (λ g. gives {a = record { objects = c .objects; init = x; goal = g }})))))
+      (due-then (bytes ":goal") _ (λ l q f. held (sumsAt c q) (sums-held c q)
+      (λ i. after (then goal-local (λ g. gives {a = record { objects = c .objects; init = nothing; goal = g }})))))
 
 -- ---- the whole
 
@@ -203,8 +216,10 @@ of-domain d =
 premises-local : {E : Edge} (d : Domain) → Local E (next E) (Over E (word E)) (λ v. premises v d)
 unfolding premises
 premises-local d =
-    then (wide (heading-local (bytes "problem"))) (λ n. then (wide (of-domain d)) (λ i. section-local ":objects" (d .constants) (wide (names-local (d .types) 64 (d .constants)))))
+    then (wide (heading-local (bytes "problem"))) (λ n. then (wide (of-domain d))
+    (λ i. section-local ":objects" (d .constants) (wide (names-local (d .types) 64 (d .constants)))))
 
-pub problem-local : {E : Edge} → ((p : ℕ) → closed (length (E .text) + 1) (E .text) (seen (E .text) p - 1) ≤ E .reaches 7 p) → (d : Domain) → Plain E (λ v. problemText v d)
+pub problem-local : {E : Edge} → ((p : ℕ) → closed (length (E .text) + 1) (E .text) (seen (E .text) p - 1) ≤ E .reaches 7 p) → (d : Domain)
+    → Plain E (λ v. problemText v d)
 unfolding problemText
 problem-local w d = then (premises-local d) (λ os. then (wide (both-local w (scopeOf d os))) (λ p. then ending-local (λ i. gives)))

@@ -23,11 +23,14 @@ use Rattle.text_tokens.specs.declared.tokens.Token.the-variants as T
 use Rattle.domain_meaning.specs.Read.{_>>=_, andThen, Read, Reader, got, refused, give, refuse}
 use Rattle.domain_meaning.specs.Tables.{entry, Table, lookup, onFound, fresh, retype}
 use Rattle.domain_meaning.specs.Due.{token, wrong, afterOf, onWord, onOpen, onClose, opening}
-use Rattle.domain_meaning.specs.Lists.{typeNamed, eitherOf, typeOfWord, typeOfOther, typeDue, group, Item, closes, dash, names, itemOf, item, onItem, declare, waiting, typed, namesTo, variablesTo, typesTo, declaration, declarations}
+use Rattle.domain_meaning.specs.Lists.{typeNamed, eitherOf, typeOfWord, typeOfOther, typeDue, group, Item, closes, dash, names, itemOf, item, onItem, declare}
+use Rattle.domain_meaning.specs.Lists.{waiting, typed, namesTo, variablesTo, typesTo, declaration, declarations}
 use Rattle.domain_refusal_laws.specs.Lowest.{seen, nextOf}
 use Rattle.domain_refusal_laws.proofs.Sight.{seen-later}
 use Rattle.domain_refusal_laws.proofs.Nearness.{Fits, Spotted, spot-place}
-use Rattle.domain_refusal_laws.proofs.Local.{Edge, next, Far, Good, far, refusal, Over, Local, Plain, gives, never, then, bounded, Told, Behind, token-then, peek-then, after, refuses, wrongs, choose-then, Held, stays, stops, gives-behind, held, held-last, worded, tailed, on-word, on-open, on-close}
+use Rattle.domain_refusal_laws.proofs.Local.{Edge, next, Far, Good, far, refusal, Over, Local, Plain, gives, never, then, bounded, Told, Behind}
+use Rattle.domain_refusal_laws.proofs.Local.{token-then, peek-then, after, refuses, wrongs, choose-then, Held, stays, stops, gives-behind, held}
+use Rattle.domain_refusal_laws.proofs.Local.{held-last, worded, tailed, on-word, on-open, on-close}
 use Rattle.domain_refusal_laws.proofs.Suffice.{off, held-at, Strict, word-strict, opens-strict, Enough, enough, fewer, and-same, close-same}
 use Rattle.domain_refusal_laws.proofs.Heads.{fresh-held, opening-local, closing-local, new-then}
 
@@ -84,7 +87,8 @@ bracket-behind {E} {F} p n = record { good = λ u r. go u r (decLe (seen (E .tex
     one h (P.At g e) k = refusal p 11 g (omega arith)
     one h P.Other k = refusal p 3 p (omega arith)
 
-    two : {u : List ℕ} → Told E u (T.Open p n) n → E .edge < seen (E .text) (next E (p + 1)) → (x : Spot) → Spotted (next E (p + 1)) x → Far E F (eitherOf p x n)
+    two : {u : List ℕ} → Told E u (T.Open p n) n → E .edge < seen (E .text) (next E (p + 1)) → (x : Spot) → Spotted (next E (p + 1)) x
+        → Far E F (eitherOf p x n)
     two r h (P.At g e) k = λ _. omega (arith, E .above 11 g, seen-later (E .text) (next E (p + 1)) g (omega arith))
     two r h P.Other k = λ _. omega (arith, E .bracket p (r .fits .1))
 
@@ -203,7 +207,8 @@ type-strict ts b = record { strict = λ s at n a h. go s at n a h (tokenAt s at)
 
     go : (s : List ℕ) (at n a : ℕ) → _>>=_ (token s) (λ t. onWord t (typeOfWord s ts b) (onOpen t (typeOfOther s) (wrong 13 t))) at ≡ got a n
         → (t : Token) → tokenAt s at ≡ t → (nextOf s at < length s) × (nextOf s at < nextOf s n)
-    go s at n a h (T.Word k p e) q = let r : n ≡ e = held-at (typeOfWord s ts b k p e e) (word-held s ts b k p e e) (rw q at h) in rw r (word-strict s at k p e q)
+    go s at n a h (T.Word k p e) q = let r : n ≡ e = held-at (typeOfWord s ts b k p e e) (word-held s ts b k p e e) (rw q at h) in
+        rw r (word-strict s at k p e q)
     go s at n a h (T.Number z p e) q = off (rw q at h)
     go s at n a h (T.Open p e) q = none p n e a (spotAt s (p + 1) (bytes "either")) (rw q at h)
     go s at n a h (T.Close p e) q = off (rw q at h)
@@ -215,7 +220,8 @@ group-strict : (own : Bool) (ts t : Table) (g : ℕ) → Strict (λ v. group v o
 unfolding group
 group-strict own ts t g = record { strict = λ s at n u h. go s at n u (typeDue s (cond own t ts) (cond own g (length ts)) at) refl h }
   where
-    go : (s : List ℕ) (at n : ℕ) (u : Table) (x : Read ℕ) → typeDue s (cond own t ts) (cond own g (length ts)) at ≡ x → andThen x (λ k. give (retype g k t)) ≡ got u n
+    go : (s : List ℕ) (at n : ℕ) (u : Table) (x : Read ℕ) → typeDue s (cond own t ts) (cond own g (length ts)) at ≡ x
+        → andThen x (λ k. give (retype g k t)) ≡ got u n
         → (nextOf s at < length s) × (nextOf s at < nextOf s n)
     go s at n u (got k m) e h = let q : m ≡ n = cc in rw (← q) (type-strict (cond own t ts) (cond own g (length ts)) .strict s at m k e)
     go s at n u (refused k p) e h = off h
@@ -223,8 +229,10 @@ group-strict own ts t g = record { strict = λ s at n u h. go s at n u (typeDue 
 module _ (s : List ℕ) (var own : Bool) (ts : Table) (max : ℕ) where
   typed-step : (j k at : ℕ) → ((t : Table) (g n : ℕ) → Enough s j n → Enough s k n → typed j s var own ts max t g n ≡ typed k s var own ts max t g n)
       → Enough s (suc j) at → Enough s (suc k) at → (t : Table) (g n : ℕ) (i : Item) → Going i ((nextOf s at < length s) × (nextOf s at < nextOf s n))
-      → onItem i (give t) (λ p. _>>=_ (waiting t g p) (λ x. _>>=_ (group s own ts t g) (λ u. typed j s var own ts max u (length u)))) (λ p w. _>>=_ (declare max t p w) (λ u. typed j s var own ts max u g)) n
-      ≡ onItem i (give t) (λ p. _>>=_ (waiting t g p) (λ x. _>>=_ (group s own ts t g) (λ u. typed k s var own ts max u (length u)))) (λ p w. _>>=_ (declare max t p w) (λ u. typed k s var own ts max u g)) n
+      → onItem i (give t) (λ p. _>>=_ (waiting t g p) (λ x. _>>=_ (group s own ts t g) (λ u. typed j s var own ts max u (length u))))
+      (λ p w. _>>=_ (declare max t p w) (λ u. typed j s var own ts max u g)) n
+      ≡ onItem i (give t) (λ p. _>>=_ (waiting t g p) (λ x. _>>=_ (group s own ts t g) (λ u. typed k s var own ts max u (length u))))
+      (λ p w. _>>=_ (declare max t p w) (λ u. typed k s var own ts max u g)) n
   typed-step j k at f ej ek t g n closes h = refl
   typed-step j k at f ej ek t g n (dash p) h =
       and-same (waiting t g p n) (λ x m e. and-same (group s own ts t g m) (λ u l d.
@@ -267,7 +275,8 @@ types-local = lists-local false true [] 17 (entry (bytes "object") (0 ∷ []) �
 declaration-local : {E : Edge} (ts : Table) (max most : ℕ) (t : Table) → Plain E (λ v. declaration v ts max most t)
 unfolding declaration
 declaration-local ts max most t =
-    new-then 13 (λ n e. held (fresh max t (n .place) (n .word)) (fresh-held max t (n .place) (n .word)) (λ i. after (then (variables-local ts most) (λ vs. gives))))
+    new-then 13 (λ n e. held (fresh max t (n .place) (n .word)) (fresh-held max t (n .place) (n .word))
+    (λ i. after (then (variables-local ts most) (λ vs. gives))))
 
 steps-local : {E : Edge} (k : ℕ) (ts : Table) (max most : ℕ) (t : Table) → Plain E (λ v. declarations k v ts max most t)
 unfolding declarations
@@ -280,7 +289,8 @@ steps-local (suc k) ts max most t =
 declaration-strict : (ts : Table) (max most : ℕ) (t : Table) → Strict (λ v. _>>=_ (opening v 14) (λ i. declaration v ts max most t))
 declaration-strict ts max most t = opens-strict 14 (λ v i. declaration v ts max most t) (λ s q i. declaration-local ts max most t)
 
-declarations-suffice : (s : List ℕ) (ts : Table) (max most j k : ℕ) (t : Table) (at : ℕ) → Enough s j at → Enough s k at → declarations j s ts max most t at ≡ declarations k s ts max most t at
+declarations-suffice : (s : List ℕ) (ts : Table) (max most j k : ℕ) (t : Table) (at : ℕ) → Enough s j at → Enough s k at
+    → declarations j s ts max most t at ≡ declarations k s ts max most t at
 unfolding declarations
 declarations-suffice s ts max most zero k t at ej ek = absurd (let y : ⊥ = omega arith in y)
 declarations-suffice s ts max most (suc j) zero t at ej ek = absurd (let y : ⊥ = omega arith in y)
@@ -291,4 +301,5 @@ declarations-suffice s ts max most (suc j) (suc k) t at ej ek =
 
 pub declarations-local : {E : Edge} (ts : Table) (max most : ℕ) → Plain E (λ v. declarations (length v + 1) v ts max most [])
 declarations-local ts max most =
-    bounded (λ k v. declarations k v ts max most []) (λ s at j k a b. declarations-suffice s ts max most j k [] at (enough s j at a) (enough s k at b)) (λ k. steps-local k ts max most [])
+    bounded (λ k v. declarations k v ts max most []) (λ s at j k a b. declarations-suffice s ts max most j k [] at (enough s j at a)
+    (enough s k at b)) (λ k. steps-local k ts max most [])

@@ -20,7 +20,8 @@ use Rattle.domain_meaning.specs.Domain.{Opened, opened, other, sectionWord, beh
 use Rattle.domain_refusal_laws.specs.Lowest.{seen}
 use Rattle.domain_refusal_laws.proofs.Sight.{seen-later}
 use Rattle.domain_refusal_laws.proofs.Nearness.{Fits, token-fits, token-ends, next-on}
-use Rattle.domain_refusal_laws.proofs.Local.{Edge, next, Agrees, agrees-self, Good, far, beyond, widen, Over, Local, gives, Told, Behind, look, token-then, after}
+use Rattle.domain_refusal_laws.proofs.Local.{Edge, next, Agrees, agrees-self, Good, far, beyond, widen, Over, Local, gives, Told, Behind, look}
+use Rattle.domain_refusal_laws.proofs.Local.{token-then, after}
 
 -- what is looked at first where a section may stand: the word behind a bracket, or what stands in the bracket's place
 abbrev pub word : Edge → ℕ → ℕ
@@ -51,7 +52,10 @@ word-later E at = go (way E at)
 
 pub wide : {A : Type 0} {E : Edge} {fl : ℕ → ℕ} {m : List ℕ → Reader A} → Local E fl (Over E (next E)) m → Local E fl (Over E (word E)) m
 wide {E = E} {fl = fl} {m = m} h =
-    record { good = λ u a at. widen (fl at) (m (E .text) at) (m u at) (λ n o. record { past = omega (arith, o .past, seen-later (E .text) (next E n) (word E n) (word-later E n)) }) (h .good u a at) }
+    record {
+      good = λ u a at. widen (fl at) (m (E .text) at) (m u at)
+          (λ n o. record { past = omega (arith, o .past, seen-later (E .text) (next E n) (word E n) (word-later E n)) }) (h .good u a at);
+    }
 
 -- one that begins where a section may stand
 abbrev pub Section : {A : Type 0} (E : Edge) (m : List ℕ → Reader A) → Type 0
@@ -102,7 +106,8 @@ module _ {A : Type 0} {E : Edge} {F : ℕ → Type 0} (w : List ℕ) (g : List �
           (behind-open u a at (tokenAt (E .text) at) refl)
       go u a at (no i) = far (beyond {f = word E at} _ _ (omega arith) (behind-open (E .text) (agrees-self E) at (tokenAt (E .text) at) refl))
 
-pub section-local : {A : Type 0} {E : Edge} (w : String) (none : A) {m : List ℕ → Reader A} → Local E (next E) (Over E (word E)) m → Section E (λ v. section v w none (m v))
+pub section-local : {A : Type 0} {E : Edge} (w : String) (none : A) {m : List ℕ → Reader A} → Local E (next E) (Over E (word E)) m
+    → Section E (λ v. section v w none (m v))
 section-local w none h = begins-then (bytes w) _ (λ k p e. after h) gives
 
 -- ---- a bracket that opens a section, and what stands behind it
@@ -116,7 +121,8 @@ module _ {A : Type 0} {E : Edge} {F : ℕ → Type 0} {g : List ℕ → Token �
       behind : (at p n : ℕ) → tokenAt (E .text) at ≡ T.Open p n → n ≡ p + 1
       behind at p n e = (rw e at (token-fits (E .text) at)) .0
 
-      here : (u : List ℕ) → Agrees E u → (at p n : ℕ) → tokenAt (E .text) at ≡ T.Open p n → Good E (word E at) F (g (E .text) (T.Open p n) n) (g u (T.Open p n) n)
+      here : (u : List ℕ) → Agrees E u → (at p n : ℕ) → tokenAt (E .text) at ≡ T.Open p n
+          → Good E (word E at) F (g (E .text) (T.Open p n) n) (g u (T.Open p n) n)
       here u a at p n e = let q : word E at ≡ next E n = rw (e, behind at p n e) in rw q (y p n .good u a n)
 
       bracket : (u : List ℕ) → Agrees E u → (at p n : ℕ) → tokenAt (E .text) at ≡ T.Open p n → Dec (seen (E .text) (word E at) ≤ E .edge)

@@ -84,7 +84,8 @@ module _ {A : Type 0} {s : List ℕ} {x from : ℕ} {Q : A → Type 0} where
   choose true h k = h
   choose false h k = k
 
-  pub found : {b : ℕ} {f : ℕ → Reader A} {o : Reader A} (t : Place) → ((i : ℕ) → Sound s x from b Q (f i)) → Sound s x from b Q o → Sound s x from b Q (onFound t f o)
+  pub found : {b : ℕ} {f : ℕ → Reader A} {o : Reader A} (t : Place) → ((i : ℕ) → Sound s x from b Q (f i)) → Sound s x from b Q o
+      → Sound s x from b Q (onFound t f o)
   found (F.At i) h k = h i
   found F.Nothing h k = k
 
@@ -109,7 +110,8 @@ module _ {A : Type 0} {s : List ℕ} {x from : ℕ} {Q : A → Type 0} where
   pub token-then : {g : Token → Reader A} → After s x from Q g → Sound s x from 1 Q (_>>=_ (token s) g)
   token-then h = record { ends = λ at i j. h .ends at (tokenAt s at) i (looked s at j) }
 
-  pub follow : {B : Type 0} {c : ℕ} {R : B → Type 0} {g : Token → Reader A} {f : A → Reader B} → After s x from Q g → ((a : A) → Q a → Sound s x (from + 1) c R (f a))
+  pub follow : {B : Type 0} {c : ℕ} {R : B → Type 0} {g : Token → Reader A} {f : A → Reader B} → After s x from Q g
+      → ((a : A) → Q a → Sound s x (from + 1) c R (f a))
       → After s x from R (λ t. _>>=_ (g t) f)
   follow {R = R} {g = g} {f = f} h k = record { ends = λ at t i l. go at i (g t (afterOf t)) (h .ends at t i l) }
     where
@@ -133,7 +135,14 @@ module _ {A : Type 0} {s : List ℕ} {x from : ℕ} {Q : A → Type 0} where
       go at (T.Close p n) l = listed refl (l .stands)
       go at (T.Mark m p n) l = listed refl (l .stands)
       go at (T.Refusal k p) l =
-          stops (record { least = l .fits .least; highest = omega (arith, l .fits .most); inside = l .stands .inside; low = l .stands .low; long = l .fits .long })
+          stops (record {
+            least = l .fits .least;
+            highest = omega (arith, l .fits .most);
+            inside = l .stands .inside;
+            low = l .stands .low;
+            long =
+                l .fits .long;
+          })
       go at (T.End p) l = listed refl (l .stands)
 
   -- behind a token that ends at e

@@ -21,8 +21,10 @@ use Rattle.domain_meaning.specs.Tables.{Entry}
 use Rattle.domain_meaning.specs.Due.{token, wrong, onWord}
 use Rattle.domain_meaning.specs.Lists.{signature}
 use Rattle.domain_meaning.specs.Terms.{Scope, Counted}
-use Rattle.domain_meaning.specs.Actions.{Action, startOrEnd, timeOf, partBehind, partAt, partsTo, parts, ruleHead, durationSpot, durationRule, fieldOf, whenField, within, simpleBody, durativeBody, action}
-use Rattle.domain_refusal_laws.proofs.Sound.{Stands, Ends, reads, Sound, Any, gives, refuses, spent, then, fewer, choose, Looked, looked, After, token-then, follow, wrongs, on-word, on-refusal, peek-close}
+use Rattle.domain_meaning.specs.Actions.{Action, startOrEnd, timeOf, partBehind, partAt, partsTo, parts, ruleHead, durationSpot, durationRule, fieldOf}
+use Rattle.domain_meaning.specs.Actions.{whenField, within, simpleBody, durativeBody, action}
+use Rattle.domain_refusal_laws.proofs.Sound.{Stands, Ends, reads, Sound, Any, gives, refuses, spent, then, fewer, choose, Looked, looked, After}
+use Rattle.domain_refusal_laws.proofs.Sound.{token-then, follow, wrongs, on-word, on-refusal, peek-close}
 use Rattle.domain_refusal_laws.proofs.SoundRows.{fresh-sound, opening-sound, closing-sound, word-sound, new-sound, variables-sound}
 use Rattle.domain_refusal_laws.proofs.SoundTrees.{expression-sound, condition-sound, effect-sound}
 
@@ -31,7 +33,8 @@ module _ {s : List ℕ} {x : ℕ} where
 
   start-sound : {from : ℕ} (d : ℕ) → After s x from Any (λ t. startOrEnd s d t)
   start-sound d =
-      on-word (λ k p e h. choose (sameWord (part s p e) (bytes "start")) (gives tt) (choose (sameWord (part s p e) (bytes "end")) (gives tt) (refuses refl h))) (wrongs d)
+      on-word (λ k p e h. choose (sameWord (part s p e) (bytes "start")) (gives tt)
+      (choose (sameWord (part s p e) (bytes "end")) (gives tt) (refuses refl h))) (wrongs d)
 
   time-sound : {from p : ℕ} (d : ℕ) (over : Bool) (e : ℕ) → Stands s p → Sound s x from 0 Any (timeOf s d over p e)
   unfolding timeOf
@@ -82,7 +85,8 @@ module _ {s : List ℕ} {x : ℕ} where
   rule-sound : {from : ℕ} (c : Scope) → Sound s x from 1 Any (durationRule s c)
   unfolding durationRule
   rule-sound c =
-      then (opening-sound 14) (λ i _. token-then (follow head-sound (λ j _. then spot-sound (λ k _. then (expression-sound 13 c) (λ y _. then (closing-sound 13) (λ l _. gives tt))))))
+      then (opening-sound 14) (λ i _. token-then (follow head-sound
+      (λ j _. then spot-sound (λ k _. then (expression-sound 13 c) (λ y _. then (closing-sound 13) (λ l _. gives tt))))))
 
   -- ---- fields and actions
 
@@ -130,4 +134,5 @@ module _ {s : List ℕ} {x : ℕ} where
   action-sound c durative as′ =
       then (new-sound 14) (λ n h. then (fresh-sound 32 (map (λ a. a .declared) as′) (n .word) h) (λ i _.
       then (word-sound 14 (bytes ":parameters")) (λ j _. then (opening-sound 14) (λ k _. then (variables-sound (c .types) 4) (λ vs _.
-      then (choose durative (fewer (durative-sound (within c vs) (signature (n .word) vs))) (simple-sound (within c vs) (signature (n .word) vs))) (λ a _. gives tt))))))
+      then (choose durative (fewer (durative-sound (within c vs) (signature (n .word) vs))) (simple-sound (within c vs) (signature (n .word) vs)))
+      (λ a _. gives tt))))))

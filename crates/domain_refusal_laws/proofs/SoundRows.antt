@@ -18,10 +18,12 @@ use Rattle.text_tokens.specs.declared.tokens.Spot.the-variants as P
 use Rattle.domain_meaning.specs.Read.{Reader}
 use Rattle.domain_meaning.specs.Tables.{Table, entry, lookup, fresh, declared}
 use Rattle.domain_meaning.specs.Due.{opening, closing, isNameWord, wordDue, Name, anyName, newName}
-use Rattle.domain_meaning.specs.Lists.{typeNamed, eitherOf, typeOfWord, typeOfOther, typeDue, group, Item, closes, dash, names, itemOf, item, onItem, declare, waiting, typed, namesTo, variablesTo, typesTo, declaration, declarations}
+use Rattle.domain_meaning.specs.Lists.{typeNamed, eitherOf, typeOfWord, typeOfOther, typeDue, group, Item, closes, dash, names, itemOf, item, onItem, declare}
+use Rattle.domain_meaning.specs.Lists.{waiting, typed, namesTo, variablesTo, typesTo, declaration, declarations}
 use Rattle.domain_refusal_laws.specs.Lowest.{nextOf}
 use Rattle.domain_refusal_laws.proofs.Nearness.{token-stands, Spotted, spot-place}
-use Rattle.domain_refusal_laws.proofs.Sound.{Stands, Sound, Any, gives, refuses, spent, then, choose, found, token-then, wrongs, on-word, on-open, on-close, peek-close}
+use Rattle.domain_refusal_laws.proofs.Sound.{Stands, Sound, Any, gives, refuses, spent, then, choose, found, token-then, wrongs, on-word, on-open}
+use Rattle.domain_refusal_laws.proofs.Sound.{on-close, peek-close}
 
 -- a name has its place, and so has what a list goes on with
 abbrev pub Named : List ℕ → Name → Type 0
@@ -112,8 +114,10 @@ module _ {s : List ℕ} {x : ℕ} where
   unfolding item
   item-sound var = token-then (on-close (λ p. gives tt) (on-word (λ k p e h. item-word var k p e h) (wrongs _)))
 
-  on-item : {A : Type 0} {from b : ℕ} {Q : A → Type 0} {c : Reader A} {f : ℕ → Reader A} {g : ℕ → List ℕ → Reader A} (i : Item) → Listing s i → Sound s x from b Q c
-      → ((p : ℕ) → Stands s p → Sound s x from b Q (f p)) → ((p : ℕ) (w : List ℕ) → Stands s p → Sound s x from b Q (g p w)) → Sound s x from b Q (onItem i c f g)
+  on-item : {A : Type 0} {from b : ℕ} {Q : A → Type 0} {c : Reader A} {f : ℕ → Reader A} {g : ℕ → List ℕ → Reader A} (i : Item) → Listing s i
+      → Sound s x from b Q c
+      → ((p : ℕ) → Stands s p → Sound s x from b Q (f p)) → ((p : ℕ) (w : List ℕ) → Stands s p → Sound s x from b Q (g p w))
+      → Sound s x from b Q (onItem i c f g)
   on-item closes q h j k = h
   on-item (dash p) q h j k = j p q
   on-item (names p w) q h j k = k p w q
@@ -127,7 +131,8 @@ module _ {s : List ℕ} {x : ℕ} where
   waiting-sound t g h = choose (ltb g (length t)) (gives tt) (refuses refl h)
 
   -- each step takes a byte: as many as the text has, and one, suffice
-  typed-sound : {from : ℕ} (k : ℕ) (var own : Bool) (ts : Table) (max : ℕ) (t : Table) (g : ℕ) → length s < k + from → Sound s x from 1 Any (typed k s var own ts max t g)
+  typed-sound : {from : ℕ} (k : ℕ) (var own : Bool) (ts : Table) (max : ℕ) (t : Table) (g : ℕ) → length s < k + from
+      → Sound s x from 1 Any (typed k s var own ts max t g)
   unfolding typed
   typed-sound zero var own ts max t g h = spent (omega arith)
   typed-sound (suc k) var own ts max t g h =
@@ -155,7 +160,8 @@ module _ {s : List ℕ} {x : ℕ} where
   declaration-sound ts max most t =
       then (new-sound _) (λ n h. then (fresh-sound max t (n .word) h) (λ i _. then (variables-sound ts most) (λ vs _. gives tt)))
 
-  pub declarations-sound : {from : ℕ} (k : ℕ) (ts : Table) (max most : ℕ) (t : Table) → length s < k + from → Sound s x from 1 Any (declarations k s ts max most t)
+  pub declarations-sound : {from : ℕ} (k : ℕ) (ts : Table) (max most : ℕ) (t : Table) → length s < k + from
+      → Sound s x from 1 Any (declarations k s ts max most t)
   unfolding declarations
   declarations-sound zero ts max most t h = spent (omega arith)
   declarations-sound (suc k) ts max most t h =

@@ -22,13 +22,18 @@ use Rattle.domain_meaning.specs.Tables.{Table}
 use Rattle.domain_meaning.specs.Due.{token, wrong, afterOf, onEnd, Name}
 use Rattle.domain_meaning.specs.Terms.{Scope}
 use Rattle.domain_meaning.specs.Actions.{Action}
-use Rattle.domain_meaning.specs.Domain.{Domain, Opened, opened, other, sectionWord, behindOpen, beginsWith, section, ending, headingOf, flagWord, flagOf, flagsTo, actionsTo, onlyObject, flagsSection, typesSection, constantsSection, declaredSection, vocabulary, scopeIn, domainText, readDomain}
+use Rattle.domain_meaning.specs.Domain.{Domain, Opened, opened, other, sectionWord, behindOpen, beginsWith, section, ending, headingOf, flagWord, flagOf}
+use Rattle.domain_meaning.specs.Domain.{flagsTo, actionsTo, onlyObject, flagsSection, typesSection, constantsSection, declaredSection, vocabulary, scopeIn}
+use Rattle.domain_meaning.specs.Domain.{domainText, readDomain}
 use Rattle.domain_meaning.specs.Indexes.{indexOf}
-use Rattle.domain_meaning.specs.Problem.{Init, isGiven, valueOf, initWord, initTo, sumsFit, sumsAt, sectionDueOf, scopeOf, sameDomain, ofDomain, nothing, goalTo, initAndGoal, premises, problemText, readProblem}
+use Rattle.domain_meaning.specs.Problem.{Init, isGiven, valueOf, initWord, initTo, sumsFit, sumsAt, sectionDueOf, scopeOf, sameDomain, ofDomain, nothing}
+use Rattle.domain_meaning.specs.Problem.{goalTo, initAndGoal, premises, problemText, readProblem}
 use Rattle.domain_refusal_laws.specs.Listed.{Listed, ListedInDomain, ListedInProblem}
 use Rattle.domain_refusal_laws.proofs.Nearness.{Fits}
-use Rattle.domain_refusal_laws.proofs.Sound.{Stands, Ends, reads, stops, Sound, Any, lower, gives, refuses, spent, then, fewer, choose, Looked, looked, After, token-then, follow, wrongs, on-word, on-number, on-open, on-close, on-refusal, peek-close}
-use Rattle.domain_refusal_laws.proofs.SoundRows.{declared-sound, opening-sound, closing-sound, word-sound, name-sound, names-sound, types-sound, declarations-sound}
+use Rattle.domain_refusal_laws.proofs.Sound.{Stands, Ends, reads, stops, Sound, Any, lower, gives, refuses, spent, then, fewer, choose, Looked, looked}
+use Rattle.domain_refusal_laws.proofs.Sound.{After, token-then, follow, wrongs, on-word, on-number, on-open, on-close, on-refusal, peek-close}
+use Rattle.domain_refusal_laws.proofs.SoundRows.{declared-sound, opening-sound, closing-sound, word-sound, name-sound, names-sound, types-sound}
+use Rattle.domain_refusal_laws.proofs.SoundRows.{declarations-sound}
 use Rattle.domain_refusal_laws.proofs.SoundTrees.{reference-sound, condition-sound}
 use Rattle.domain_refusal_laws.proofs.SoundParts.{action-sound}
 
@@ -36,7 +41,8 @@ module _ {s : List ℕ} {x : ℕ} where
   -- ---- sections
 
   -- a section that stands here takes its bracket and its word; else nothing is read
-  begins-then : {A : Type 0} {from c : ℕ} {R : A → Type 0} (w : List ℕ) (g : Opened → Reader A) → ((p : ℕ) → Stands s p → Sound s x (from + 1) c R (g (opened p)))
+  begins-then : {A : Type 0} {from c : ℕ} {R : A → Type 0} (w : List ℕ) (g : Opened → Reader A)
+      → ((p : ℕ) → Stands s p → Sound s x (from + 1) c R (g (opened p)))
       → Sound s x from 0 R (g other) → Sound s x from 0 R (_>>=_ (beginsWith s w) g)
   unfolding beginsWith Within
   begins-then {A} {from} {c} {R} w g h o = record { ends = λ at i j. first at i j (tokenAt s at) (looked s at j) }
@@ -154,7 +160,8 @@ module _ {s : List ℕ} {x : ℕ} where
   value-sound : {from : ℕ} (c : Scope) (y : Init) → Sound s x from 1 Any (valueOf s c y)
   value-sound c y =
       then (opening-sound 13) (λ i _. then (name-sound 12) (λ n h. then (declared-sound (c .functions) (n .word) h) (λ f _.
-      then (reference-sound 12 c (c .functions) f) (λ r _. then {Q = Any} (choose (isGiven (indexOf (length (c .objects)) (c .functions) r) (y .numbers)) (refuses refl h) (gives tt)) (λ j _.
+      then (reference-sound 12 c (c .functions) f) (λ r _. then {Q = Any}
+      (choose (isGiven (indexOf (length (c .objects)) (c .functions) r) (y .numbers)) (refuses refl h) (gives tt)) (λ j _.
       token-then (follow {Q = Any} (on-number (λ z p q. gives tt) (wrongs 13)) (λ z _. then (closing-sound 13) (λ k _. gives tt))))))))
 
   init-word : {from : ℕ} (c : Scope) (y : Init) (k : Word) (p e : ℕ) → Stands s p → Sound s x from 0 Any (initWord s c y k p e)
@@ -180,7 +187,8 @@ module _ {s : List ℕ} {x : ℕ} where
       begins-then (bytes ":init") _
       (λ p h. then (then (sums-sound c h) (λ i _. init-sound (length s + 1) c nothing (omega arith))) (λ y _.
       then (due-sound (bytes ":goal")) (λ q _. then (goal-sound c) (λ g _. gives {a = record { objects = c .objects; init = y; goal = g }} tt))))
-      (fewer (then (due-sound (bytes ":goal")) (λ q h. then (sums-sound c h) (λ i _. then (goal-sound c) (λ g _. gives {a = record { objects = c .objects; init = nothing; goal = g }} tt)))))
+      (fewer (then (due-sound (bytes ":goal")) (λ q h. then (sums-sound c h)
+      (λ i _. then (goal-sound c) (λ g _. gives {a = record { objects = c .objects; init = nothing; goal = g }} tt)))))
 
 -- 13 is for a problem only
 named-sound : {s : List ℕ} {from : ℕ} (d : Domain) (n : Name) → Stands s (n .place) → Sound s 1 from 0 Any (sameDomain d n)
@@ -196,7 +204,8 @@ of-domain d =
 premises-sound : {s : List ℕ} {from : ℕ} (d : Domain) → Sound s 1 from 1 Any (premises s d)
 unfolding premises
 premises-sound d =
-    then (heading-sound (bytes "problem")) (λ n _. then (of-domain d) (λ i _. section-sound ":objects" (d .constants) (names-sound (d .types) 64 (d .constants))))
+    then (heading-sound (bytes "problem")) (λ n _. then (of-domain d)
+    (λ i _. section-sound ":objects" (d .constants) (names-sound (d .types) 64 (d .constants))))
 
 problem-sound : {s : List ℕ} {from : ℕ} (d : Domain) → Sound s 1 from 1 Any (problemText s d)
 unfolding problemText

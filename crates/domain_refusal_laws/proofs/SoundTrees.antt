@@ -14,10 +14,14 @@ use Rattle.text_tokens.specs.declared.tokens.Word.{Word}
 use Rattle.text_tokens.specs.declared.tokens.Word.the-variants as W
 use Rattle.domain_meaning.specs.Read.{_>>=_, Reader, give}
 use Rattle.domain_meaning.specs.Tables.{Table, entryAt, wantedOf, declared, isBelow}
-use Rattle.domain_meaning.specs.Terms.{Scope, Given, Ref, Expr, givenBy, argument, fits, arguments, reference, Counted, counted, leaf, operandsEnd, plusOf, minusOf, onName, operation, headed, inBracket, expr, expression}
-use Rattle.domain_meaning.specs.Conditions.{Comparison, equal, less, atMost, more, atLeast, Cond, atomAt, comparison, sameObjects, equality, operated, negatedHead, inNegation, negation, listTo, conjunction, conditionHead, condition}
-use Rattle.domain_meaning.specs.Effects.{Change, assign, raise, lower, Effect, becomesAt, target, changeAt, deletedWord, inDeletion, deletion, effectsTo, effectHead, effectWord, effect}
-use Rattle.domain_refusal_laws.proofs.Sound.{Stands, Sound, Any, gives, refuses, spent, then, fewer, choose, After, token-then, wrongs, on-word, on-number, on-open, on-close, peek-close, peek-word}
+use Rattle.domain_meaning.specs.Terms.{Scope, Given, Ref, Expr, givenBy, argument, fits, arguments, reference, Counted, counted, leaf, operandsEnd, plusOf}
+use Rattle.domain_meaning.specs.Terms.{minusOf, onName, operation, headed, inBracket, expr, expression}
+use Rattle.domain_meaning.specs.Conditions.{Comparison, equal, less, atMost, more, atLeast, Cond, atomAt, comparison, sameObjects, equality, operated}
+use Rattle.domain_meaning.specs.Conditions.{negatedHead, inNegation, negation, listTo, conjunction, conditionHead, condition}
+use Rattle.domain_meaning.specs.Effects.{Change, assign, raise, lower, Effect, becomesAt, target, changeAt, deletedWord, inDeletion, deletion, effectsTo}
+use Rattle.domain_meaning.specs.Effects.{effectHead, effectWord, effect}
+use Rattle.domain_refusal_laws.proofs.Sound.{Stands, Sound, Any, gives, refuses, spent, then, fewer, choose, After, token-then, wrongs, on-word}
+use Rattle.domain_refusal_laws.proofs.Sound.{on-number, on-open, on-close, peek-close, peek-word}
 use Rattle.domain_refusal_laws.proofs.SoundRows.{declared-sound, opening-sound, shut-sound, closing-sound, name-sound}
 
 -- an argument has its place
@@ -122,7 +126,8 @@ module _ {s : List ℕ} {x : ℕ} where
 
   -- ---- conditions
 
-  on-name : {A : Type 0} {from b : ℕ} {l m o : Reader A} (y : HeadWord) → Sound s x from b Any l → Sound s x from b Any m → Sound s x from b Any o → Sound s x from b Any (onName y l m o)
+  on-name : {A : Type 0} {from b : ℕ} {l m o : Reader A} (y : HeadWord) → Sound s x from b Any l → Sound s x from b Any m → Sound s x from b Any o
+      → Sound s x from b Any (onName y l m o)
   on-name H.And f g h = f
   on-name H.Not f g h = g
   on-name H.Equal f g h = h
@@ -212,7 +217,8 @@ module _ {s : List ℕ} {x : ℕ} where
   target-sound : {from : ℕ} (d : ℕ) (c : Scope) → Sound s x from 1 Any (target s d c)
   unfolding target
   target-sound d c =
-      then (opening-sound d) (λ i _. then (name-sound (d - 1)) (λ n h. then (declared-sound (c .functions) (n .word) h) (λ f _. reference-sound (d - 1) c (c .functions) f)))
+      then (opening-sound d) (λ i _. then (name-sound (d - 1))
+      (λ n h. then (declared-sound (c .functions) (n .word) h) (λ f _. reference-sound (d - 1) c (c .functions) f)))
 
   module _ (d : ℕ) (c : Scope) where
     becomes-sound : {from p : ℕ} (yes′ : Bool) (n e : ℕ) → Stands s p → Sound s x from 0 Any (becomesAt s d c yes′ n p e)
@@ -237,7 +243,8 @@ module _ {s : List ℕ} {x : ℕ} where
   unfolding deletion
   deletion-sound d c n = then (opening-sound d) (λ i _. then (in-deletion-sound (d - 1) c n) (λ y _. then (closing-sound d) (λ j _. gives tt)))
 
-  effects-sound : {from : ℕ} (k d : ℕ) {f : ℕ → Reader (Counted (List Effect))} → Takes s x f → (n : ℕ) → length s < k + from → Sound s x from 1 Any (effectsTo k s d f n)
+  effects-sound : {from : ℕ} (k d : ℕ) {f : ℕ → Reader (Counted (List Effect))} → Takes s x f → (n : ℕ) → length s < k + from
+      → Sound s x from 1 Any (effectsTo k s d f n)
   unfolding effectsTo
   effects-sound zero d h n i = spent (omega arith)
   effects-sound (suc k) d h n i =

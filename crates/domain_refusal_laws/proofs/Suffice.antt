@@ -73,7 +73,8 @@ forward {m = m} h s at n a e = omega (arith, z .past, seen-low s (nextOf s at))
     E = edgeOf s (seen s (nextOf s at) - 1)
 
     z : Over E (next E) n
-    z = rw e at (beyond {f = nextOf s at} (m s at) (m s at) (omega (arith, seen-low s (nextOf s at))) (h s (seen s (nextOf s at) - 1) .good s (agrees-self E) at))
+    z = rw e at (beyond {f = nextOf s at} (m s at) (m s at) (omega (arith, seen-low s (nextOf s at)))
+        (h s (seen s (nextOf s at) - 1) .good s (agrees-self E) at))
 
 -- a reader that begins within the text and goes on at a later token
 pub record Strict {A : Type 0} (m : List ℕ → Reader A) : Type 0 where
@@ -133,7 +134,8 @@ opened-at s d at p e h = go (tokenAt s at) refl
     go (T.Refusal k q) i = off (rw i at h)
     go (T.End q) i = off (rw i at h)
 
-pub opens-strict : {A : Type 0} (d : ℕ) (g : List ℕ → ℕ → Reader A) → ((s : List ℕ) (q p : ℕ) → Plain (edgeOf s q) (λ v. g v p)) → Strict (λ v. _>>=_ (opening v d) (g v))
+pub opens-strict : {A : Type 0} (d : ℕ) (g : List ℕ → ℕ → Reader A) → ((s : List ℕ) (q p : ℕ) → Plain (edgeOf s q) (λ v. g v p))
+    → Strict (λ v. _>>=_ (opening v d) (g v))
 opens-strict {A} d g h = record { strict = λ s at n a e. go s at n a (opening s d at) refl e }
   where
     go : (s : List ℕ) (at n : ℕ) (a : A) (x : Read ℕ) → opening s d at ≡ x → andThen x (g s) ≡ got a n → (nextOf s at < length s) × (nextOf s at < nextOf s n)

@@ -18,11 +18,15 @@ use Rattle.text_tokens.specs.declared.tokens.Token.the-variants as T
 use Rattle.domain_meaning.specs.Read.{_>>=_, Reader, give, refuse}
 use Rattle.domain_meaning.specs.Tables.{Table, declared}
 use Rattle.domain_meaning.specs.Due.{token, wrong, onWord, afterOf}
-use Rattle.domain_meaning.specs.Terms.{Scope, Ref, Expr, minus, difference, value, reference, Counted, counts, counted, leaf, operandsEnd, plusOf, minusOf, onName, operation, headed, inBracket, expr, expression}
-use Rattle.domain_meaning.specs.Conditions.{Comparison, equal, less as below, atMost, more, atLeast, Cond, atom, none, cons, atomAt, comparison, sameObjects, equality, operated, negatedHead, inNegation, negation, listTo, conjunction, conditionHead, condition}
-use Rattle.domain_meaning.specs.Effects.{Change, assign, raise, lower, Effect, becomes, becomesAt, target, changeAt, deletedWord, inDeletion, deletion, effectsTo, effectHead, effectWord, effect}
+use Rattle.domain_meaning.specs.Terms.{Scope, Ref, Expr, minus, difference, value, reference, Counted, counts, counted, leaf, operandsEnd, plusOf, minusOf}
+use Rattle.domain_meaning.specs.Terms.{onName, operation, headed, inBracket, expr, expression}
+use Rattle.domain_meaning.specs.Conditions.{Comparison, equal, less as below, atMost, more, atLeast, Cond, atom, none, cons, atomAt, comparison, sameObjects}
+use Rattle.domain_meaning.specs.Conditions.{equality, operated, negatedHead, inNegation, negation, listTo, conjunction, conditionHead, condition}
+use Rattle.domain_meaning.specs.Effects.{Change, assign, raise, lower, Effect, becomes, becomesAt, target, changeAt, deletedWord, inDeletion, deletion}
+use Rattle.domain_meaning.specs.Effects.{effectsTo, effectHead, effectWord, effect}
 use Rattle.domain_refusal_laws.specs.Lowest.{nextOf}
-use Rattle.domain_refusal_laws.proofs.Local.{Edge, next, Over, Plain, gives, never, then, bounded, Behind, token-then, peek-then, after, refuses, wrongs, choose, Held, stays, stops, gives-behind, held, worded, on-word, on-number, on-open, on-close}
+use Rattle.domain_refusal_laws.proofs.Local.{Edge, next, Over, Plain, gives, never, then, bounded, Behind, token-then, peek-then, after, refuses, wrongs}
+use Rattle.domain_refusal_laws.proofs.Local.{choose, Held, stays, stops, gives-behind, held, worded, on-word, on-number, on-open, on-close}
 use Rattle.domain_refusal_laws.proofs.Suffice.{Strict, opens-strict, Enough, enough, fewer, and-same, close-same, Known}
 use Rattle.domain_refusal_laws.proofs.Heads.{declared-held, opening-local, closing-local, name-then}
 use Rattle.domain_refusal_laws.proofs.Closed.{argument-then, reference-local}
@@ -34,7 +38,8 @@ counted-held p (suc m) n = stays m refl
 
 -- a name with its arguments, of which one more may stand
 referred : {A : Type 0} {E : Edge} {k : Word} {i : ℕ} (t : Table) (d : ℕ) (c : Scope) (n p e : ℕ) (j : Ref → ℕ → A)
-    → Behind E (T.Word k p e) i (Over E (next E)) (λ v. _>>=_ (declared t p (part v p e)) (λ f. _>>=_ (counted p n) (λ m. _>>=_ (reference v d c t f) (λ r. give (j r m)))))
+    → Behind E (T.Word k p e) i (Over E (next E)) (λ v. _>>=_ (declared t p (part v p e))
+    (λ f. _>>=_ (counted p n) (λ m. _>>=_ (reference v d c t f) (λ r. give (j r m)))))
 referred t d c n p e j =
     worded (λ v w. _>>=_ (declared t p w) (λ f. _>>=_ (counted p n) (λ m. _>>=_ (reference v d c t f) (λ r. give (j r m)))))
     (λ w. held (declared t p w) (declared-held t p w) (λ f. held (counted p n) (counted-held p n) (λ m. after (then (reference-local d c t f) (λ r. gives)))))
@@ -178,7 +183,8 @@ module _ (d : ℕ) (c : Scope) {f : List ℕ → ℕ → Reader (Counted Cond)} 
   conjunction-local : {E : Edge} (n : ℕ) → Plain E (λ v. conjunction v d (f v) n)
   unfolding conjunction
   conjunction-local {E} n =
-      then (bounded (λ k v. listTo k v d (f v) n) (λ s at j k a b. list-suffices s d (h .1) j k n at (enough s j at a) (enough s k at b)) (λ k. list-local k d (h .0 E) n))
+      then (bounded (λ k v. listTo k v d (f v) n) (λ s at j k a b. list-suffices s d (h .1) j k n at (enough s j at a) (enough s k at b))
+      (λ k. list-local k d (h .0 E) n))
       (λ xs. gives)
 
   condition-behind : {E : Edge} (n : ℕ) (k : Word) (p e : ℕ) → Behind E (T.Word k p e) e (Over E (next E)) (λ v. conditionHead v d c (f v) n k p e)
@@ -197,7 +203,8 @@ unfolding condition
 condition-known zero c = (λ E n. then (opening-local zero) (λ i. never), λ n. opens-strict zero (λ v i. refuse 0 0) (λ s q i. never))
 condition-known (suc d) c = (
   λ E n. then (opening-local (suc d)) (λ i. condition-rest d c (condition-known d c) n),
-  λ n. opens-strict (suc d) (λ v i. _>>=_ (token v) (λ t. onWord t (conditionHead v d c (λ m. condition d v c m) n) (wrong d t))) (λ s q i. condition-rest d c (condition-known d c) n),
+  λ n. opens-strict (suc d) (λ v i. _>>=_ (token v) (λ t. onWord t (conditionHead v d c (λ m. condition d v c m) n) (wrong d t)))
+      (λ s q i. condition-rest d c (condition-known d c) n),
 )
 
 pub condition-local : {E : Edge} (d : ℕ) (c : Scope) (n : ℕ) → Plain E (λ v. condition d v c n)
@@ -208,7 +215,8 @@ condition-local {E} d c n = condition-known d c .0 E n
 target-local : {E : Edge} (d : ℕ) (c : Scope) → Plain E (λ v. target v d c)
 unfolding target
 target-local d c =
-    then (opening-local d) (λ i. name-then (d - 1) (λ n e. held (declared (c .functions) (n .place) (n .word)) (declared-held (c .functions) (n .place) (n .word))
+    then (opening-local d) (λ i. name-then (d - 1) (λ n e. held (declared (c .functions) (n .place) (n .word))
+    (declared-held (c .functions) (n .place) (n .word))
     (λ f. after (reference-local (d - 1) c (c .functions) f))))
 
 module _ {E : Edge} (d : ℕ) (c : Scope) where
@@ -236,7 +244,8 @@ deletion-local : {E : Edge} (d : ℕ) (c : Scope) (n : ℕ) → Plain E (λ v. d
 unfolding deletion
 deletion-local d c n = then (opening-local d) (λ i. then (in-deletion-local (d - 1) c n) (λ x. then (closing-local d) (λ j. gives)))
 
-effects-local : {E : Edge} (k d : ℕ) {f : List ℕ → ℕ → Reader (Counted (List Effect))} → ((n : ℕ) → Plain E (λ v. f v n)) → (n : ℕ) → Plain E (λ v. effectsTo k v d (f v) n)
+effects-local : {E : Edge} (k d : ℕ) {f : List ℕ → ℕ → Reader (Counted (List Effect))} → ((n : ℕ) → Plain E (λ v. f v n)) → (n : ℕ)
+    → Plain E (λ v. effectsTo k v d (f v) n)
 unfolding effectsTo
 effects-local zero d h n = never
 effects-local (suc k) d h n =
@@ -244,7 +253,8 @@ effects-local (suc k) d h n =
     (λ p j. after (then (closing-local d) (λ i. gives {a = counts [] n})))
     (λ t. after (then (h n) (λ x. then (effects-local k d h (x .left)) (λ xs. gives {a = counts (x .tree ++ xs .tree) (xs .left)})))))
 
-effects-suffice : (s : List ℕ) (d : ℕ) {f : List ℕ → ℕ → Reader (Counted (List Effect))} → ((n : ℕ) → Strict (λ v. f v n)) → (j k n at : ℕ) → Enough s j at → Enough s k at
+effects-suffice : (s : List ℕ) (d : ℕ) {f : List ℕ → ℕ → Reader (Counted (List Effect))} → ((n : ℕ) → Strict (λ v. f v n)) → (j k n at : ℕ)
+    → Enough s j at → Enough s k at
     → effectsTo j s d (f s) n at ≡ effectsTo k s d (f s) n at
 unfolding effectsTo
 effects-suffice s d g zero k n at ej ek = absurd (let y : ⊥ = omega arith in y)
@@ -257,7 +267,8 @@ effects-suffice s d {f} g (suc j) (suc k) n at ej ek =
 module _ (d : ℕ) (c : Scope) {f : List ℕ → ℕ → Reader (Counted (List Effect))} (h : Known f) where
   list-behind : {E : Edge} (n : ℕ) → Plain E (λ v. effectsTo (length v + 1) v d (f v) n)
   list-behind {E} n =
-      bounded (λ k v. effectsTo k v d (f v) n) (λ s at j k a b. effects-suffice s d (h .1) j k n at (enough s j at a) (enough s k at b)) (λ k. effects-local k d (h .0 E) n)
+      bounded (λ k v. effectsTo k v d (f v) n) (λ s at j k a b. effects-suffice s d (h .1) j k n at (enough s j at a) (enough s k at b))
+      (λ k. effects-local k d (h .0 E) n)
 
   effect-head : {E : Edge} {k : Word} (n : ℕ) (x : HeadWord) (p e : ℕ) → Behind E (T.Word k p e) e (Over E (next E)) (λ v. effectHead v d c (f v) n x p e)
   effect-head n H.And p e = after (list-behind n)
@@ -288,7 +299,8 @@ unfolding effect
 effect-known zero c = (λ E n. then (opening-local zero) (λ i. never), λ n. opens-strict zero (λ v i. refuse 0 0) (λ s q i. never))
 effect-known (suc d) c = (
   λ E n. then (opening-local (suc d)) (λ i. effect-rest d c (effect-known d c) n),
-  λ n. opens-strict (suc d) (λ v i. _>>=_ (token v) (λ t. onWord t (effectWord v d c (λ m. effect d v c m) n) (wrong d t))) (λ s q i. effect-rest d c (effect-known d c) n),
+  λ n. opens-strict (suc d) (λ v i. _>>=_ (token v) (λ t. onWord t (effectWord v d c (λ m. effect d v c m) n) (wrong d t)))
+      (λ s q i. effect-rest d c (effect-known d c) n),
 )
 
 pub effect-local : {E : Edge} (d : ℕ) (c : Scope) (n : ℕ) → Plain E (λ v. effect d v c n)

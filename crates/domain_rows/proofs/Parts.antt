@@ -31,5 +31,10 @@ pub part-stored : (l vs : List ℕ) (at e : ℕ) → e ≡ at + length vs → e 
 part-stored l vs at e q h =
     let room : at + length vs ≤ length l = omega arith in
     let n : e - at ≡ length vs = omega arith in
-    rw (n, sets-eq vs l at room, append-assoc (take at l) vs (drop (at + length vs) l), drop-at (take at l) (vs ++ drop (at + length vs) l) at (length-take-le at l (omega arith)))
+    rw (
+      n,
+      sets-eq vs l at room,
+      append-assoc (take at l) vs (drop (at + length vs) l),
+      drop-at (take at l) (vs ++ drop (at + length vs) l) at (length-take-le at l (omega arith)),
+    )
     (take-at vs (drop (at + length vs) l) (length vs) refl)

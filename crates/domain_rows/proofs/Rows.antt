@@ -50,7 +50,8 @@ sets-padded zero (b ∷ bs) rest h = absurd (let z : ⊥ = omega arith in z)
 sets-padded (suc m) (b ∷ bs) rest h = sets-cons b (padded m [] ++ rest) 0 bs ∙ ap (λ (l : List ℕ). b ∷ l) (sets-padded m bs rest (omega arith))
 
 pub length-row : (e : Entry) → length (rowOf e) ≡ 38
-length-row e = let z : suc (length (padded 5 (infoOf e) ++ padded 32 (nameOf e))) ≡ 38 = omega (arith, length-append (padded 5 (infoOf e)) (padded 32 (nameOf e)), length-padded 5 (infoOf e), length-padded 32 (nameOf e)) in z
+length-row e = let z : suc (length (padded 5 (infoOf e) ++ padded 32 (nameOf e))) ≡ 38 =
+    omega (arith, length-append (padded 5 (infoOf e)) (padded 32 (nameOf e)), length-padded 5 (infoOf e), length-padded 32 (nameOf e)) in z
 
 pub length-rows : (m : ℕ) (t : Table) → length (rowsOf m t) ≡ 38 * m
 unfolding rowsOf
@@ -119,7 +120,8 @@ rows-long m rows n t h = ap length (h .are) ∙ length-rows m t
 
 -- the name of a row, behind its length and its numbers
 drop-info : (is w rest : List ℕ) → drop 5 ((padded 5 is ++ padded 32 w) ++ rest) ≡ padded 32 w ++ rest
-drop-info is w rest = ap (λ (l : List ℕ). drop 5 l) (append-assoc (padded 5 is) (padded 32 w) rest) ∙ drop-at (padded 5 is) (padded 32 w ++ rest) 5 (length-padded 5 is)
+drop-info is w rest = ap (λ (l : List ℕ). drop 5 l) (append-assoc (padded 5 is) (padded 32 w) rest)
+    ∙ drop-at (padded 5 is) (padded 32 w ++ rest) 5 (length-padded 5 is)
 
 head-padded : (is : List ℕ) → getD (padded 5 is) 0 0 ≡ getD is 0 0
 unfolding padded
@@ -158,10 +160,13 @@ module _ (m : ℕ) (rows : List ℕ) (n : ℕ) (t : Table) (h : Holds m rows n t
       let x = padded 32 (nameOf e) ++ r .rest in
       let long : length (r .front ++ l ∷ []) ≡ 38 * i + 1 = omega (arith, length-append (r .front) (l ∷ []), r .long) in
       record {
-        are = ap (λ (y : List ℕ). set y (38 * i + 1) k) (h .are ∙ r .is ∙ ap (λ (y : List ℕ). r .front ++ (l ∷ y)) (append-assoc (padded 5 (infoOf e)) (padded 32 (nameOf e)) (r .rest)) ∙ sym (append-assoc (r .front) (l ∷ []) (padded 5 (infoOf e) ++ x)))
+        are = ap (λ (y : List ℕ). set y (38 * i + 1) k) (h .are ∙ r .is
+            ∙ ap (λ (y : List ℕ). r .front ++ (l ∷ y)) (append-assoc (padded 5 (infoOf e)) (padded 32 (nameOf e)) (r .rest))
+            ∙ sym (append-assoc (r .front) (l ∷ []) (padded 5 (infoOf e) ++ x)))
             ∙ sets-at (r .front ++ l ∷ []) (padded 5 (infoOf e) ++ x) (k ∷ []) (38 * i + 1) long
             ∙ append-assoc (r .front) (l ∷ []) (set (padded 5 (infoOf e) ++ x) 0 k)
-            ∙ ap (λ (y : List ℕ). r .front ++ (l ∷ y)) (set-info (infoOf e) x k ∙ sym (append-assoc (padded 5 (k ∷ drop 1 (infoOf e))) (padded 32 (nameOf e)) (r .rest)))
+            ∙ ap (λ (y : List ℕ). r .front ++ (l ∷ y)) (set-info (infoOf e) x k
+            ∙ sym (append-assoc (padded 5 (k ∷ drop 1 (infoOf e))) (padded 32 (nameOf e)) (r .rest)))
             ∙ sym (r .after (withType k e));
         count = h .count ∙ sym (length-put t i (withType k e) (omega (arith, h .count)));
         fits = h .fits;
@@ -177,11 +182,14 @@ row-entered m rows n t w is h below k q =
     let free : getD t n none ≡ none = past t n (omega (arith, h .count)) in
     let x = padded 32 [] ++ r .rest in
     let one : length (r .front ++ l ∷ []) ≡ 38 * n + 1 = omega (arith, length-append (r .front) (l ∷ []), r .long) in
-    let six : length ((r .front ++ l ∷ []) ++ padded 5 is) ≡ 38 * n + 6 = omega (arith, length-append (r .front ++ l ∷ []) (padded 5 is), one, length-padded 5 is) in
+    let six : length ((r .front ++ l ∷ []) ++ padded 5 is) ≡ 38 * n + 6 =
+    omega (arith, length-append (r .front ++ l ∷ []) (padded 5 is), one, length-padded 5 is) in
     record {
       are = ap (λ (y : List ℕ). sets (sets (set y (38 * n) l) (38 * n + 1) is) (38 * n + 6) w)
-          (h .are ∙ r .is ∙ ap (λ (e : Entry). r .front ++ (rowOf e ++ r .rest)) free ∙ ap (λ (y : List ℕ). r .front ++ (0 ∷ y)) (append-assoc (padded 5 []) (padded 32 []) (r .rest)))
-          ∙ ap (λ (y : List ℕ). sets (sets y (38 * n + 1) is) (38 * n + 6) w) (set-at (r .front) 0 (padded 5 [] ++ x) l (38 * n) (r .long) ∙ sym (append-assoc (r .front) (l ∷ []) (padded 5 [] ++ x)))
+          (h .are ∙ r .is ∙ ap (λ (e : Entry). r .front ++ (rowOf e ++ r .rest)) free
+          ∙ ap (λ (y : List ℕ). r .front ++ (0 ∷ y)) (append-assoc (padded 5 []) (padded 32 []) (r .rest)))
+          ∙ ap (λ (y : List ℕ). sets (sets y (38 * n + 1) is) (38 * n + 6) w)
+          (set-at (r .front) 0 (padded 5 [] ++ x) l (38 * n) (r .long) ∙ sym (append-assoc (r .front) (l ∷ []) (padded 5 [] ++ x)))
           ∙ ap (λ (y : List ℕ). sets y (38 * n + 6) w) (sets-at (r .front ++ l ∷ []) (padded 5 [] ++ x) is (38 * n + 1) one
           ∙ ap (λ (y : List ℕ). (r .front ++ l ∷ []) ++ y) (sets-padded 5 is x q)
           ∙ sym (append-assoc (r .front ++ l ∷ []) (padded 5 is) x))
@@ -243,7 +251,8 @@ filled-end m rows n i g k t h f = rw (sym (f .same) ∙ retype-end i (f .now) k 
 -- ---- the types of all names
 
 module _ (m : ℕ) (rows : List ℕ) (n : ℕ) (t : Table) (h : Holds m rows n t) (out : List ℕ) (i : ℕ) where
-  pub signed-step : i < n → sets (set out (i + 1) (getD rows (38 * i + 1) 0)) (i + 1 + 1) (drop (i + 1) (map typeOf t)) ≡ sets out (i + 1) (drop i (map typeOf t))
+  pub signed-step : i < n → sets (set out (i + 1) (getD rows (38 * i + 1) 0)) (i + 1 + 1) (drop (i + 1) (map typeOf t)) ≡ sets out (i + 1)
+      (drop i (map typeOf t))
   signed-step below =
       let e : i + 1 + 1 ≡ suc (i + 1) = omega arith in
       let b : i < length (map typeOf t) = omega (arith, h .count, length-map t typeOf) in
@@ -277,7 +286,12 @@ names-back (e ∷ t) m zero h k s = absurd (let z : ⊥ = omega arith in z)
 names-back (e ∷ t) zero (suc n) h k s = absurd (let z : ⊥ = omega arith in z)
 names-back (e ∷ t) (suc m) (suc n) h k s =
     let long : 38 ≤ length (rowOf e ++ rowsOf m t) = omega (arith, length-append (rowOf e) (rowsOf m t), length-row e) in
-    rw (le-ltb (length (rowOf e ++ rowsOf m t)) 38 long, name-back e (rowsOf m t) (s .0), drop-at (rowOf e) (rowsOf m t) 38 (length-row e), names-back t m n (omega arith) (omega arith) (s .1))
+    rw (
+      le-ltb (length (rowOf e ++ rowsOf m t)) 38 long,
+      name-back e (rowsOf m t) (s .0),
+      drop-at (rowOf e) (rowsOf m t) 38 (length-row e),
+      names-back t m n (omega arith) (omega arith) (s .1),
+    )
 
 -- looking a word up in the rows is looking it up in the table
 pub lookup-held : (m : ℕ) (rows : List ℕ) (n : ℕ) (t : Table) (w : List ℕ) → Holds m rows n t → placeFrom 0 (Names.namesOf n rows) w ≡ lookup t w

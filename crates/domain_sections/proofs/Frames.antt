@@ -65,7 +65,8 @@ module _ (s w : List ℕ) (at : ℕ) where
           (rw (q, ← open-next s at p n h q, r, m), (omega arith, b .2))
 
 module _ (s : List ℕ) (at : ℕ) (r : Parsed) where
-  pub ending-section : (p n : ℕ) (u : Token) → tokenAt s at ≡ T.Open p n → u ≡ tokenAt s n → r ≡ Refused (numberOf 14 u) (placeOf u) → r ≡ answerOf (ending s at)
+  pub ending-section : (p n : ℕ) (u : Token) → tokenAt s at ≡ T.Open p n → u ≡ tokenAt s n → r ≡ Refused (numberOf 14 u) (placeOf u)
+      → r ≡ answerOf (ending s at)
   unfolding ending
   ending-section p n u e f q = simp (e, ← f) q
 
@@ -144,11 +145,13 @@ module _ (s : List ℕ) (t : Token) where
   pub flag-refused : (k p : ℕ) → t ≡ T.Refusal k p → (k ≡ 5 → ⊥) → Refused k p ≡ answerOf (flagOf s t (afterOf t))
   flag-refused k p e h = rw (e, ne-eqb k 5 h)
 
-  pub flag-else : (r : Parsed) → OneOf (0 ∷ 1 ∷ 2 ∷ 3 ∷ 4 ∷ 6 ∷ []) (tagOf token-type.the-type t) → OneOf (1 ∷ 2 ∷ 3 ∷ 4 ∷ 5 ∷ 6 ∷ []) (tagOf token-type.the-type t)
+  pub flag-else : (r : Parsed) → OneOf (0 ∷ 1 ∷ 2 ∷ 3 ∷ 4 ∷ 6 ∷ []) (tagOf token-type.the-type t)
+      → OneOf (1 ∷ 2 ∷ 3 ∷ 4 ∷ 5 ∷ 6 ∷ []) (tagOf token-type.the-type t)
       → r ≡ Refused (numberOf 14 t) (placeOf t) → r ≡ answerOf (flagOf s t (afterOf t))
   flag-else r o n q = rw (not-word t _ _ n, not-refusal t _ _ o) q
 
-  pub flag-other : (k : Word) (p e : ℕ) → t ≡ T.Word k p e → OneOf (0 ∷ 1 ∷ 3 ∷ []) (tagOf word-type.the-type k) → Refused 3 p ≡ answerOf (flagOf s t (afterOf t))
+  pub flag-other : (k : Word) (p e : ℕ) → t ≡ T.Word k p e → OneOf (0 ∷ 1 ∷ 3 ∷ []) (tagOf word-type.the-type k)
+      → Refused 3 p ≡ answerOf (flagOf s t (afterOf t))
   flag-other k p e q o = rw q (go k o)
     where
       go : (k : Word) → OneOf (0 ∷ 1 ∷ 3 ∷ []) (tagOf word-type.the-type k) → Refused 3 p ≡ answerOf (flagWord s k p e e)
@@ -208,11 +211,15 @@ module _ (s : List ℕ) (from at : ℕ) (o : Going s from at) where
   unfolding flagsTo
   going-close p n e k h = sym (ap answerOf (whole (got p n) (λ j. rw e) k h))
 
-  module _ (no : OneOf (0 ∷ 1 ∷ 2 ∷ 4 ∷ 5 ∷ 6 ∷ []) (tagOf token-type.the-type (tokenAt s at))) (r : Parsed) (q : r ≡ answerOf (flagOf s (tokenAt s at) (afterOf (tokenAt s at)))) where
+  module _ (no : OneOf (0 ∷ 1 ∷ 2 ∷ 4 ∷ 5 ∷ 6 ∷ []) (tagOf token-type.the-type (tokenAt s at))) (r : Parsed)
+      (q : r ≡ answerOf (flagOf s (tokenAt s at) (afterOf (tokenAt s at)))) where
     pub going-refused : (i p : ℕ) → r ≡ Refused i p → (k : ℕ) → length s - from < k → r ≡ answerOf (flagsTo k s from)
     unfolding flagsTo
     going-refused i p e k h =
-        e ∙ sym (ap answerOf (whole (refused i p) (λ j. rw (not-close (tokenAt s at) _ _ no, answer-refused (flagOf s (tokenAt s at) (afterOf (tokenAt s at))) i p (sym q ∙ e))) k h))
+        e ∙ sym (ap answerOf (whole (refused i p) (λ j. rw (
+          not-close (tokenAt s at) _ _ no,
+          answer-refused (flagOf s (tokenAt s at) (afterOf (tokenAt s at))) i p (sym q ∙ e),
+        )) k h))
 
     pub going-on : (a v : ℕ) → r ≡ Done a v → at < a → a ≤ length s → Going s from a
     unfolding flagsTo

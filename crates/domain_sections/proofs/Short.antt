@@ -95,7 +95,8 @@ unfolding isPast Ends
 from-ends s p = go (leb (length s) 32768) refl (leb 32768 p) refl (leb (length s) p) refl
   where
     go : (a : Bool) → leb (length s) 32768 ≡ a → (b : Bool) → leb 32768 p ≡ b → (t : Bool) → leb (length s) p ≡ t
-        → Ends (length s) (cond (cond a false b) (T.Refusal 1 32768) (cond t (T.End p) (onStart (kindOf (getD s p 0)) (domainRun s p (endOf s 59 p)) (bracketOf (getD s p 0) p) (T.Refusal 2 p))))
+        → Ends (length s) (cond (cond a false b) (T.Refusal 1 32768)
+        (cond t (T.End p) (onStart (kindOf (getD s p 0)) (domainRun s p (endOf s 59 p)) (bracketOf (getD s p 0) p) (T.Refusal 2 p))))
     go true ha b hb true ht = leb-true (length s) 32768 ha
     go true ha b hb false ht = start-ends s p (kindOf (getD s p 0))
     go false ha true hb t ht = tt
@@ -122,7 +123,8 @@ pub ending-short : (s : List ℕ) (at q a : ℕ) → ending s at ≡ got q a →
 unfolding ending
 ending-short s at q a h = go (tokenAt s at) h
   where
-    go : (t : Token) → onClose t (λ p b. onEnd (tokenAt s b) (λ i. give i) (wrong 16 (tokenAt s b)) (afterOf (tokenAt s b))) (onOpen t (λ p b. wrong 14 (tokenAt s b) (afterOf (tokenAt s b))) (wrong 15 t)) (afterOf t) ≡ got q a → length s ≤ 32768
+    go : (t : Token) → onClose t (λ p b. onEnd (tokenAt s b) (λ i. give i) (wrong 16 (tokenAt s b)) (afterOf (tokenAt s b)))
+        (onOpen t (λ p b. wrong 14 (tokenAt s b) (afterOf (tokenAt s b))) (wrong 15 t)) (afterOf t) ≡ got q a → length s ≤ 32768
     go (T.Word k p e) h = never h
     go (T.Number z p e) h = never h
     go (T.Open p e) h = never h

@@ -11,7 +11,8 @@ use Rattle.domain_meaning.specs.Effects.{Effect}
 use Rattle.domain_meaning.specs.Actions.{When, start, whole, end, Timed, Lasting, moment, rule, Action}
 use Rattle.domain_expressions.specs.Codes.{cellsOf}
 use Rattle.domain_stored_meaning.specs.Cells.{condCells, whenCell, partsCells, listCells, lastingCells, actionCells, actionsCells, startsOf}
-use Rattle.domain_stored_meaning.specs.Decode.{Decoded, decoded, condAt, effectsAt, whenOf, partsAt, conditionsAt, effectPartsAt, lastingAt, actionFrom, actionAt, actionsAt}
+use Rattle.domain_stored_meaning.specs.Decode.{Decoded, decoded, condAt, effectsAt, whenOf, partsAt, conditionsAt, effectPartsAt, lastingAt, actionFrom}
+use Rattle.domain_stored_meaning.specs.Decode.{actionAt, actionsAt}
 use Rattle.domain_stored_meaning.specs.Good.{GoodCond, GoodEffects, GoodParts, GoodLasting, GoodAction, GoodActions}
 use Rattle.domain_stored_meaning.proofs.Standing.{Stands, below, head-is, behind, front, after, stored}
 use Rattle.domain_stored_meaning.proofs.Expressions.{expr-read}
@@ -48,7 +49,8 @@ module _ {A : Type 0} (cells : A → List ℕ) (P : A → Type 0) (f : ℕ → D
   parts-read (x ∷ xs) at zero h g s = absurd (let y : ⊥ = omega arith in y)
   parts-read (x ∷ xs) at (suc n) h g s =
       part-read (x .when) (x .what) (partsCells cells xs) at n s (g .0)
-      (parts-read xs (at + 1 + length (cells (x .what))) n (omega (arith, length-append (cells (x .what)) (partsCells cells xs))) (g .1) (after (cells (x .what)) (partsCells cells xs) (behind s)))
+      (parts-read xs (at + 1 + length (cells (x .what))) n (omega (arith, length-append (cells (x .what)) (partsCells cells xs))) (g .1)
+      (after (cells (x .what)) (partsCells cells xs) (behind s)))
 
 module _ (code : List ℕ) (at : ℕ) where
   pub conditions-read : (xs : List (Timed Cond)) → GoodParts (GoodCond 16) xs → Stands code at (partsCells condCells xs)
@@ -59,12 +61,14 @@ module _ (code : List ℕ) (at : ℕ) where
   pub effect-parts-read : (xs : List (Timed (List Effect))) → GoodParts GoodEffects xs → Stands code at (partsCells listCells xs)
       → effectPartsAt code at ≡ decoded xs (at + length (partsCells listCells xs))
   effect-parts-read xs g s =
-      parts-read listCells GoodEffects (effectsAt (length code) code) code (λ x i h t. effects-read x code i (length code) (omega (arith, t .room)) h t) xs at (length code)
+      parts-read listCells GoodEffects (effectsAt (length code) code) code
+      (λ x i h t. effects-read x code i (length code) (omega (arith, t .room)) h t) xs at (length code)
       (omega (arith, s .room)) g s
 
 -- ---- the duration rule
 
-pub lasting-read : (l : Lasting) (code : List ℕ) (at : ℕ) → GoodLasting l → Stands code at (lastingCells l) → lastingAt code at ≡ decoded l (at + length (lastingCells l))
+pub lasting-read : (l : Lasting) (code : List ℕ) (at : ℕ) → GoodLasting l → Stands code at (lastingCells l)
+    → lastingAt code at ≡ decoded l (at + length (lastingCells l))
 unfolding GoodLasting lastingCells lastingAt
 lasting-read moment code at g s = rw (below s, head-is s)
 lasting-read (rule x) code at g s =
@@ -75,17 +79,23 @@ lasting-read (rule x) code at g s =
 
 -- an action that stands in the code is read back from its three places
 pub action-read : (a : Action) (code : List ℕ) (u : ℕ) → GoodAction a → Stands code u (actionCells a)
-    → actionFrom code u (u + length (lastingCells (a .lasting))) (u + length (lastingCells (a .lasting)) + length (partsCells condCells (a .conditions))) (a .declared) ≡ a
+    → actionFrom code u (u + length (lastingCells (a .lasting)))
+    (u + length (lastingCells (a .lasting)) + length (partsCells condCells (a .conditions))) (a .declared) ≡ a
 unfolding actionCells actionFrom
 action-read a code u g s =
     let ls = lastingCells (a .lasting) in
     let cs = partsCells condCells (a .conditions) in
     let es = partsCells listCells (a .effects) in
     let t : Stands code (u + length ls) (cs ++ es) = after ls (cs ++ es) s in
-    rw (lasting-read (a .lasting) code u (g .lasting) (front ls (cs ++ es) s), conditions-read code (u + length ls) (a .conditions) (g .conditions) (front cs es t), effect-parts-read code (u + length ls + length cs) (a .effects) (g .effects) (after cs es t))
+    rw (
+      lasting-read (a .lasting) code u (g .lasting) (front ls (cs ++ es) s),
+      conditions-read code (u + length ls) (a .conditions) (g .conditions) (front cs es t),
+      effect-parts-read code (u + length ls + length cs) (a .effects) (g .effects) (after cs es t),
+    )
 
 -- so are actions one behind the other, from where the starts say
-pub actions-read : (as′ : List Action) (code starts : List ℕ) (u j : ℕ) → GoodActions as′ → Stands code u (actionsCells as′) → Stands starts (3 * j) (startsOf u as′)
+pub actions-read : (as′ : List Action) (code starts : List ℕ) (u j : ℕ) → GoodActions as′ → Stands code u (actionsCells as′)
+    → Stands starts (3 * j) (startsOf u as′)
     → actionsAt code starts j (map (λ a. a .declared) as′) ≡ as′
 unfolding GoodActions actionsCells startsOf actionsAt actionAt
 actions-read [] code starts u j g s t = refl
@@ -95,7 +105,14 @@ actions-read (a ∷ as′) code starts u j g s t =
     let e : 3 * j + 1 + 1 ≡ 3 * j + 2 = omega arith in
     let n : 3 * j + 1 + 1 + 1 ≡ 3 * (j + 1) = omega arith in
     let t3 : Stands starts (3 * (j + 1)) (startsOf (u + length (actionCells a)) as′) = rw n at (behind t2) in
-    rw (head-is t, head-is t1, ← e, head-is t2, action-read a code u (g .0) (front (actionCells a) (actionsCells as′) s), actions-read as′ code starts (u + length (actionCells a)) (j + 1) (g .1) (after (actionCells a) (actionsCells as′) s) t3)
+    rw (
+      head-is t,
+      head-is t1,
+      ← e,
+      head-is t2,
+      action-read a code u (g .0) (front (actionCells a) (actionsCells as′) s),
+      actions-read as′ code starts (u + length (actionCells a)) (j + 1) (g .1) (after (actionCells a) (actionsCells as′) s) t3,
+    )
 
 pub starts-length : (u : ℕ) (as′ : List Action) → length (startsOf u as′) ≡ 3 * length as′
 unfolding startsOf

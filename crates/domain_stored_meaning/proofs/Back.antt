@@ -47,7 +47,8 @@ module _ (m : ℕ) (rows : List ℕ) (n : ℕ) (t : Table) (h : Holds m rows n t
   unfolding nameIn
   name-back =
       let e = getD t i none in
-      let s : Stands rows (38 * i + 1 + length (padded 5 (infoOf e))) (padded 32 (nameOf e)) = after (padded 5 (infoOf e)) (padded 32 (nameOf e)) (behind row-stands) in
+      let s : Stands rows (38 * i + 1 + length (padded 5 (infoOf e))) (padded 32 (nameOf e)) =
+      after (padded 5 (infoOf e)) (padded 32 (nameOf e)) (behind row-stands) in
       let place : 38 * i + 1 + length (padded 5 (infoOf e)) ≡ 38 * i + 6 = omega (arith, length-padded 5 (infoOf e)) in
       rw (head-is row-stands) (padded-back rows (38 * i + 6) 32 (nameOf e) (rw place at s) (short-at t i (h .short)))
 

@@ -26,12 +26,33 @@ atom-read true r code at d g s =
     let k = length (r .args) in
     let e : 4 + k - 4 ≡ k = omega arith in
     let n : at + 2 + k ≡ at + length (refCells 4 r) = omega (arith, ref-length 4 r) in
-    rw (below s, head-is s, ne-eqb (4 + k) 1 (λ z. omega arith), le-ltb (4 + k) 2 (omega arith), le-ltb (4 + k) 4 (omega arith), lt-ltb (4 + k) 8 (omega (arith, g .few)), e, ref-read r code at g s, n)
+    rw (
+      below s,
+      head-is s,
+      ne-eqb (4 + k) 1 (λ z. omega arith),
+      le-ltb (4 + k) 2 (omega arith),
+      le-ltb (4 + k) 4 (omega arith),
+      lt-ltb (4 + k) 8 (omega (arith, g .few)),
+      e,
+      ref-read r code at g s,
+      n,
+    )
 atom-read false r code at d g s =
     let k = length (r .args) in
     let e : 8 + k - 8 ≡ k = omega arith in
     let n : at + 2 + k ≡ at + length (refCells 8 r) = omega (arith, ref-length 8 r) in
-    rw (below s, head-is s, ne-eqb (8 + k) 1 (λ z. omega arith), le-ltb (8 + k) 2 (omega arith), le-ltb (8 + k) 4 (omega arith), le-ltb (8 + k) 8 (omega arith), lt-ltb (8 + k) 12 (omega (arith, g .few)), e, ref-read r code at g s, n)
+    rw (
+      below s,
+      head-is s,
+      ne-eqb (8 + k) 1 (λ z. omega arith),
+      le-ltb (8 + k) 2 (omega arith),
+      le-ltb (8 + k) 4 (omega arith),
+      le-ltb (8 + k) 8 (omega arith),
+      lt-ltb (8 + k) 12 (omega (arith, g .few)),
+      e,
+      ref-read r code at g s,
+      n,
+    )
 
 same-tag : (yes′ : Bool) (f : ℕ → Decoded Cond) (code : List ℕ) (at : ℕ) → condNode f code at (cond yes′ 2 3) ≡ sameAt code at yes′
 unfolding condNode singleAt
@@ -76,8 +97,17 @@ compare-read : (yes′ : Bool) (op : Comparison) (a b : Expr) (code : List ℕ) 
 unfolding condAt compareAt
 compare-read yes′ op a b code at d g h s =
     let t = behind s in
-    let n : at + 1 + length (cellsOf a) + length (cellsOf b) ≡ at + suc (length (cellsOf a ++ cellsOf b)) = omega (arith, length-append (cellsOf a) (cellsOf b)) in
-    rw (below s, head-is s, compare-tag yes′ op (condAt d code) code at, comparison-back op, expr-read a code (at + 1) 16 g (front (cellsOf a) (cellsOf b) t), expr-read b code (at + 1 + length (cellsOf a)) 16 h (after (cellsOf a) (cellsOf b) t), n)
+    let n : at + 1 + length (cellsOf a) + length (cellsOf b) ≡ at + suc (length (cellsOf a ++ cellsOf b)) =
+    omega (arith, length-append (cellsOf a) (cellsOf b)) in
+    rw (
+      below s,
+      head-is s,
+      compare-tag yes′ op (condAt d code) code at,
+      comparison-back op,
+      expr-read a code (at + 1) 16 g (front (cellsOf a) (cellsOf b) t),
+      expr-read b code (at + 1 + length (cellsOf a)) 16 h (after (cellsOf a) (cellsOf b) t),
+      n,
+    )
 
 -- ---- lists
 
@@ -146,4 +176,5 @@ mutual
       let b = begun c in
       cons-read (condAt d code) code at (condCells c) (condsCells cs) n b s
       (cond-read c code at d (g .0) (front (condCells c) (condsCells cs) s))
-      (conds-read cs code (at + length (condCells c)) d n (omega (arith, length-append (condCells c) (condsCells cs), ap length (b .are))) (g .1) (after (condCells c) (condsCells cs) s))
+      (conds-read cs code (at + length (condCells c)) d n (omega (arith, length-append (condCells c) (condsCells cs), ap length (b .are))) (g .1)
+      (after (condCells c) (condsCells cs) s))

@@ -43,14 +43,21 @@ change-tag lower code at k h =
     let e : 18 + k - 18 ≡ k = omega arith in
     rw (le-ltb (18 + k) 8 (omega arith), le-ltb (18 + k) 12 (omega arith), le-ltb (18 + k) 15 (omega arith), le-ltb (18 + k) 18 (omega arith), e)
 
-changes-read : (how : Change) (r : Ref) (x : Expr) (code : List ℕ) (at : ℕ) → GoodRef 2 r → GoodExpr 16 x → Stands code at (refCells (changeCell how) r ++ cellsOf x)
+changes-read : (how : Change) (r : Ref) (x : Expr) (code : List ℕ) (at : ℕ) → GoodRef 2 r → GoodExpr 16 x
+    → Stands code at (refCells (changeCell how) r ++ cellsOf x)
     → effectAt code at (changeCell how + length (r .args)) ≡ decoded (changes how r x) (at + length (refCells (changeCell how) r ++ cellsOf x))
 changes-read how r x code at g h s =
     let cells = refCells (changeCell how) r in
     let k = length (r .args) in
     let l : at + 2 + k ≡ at + length cells = omega (arith, ref-length (changeCell how) r) in
     let n : at + length cells + length (cellsOf x) ≡ at + length (cells ++ cellsOf x) = omega (arith, length-append cells (cellsOf x)) in
-    rw (change-tag how code at k (g .few), ref-read r code at g (front cells (cellsOf x) s), l, expr-read x code (at + length cells) 16 h (after cells (cellsOf x) s), n)
+    rw (
+      change-tag how code at k (g .few),
+      ref-read r code at g (front cells (cellsOf x) s),
+      l,
+      expr-read x code (at + length cells) 16 h (after cells (cellsOf x) s),
+      n,
+    )
 
 -- ---- lists
 
@@ -83,7 +90,8 @@ module _ (code : List ℕ) (at : ℕ) where
   end-read zero h s = absurd (let y : ⊥ = omega arith in y)
   end-read (suc n) h s = rw (below s, head-is s)
 
-  cons-read : {e : Effect} {es : List Effect} (xs ys : List ℕ) (n : ℕ) → Begun xs → Stands code at (xs ++ ys) → effectAt code at (byteAt code at) ≡ decoded e (at + length xs)
+  cons-read : {e : Effect} {es : List Effect} (xs ys : List ℕ) (n : ℕ) → Begun xs → Stands code at (xs ++ ys)
+      → effectAt code at (byteAt code at) ≡ decoded e (at + length xs)
       → effectsAt n code (at + length xs) ≡ decoded es (at + length xs + length ys) → effectsAt (suc n) code at ≡ decoded (e ∷ es) (at + length (xs ++ ys))
   unfolding effectsAt begins
   cons-read xs ys n b s e r =
@@ -103,7 +111,12 @@ effects-read (e ∷ es) code at zero h g s =
 effects-read (e ∷ es) code at (suc n) h g s =
     let b = begun e (g .0) in
     let t : Stands code at (effectCells e ++ listCells es) = rw (append-assoc (effectCells e) (effectsCells es) (0 ∷ [])) at s in
-    let l : length (listCells es) ≤ n = omega (arith, ap length (append-assoc (effectCells e) (effectsCells es) (0 ∷ [])), length-append (effectCells e) (listCells es), ap length (b .are)) in
+    let l : length (listCells es) ≤ n = omega (
+      arith,
+      ap length (append-assoc (effectCells e) (effectsCells es) (0 ∷ [])),
+      length-append (effectCells e) (listCells es),
+      ap length (b .are),
+    ) in
     rw (append-assoc (effectCells e) (effectsCells es) (0 ∷ []))
     (cons-read code at (effectCells e) (listCells es) n b t
     (effect-read e code at (g .0) (front (effectCells e) (listCells es) t))

@@ -35,19 +35,32 @@ pub ref-length : (tag : ℕ) (r : Ref) → length (refCells tag r) ≡ 2 + lengt
 ref-length tag r = omega (arith, args-length (r .args))
 
 -- behind the tag
-pub ref-read : {most tag : ℕ} (r : Ref) (code : List ℕ) (at : ℕ) → GoodRef most r → Stands code at (tag ∷ r .head ∷ argCells (r .args)) → refAt code (at + 1) (length (r .args)) ≡ r
+pub ref-read : {most tag : ℕ} (r : Ref) (code : List ℕ) (at : ℕ) → GoodRef most r → Stands code at (tag ∷ r .head ∷ argCells (r .args))
+    → refAt code (at + 1) (length (r .args)) ≡ r
 unfolding refAt
 ref-read r code at g s = let t = behind s in rw (head-is t, args-read (r .args) code (at + 1 + 1) (g .args) (behind t))
 
 -- ---- expressions
 
-value-read : (r : Ref) (code : List ℕ) (at d : ℕ) → GoodRef 2 r → Stands code at (refCells 5 r) → exprAt (suc d) code at ≡ decoded (value r) (at + length (refCells 5 r))
+value-read : (r : Ref) (code : List ℕ) (at d : ℕ) → GoodRef 2 r → Stands code at (refCells 5 r)
+    → exprAt (suc d) code at ≡ decoded (value r) (at + length (refCells 5 r))
 unfolding exprAt exprNode leafAt
 value-read r code at d g s =
     let k = length (r .args) in
     let e : 5 + k - 5 ≡ k = omega arith in
     let n : at + 2 + k ≡ at + length (refCells 5 r) = omega (arith, ref-length 5 r) in
-    rw (below s, head-is s, ne-eqb (5 + k) 0 (λ i. omega arith), ne-eqb (5 + k) 1 (λ i. omega arith), ne-eqb (5 + k) 2 (λ i. omega arith), le-ltb (5 + k) 5 (omega arith), lt-ltb (5 + k) 8 (omega (arith, g .few)), e, ref-read r code at g s, n)
+    rw (
+      below s,
+      head-is s,
+      ne-eqb (5 + k) 0 (λ i. omega arith),
+      ne-eqb (5 + k) 1 (λ i. omega arith),
+      ne-eqb (5 + k) 2 (λ i. omega arith),
+      le-ltb (5 + k) 5 (omega arith),
+      lt-ltb (5 + k) 8 (omega (arith, g .few)),
+      e,
+      ref-read r code at g s,
+      n,
+    )
 
 module _ (code : List ℕ) (at d : ℕ) where
   one-read : {a : Expr} {xs : List ℕ} → Stands code at (0 ∷ xs) → exprAt d code (at + 1) ≡ decoded a (at + 1 + length xs)
@@ -58,14 +71,16 @@ module _ (code : List ℕ) (at d : ℕ) where
       rw (below s, head-is s, e, n)
 
   less-read : {a b : Expr} (xs ys : List ℕ) → Stands code at (1 ∷ (xs ++ ys)) → exprAt d code (at + 1) ≡ decoded a (at + 1 + length xs)
-      → exprAt d code (at + 1 + length xs) ≡ decoded b (at + 1 + length xs + length ys) → exprAt (suc d) code at ≡ decoded (difference a b) (at + length (1 ∷ (xs ++ ys)))
+      → exprAt d code (at + 1 + length xs) ≡ decoded b (at + 1 + length xs + length ys)
+      → exprAt (suc d) code at ≡ decoded (difference a b) (at + length (1 ∷ (xs ++ ys)))
   unfolding exprAt exprNode
   less-read xs ys s e f =
       let n : at + 1 + length xs + length ys ≡ at + length (1 ∷ (xs ++ ys)) = omega (arith, length-append xs ys) in
       simp (below s, head-is s, e, f, n)
 
   plus-read : {a b : Expr} (xs ys : List ℕ) → Stands code at (2 ∷ (xs ++ ys)) → exprAt d code (at + 1) ≡ decoded a (at + 1 + length xs)
-      → exprAt d code (at + 1 + length xs) ≡ decoded b (at + 1 + length xs + length ys) → exprAt (suc d) code at ≡ decoded (plus a b) (at + length (2 ∷ (xs ++ ys)))
+      → exprAt d code (at + 1 + length xs) ≡ decoded b (at + 1 + length xs + length ys)
+      → exprAt (suc d) code at ≡ decoded (plus a b) (at + length (2 ∷ (xs ++ ys)))
   unfolding exprAt exprNode
   plus-read xs ys s e f =
       let n : at + 1 + length xs + length ys ≡ at + length (2 ∷ (xs ++ ys)) = omega (arith, length-append xs ys) in

@@ -91,4 +91,16 @@ number-read z code at d g s =
     let r : at + 1 + sizeIn (byteAt code at) ≤ length code = rw (h, n) (s .room) in
     let q : numberAt code (at + 1) (w .tag) ≡ z =
     ap (λ (k : ℕ). numberAt code (at + 1) k) (sym h) ∙ number-in code at (omega (arith, t .room)) r ∙ ap numberIn (s .here) ∙ number-back z (s .rest) g in
-    rw (below t, h, ne-eqb (w .tag) 0 (λ i. omega (arith, w .big)), ne-eqb (w .tag) 1 (λ i. omega (arith, w .big)), ne-eqb (w .tag) 2 (λ i. omega (arith, w .big)), le-ltb (w .tag) 5 (omega (arith, w .big)), le-ltb (w .tag) 8 (omega (arith, w .big)), le-ltb (w .tag) 16 (w .big), lt-ltb (sizeIn (w .tag)) 6 (omega (arith, w .few)), q, n)
+    rw (
+      below t,
+      h,
+      ne-eqb (w .tag) 0 (λ i. omega (arith, w .big)),
+      ne-eqb (w .tag) 1 (λ i. omega (arith, w .big)),
+      ne-eqb (w .tag) 2 (λ i. omega (arith, w .big)),
+      le-ltb (w .tag) 5 (omega (arith, w .big)),
+      le-ltb (w .tag) 8 (omega (arith, w .big)),
+      le-ltb (w .tag) 16 (w .big),
+      lt-ltb (sizeIn (w .tag)) 6 (omega (arith, w .few)),
+      q,
+      n,
+    )

@@ -39,7 +39,8 @@ after {code} {at} xs ys s =
     record {
       room = omega (arith, s .room, length-append xs ys);
       rest = s .rest;
-      here = sym (drop-drop (length xs) at code) ∙ ap (λ (r : List ℕ). drop (length xs) r) (s .here ∙ append-assoc xs ys (s .rest)) ∙ drop-append-seam xs (ys ++ s .rest);
+      here = sym (drop-drop (length xs) at code) ∙ ap (λ (r : List ℕ). drop (length xs) r) (s .here ∙ append-assoc xs ys (s .rest))
+          ∙ drop-append-seam xs (ys ++ s .rest);
     }
 
 -- cells that were stored stand there

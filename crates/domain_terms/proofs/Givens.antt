@@ -49,7 +49,8 @@ module _ (s : List ℕ) (c : Scope) (p e : ℕ) where
   pub variable-out : c .inAction ≡ false → Refused 3 p ≡ cellAnswer (givenBy s c W.Variable p e e)
   variable-out q = rw q
 
-  pub variable-found : (i : ℕ) → c .inAction ≡ true → lookup (c .variables) (part s (p + 1) e) ≡ F.At i → Done e (64 + i) ≡ cellAnswer (givenBy s c W.Variable p e e)
+  pub variable-found : (i : ℕ) → c .inAction ≡ true → lookup (c .variables) (part s (p + 1) e) ≡ F.At i
+      → Done e (64 + i) ≡ cellAnswer (givenBy s c W.Variable p e e)
   unfolding declared
   variable-found i h q = rw (h, q)
 
@@ -58,7 +59,8 @@ module _ (s : List ℕ) (c : Scope) (p e : ℕ) where
   variable-missing h q = rw (h, q)
 
   -- what is read ends where the word does
-  found-ahead : (n at : ℕ) (f : Place) (g : ℕ → Given) → at < e → e ≤ n → Ahead n at (cellAnswer (andThen (onFound f (λ i. give i) (refuse 8 p) e) (λ i. give (g i))))
+  found-ahead : (n at : ℕ) (f : Place) (g : ℕ → Given) → at < e → e ≤ n
+      → Ahead n at (cellAnswer (andThen (onFound f (λ i. give i) (refuse 8 p) e) (λ i. give (g i))))
   found-ahead n at (F.At i) g lo hi = ahead-by n at e _ lo hi
   found-ahead n at F.Nothing g lo hi = ahead-refused n at 8 p _ refl
 
@@ -70,7 +72,8 @@ module _ (s : List ℕ) (c : Scope) (p e : ℕ) where
   unfolding declared
   variable-ahead n at lo hi = go (c .inAction)
     where
-      go : (t : Bool) → Ahead n at (cellAnswer (cond t (λ b. andThen (onFound (lookup (c .variables) (part s (p + 1) e)) (λ i. give i) (refuse 8 p) b) (λ i. give (variableAt c p i))) (refuse 3 p) e))
+      go : (t : Bool) → Ahead n at (cellAnswer (cond t (λ b. andThen (onFound (lookup (c .variables) (part s (p + 1) e)) (λ i. give i) (refuse 8 p) b)
+          (λ i. give (variableAt c p i))) (refuse 3 p) e))
       go true = found-ahead n at (lookup (c .variables) (part s (p + 1) e)) (λ i. variableAt c p i) lo hi
       go false = ahead-refused n at 3 p _ refl
 

@@ -29,7 +29,8 @@ padded-at (suc m) zero (x ∷ xs) h = refl
 padded-at (suc m) (suc j) [] h = padded-at m j [] (omega arith)
 padded-at (suc m) (suc j) (x ∷ xs) h = padded-at m j xs (omega arith)
 
-kept-at : (m : ℕ) (rows : List ℕ) (n : ℕ) (t : Table) (h : Holds m rows n t) (i j : ℕ) → i < n → j < 5 → getD rows (38 * i + (1 + j)) 0 ≡ getD (infoOf (entryAt t i)) j 0
+kept-at : (m : ℕ) (rows : List ℕ) (n : ℕ) (t : Table) (h : Holds m rows n t) (i j : ℕ) → i < n → j < 5
+    → getD rows (38 * i + (1 + j)) 0 ≡ getD (infoOf (entryAt t i)) j 0
 kept-at m rows n t h i j below few =
     let r = row t m i (omega (arith, h .count, h .fits)) (omega (arith, h .count, h .fits)) in
     let e = entryAt t i in
@@ -72,7 +73,8 @@ pub raw-kept : (tables : List ℕ) (from n i j : ℕ) → i < n → keptIn table
 unfolding keptIn
 raw-kept tables from n i j h = rw (lt-leb n i h)
 
-pub raw-held : (tables : List ℕ) (from to m n : ℕ) (t : Table) (i j : ℕ) → Holds m (part tables from to) n t → j < 5 → keptIn tables from n i j ≡ getD (infoOf (entryAt t i)) j 0
+pub raw-held : (tables : List ℕ) (from to m n : ℕ) (t : Table) (i j : ℕ) → Holds m (part tables from to) n t → j < 5
+    → keptIn tables from n i j ≡ getD (infoOf (entryAt t i)) j 0
 raw-held tables from to m n t i j h few = elim (decLe n i) [
   | yes past ↦ raw-past tables from n i j past ∙ kept-past m (part tables from to) n t i j h past
   | no here ↦ raw-kept tables from n i j (omega arith) ∙ kept-in-part tables from to m n t h i j (omega arith) few
@@ -95,7 +97,8 @@ unfolding belowIn
 below-end k tables n x b h = let q : k ≡ 0 = omega arith in rw q
 
 -- bytes that keep each type's parent
-pub below-kept : (k : ℕ) (tables : List ℕ) (n : ℕ) (ts : Table) (x b : ℕ) → ((i : ℕ) → keptIn tables 0 n i 0 ≡ typeOf (entryAt ts i)) → belowIn k tables n x b ≡ isBelow k ts x b
+pub below-kept : (k : ℕ) (tables : List ℕ) (n : ℕ) (ts : Table) (x b : ℕ) → ((i : ℕ) → keptIn tables 0 n i 0 ≡ typeOf (entryAt ts i))
+    → belowIn k tables n x b ≡ isBelow k ts x b
 unfolding belowIn isBelow
 below-kept zero tables n ts x b h = refl
 below-kept (suc k) tables n ts x b h = rw (h x, below-kept k tables n ts (typeOf (entryAt ts x)) b h)

@@ -39,6 +39,7 @@ module _ {A : Type 0} (cells : A → List ℕ) (code : List ℕ) (u : ℕ) (r : 
       let n : q ≡ p = cc in
       rw (i, n)
 
-pub wrote-by : {A : Type 0} (cells : A → List ℕ) (code : List ℕ) (u : ℕ) (m : List ℕ) (x : Read A) (t : A) (n v : ℕ) → x ≡ got t n → v ≡ u + length (cells t) → m ≡ sets code u (cells t) → Wrote cells code u (Done n v) m x
+pub wrote-by : {A : Type 0} (cells : A → List ℕ) (code : List ℕ) (u : ℕ) (m : List ℕ) (x : Read A) (t : A) (n v : ℕ) → x ≡ got t n
+    → v ≡ u + length (cells t) → m ≡ sets code u (cells t) → Wrote cells code u (Done n v) m x
 unfolding Wrote
 wrote-by cells code u m x t n v e i j = rw (e, i) (refl, j)

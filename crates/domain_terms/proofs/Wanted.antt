@@ -90,7 +90,8 @@ module _ (s : List ℕ) (c : Scope) (few : length (c .objects) ≤ 64) where
 
   by-action : (t : Bool) (p e a v : ℕ)
       → cellAnswer (cond t (λ b. andThen (declared (c .variables) p (part s (p + 1) e) b) (λ i. give (variableAt c p i))) (refuse 3 p) e) ≡ Done a v
-      → Found-by c (T.Word W.Variable p e) (cond t (λ b. andThen (declared (c .variables) p (part s (p + 1) e) b) (λ i. give (variableAt c p i))) (refuse 3 p) e) a v
+      → Found-by c (T.Word W.Variable p e) (cond t (λ b. andThen (declared (c .variables) p (part s (p + 1) e) b) (λ i. give (variableAt c p i)))
+      (refuse 3 p) e) a v
   unfolding declared
   by-action true p e a v h = by-variable p e a v (lookup (c .variables) (part s (p + 1) e)) h
   by-action false p e a v h = never-done 3 p a v h
@@ -124,7 +125,8 @@ given-refused (refused j q) k p e = let z : j ≡ k = cc in let y : q ≡ p = cc
 
 -- ---- what was written
 
-pub wrote-refused : {A : Type 0} (cells : A → List ℕ) (code : List ℕ) (u : ℕ) (r : Parsed) (m : List ℕ) (x : Read A) (k p : ℕ) → x ≡ refused k p → r ≡ Refused k p → Wrote cells code u r m x
+pub wrote-refused : {A : Type 0} (cells : A → List ℕ) (code : List ℕ) (u : ℕ) (r : Parsed) (m : List ℕ) (x : Read A) (k p : ℕ) → x ≡ refused k p
+    → r ≡ Refused k p → Wrote cells code u r m x
 unfolding Wrote
 wrote-refused cells code u r m x k p e q = rw e q
 
@@ -197,8 +199,10 @@ module _ (s : List ℕ) (d from : ℕ) (c : Scope) (ws code₀ : List ℕ) (used
   onward-early p n m e h = o .on (Refused 9 p) m (wrote-refused argCells code u _ m _ 9 p (wanted-early s d at c (drop j ws) p n e (omega (arith, left))) refl)
 
   module _ (no : OneOf (0 ∷ 1 ∷ 2 ∷ 4 ∷ 5 ∷ 6 ∷ []) (tagOf token-type.the-type (tokenAt s at))) where
-    pub onward-refused : (r : Parsed) (k p : ℕ) (m : List ℕ) → r ≡ cellAnswer (argument s d c at) → r ≡ Refused k p → Wrote argCells code₀ used r m (arguments s d c ws from)
-    onward-refused r k p m q e = o .on r m (wrote-refused argCells code u r m _ k p (wanted-refused s d at c no (drop j ws) k p (given-refused _ k p (sym q ∙ e))) e)
+    pub onward-refused : (r : Parsed) (k p : ℕ) (m : List ℕ) → r ≡ cellAnswer (argument s d c at) → r ≡ Refused k p
+        → Wrote argCells code₀ used r m (arguments s d c ws from)
+    onward-refused r k p m q e = o .on r m (wrote-refused argCells code u r m _ k p
+        (wanted-refused s d at c no (drop j ws) k p (given-refused _ k p (sym q ∙ e))) e)
 
     module _ (few : length (c .objects) ≤ 64) (a v : ℕ) (q : cellAnswer (argument s d c at) ≡ Done a v) where
       got-here : Arrived s d at c a v
@@ -207,24 +211,28 @@ module _ (s : List ℕ) (d from : ℕ) (c : Scope) (ws code₀ : List ℕ) (used
       pub onward-extra : (p : ℕ) (m : List ℕ) → p ≡ placeOf (tokenAt s at) → length ws ≤ j → Wrote argCells code₀ used (Refused 9 p) m (arguments s d c ws from)
       onward-extra p m e h =
           let g = got-here in
-          o .on (Refused 9 p) m (wrote-refused argCells code u _ m _ 9 (g .given .place) (wanted-extra s d at c no (drop j ws) (g .given) a (g .is) (omega (arith, left))) (rw (e, g .place)))
+          o .on (Refused 9 p) m (wrote-refused argCells code u _ m _ 9 (g .given .place)
+          (wanted-extra s d at c no (drop j ws) (g .given) a (g .is) (omega (arith, left))) (rw (e, g .place)))
 
       module _ (want : ℕ) (h : j < length ws) (w : want ≡ getD ws j 0) where
-        test : isBelow (length (c .types)) (c .types) (got-here .given .type) (getD (drop j ws) 0 0) ≡ isBelow (length (c .types)) (c .types) (typeOfCell c v) want
+        test : isBelow (length (c .types)) (c .types) (got-here .given .type) (getD (drop j ws) 0 0) ≡ isBelow (length (c .types)) (c .types)
+            (typeOfCell c v) want
         test = rw (got-here .type, getD-drop j ws 0 0, add-zero j, w)
 
         pub onward-unfit : (p : ℕ) (m : List ℕ) → p ≡ placeOf (tokenAt s at) → isBelow (length (c .types)) (c .types) (typeOfCell c v) want ≡ false
             → Wrote argCells code₀ used (Refused 10 p) m (arguments s d c ws from)
         onward-unfit p m e b =
             let g = got-here in
-            o .on (Refused 10 p) m (wrote-refused argCells code u _ m _ 10 (g .given .place) (wanted-unfit s d at c no (drop j ws) (g .given) a (g .is) (omega (arith, left)) (test ∙ b)) (rw (e, g .place)))
+            o .on (Refused 10 p) m (wrote-refused argCells code u _ m _ 10 (g .given .place)
+            (wanted-unfit s d at c no (drop j ws) (g .given) a (g .is) (omega (arith, left)) (test ∙ b)) (rw (e, g .place)))
 
         pub onward-more : isBelow (length (c .types)) (c .types) (typeOfCell c v) want ≡ true → Onward s d from c ws code₀ used (set code u v) (j + 1) a (u + 1)
         onward-more b = record {
           on = λ r m k.
               let g = got-here in
               let e : drop 1 (drop j ws) ≡ drop (j + 1) ws = drop-drop 1 j ws in
-              o .on r m (rw (wanted-more s d at c no (drop j ws) (g .given) a (g .is) (omega (arith, left)) (test ∙ b), e) (wrote-cons code u r m (g .given .arg) (arguments s d c (drop (j + 1) ws) a) (rw (g .cell) k)));
+              o .on r m (rw (wanted-more s d at c no (drop j ws) (g .given) a (g .is) (omega (arith, left)) (test ∙ b), e)
+              (wrote-cons code u r m (g .given .arg) (arguments s d c (drop (j + 1) ws) a) (rw (g .cell) k)));
         }
 
 pub room-done : (used from a v : ℕ) → used ≤ v → v + from ≤ used + a → Room used from (Done a v)

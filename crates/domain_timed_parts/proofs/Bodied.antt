@@ -57,7 +57,8 @@ module _ (s : List ℕ) (c : Scope) (d n at : ℕ) (over : Bool) (code : List �
     unfolding bodyOf
     body-refused k p e =
         let z = written-not effectsCells code u r m (effect d s c n at) k p h e in
-        rw o (written-refused asIs code u r m _ k p (ap (λ (x : Read (Counted (List Effect))). andThen x (λ y a. got (counts (listCells (y .tree)) (y .left)) a)) z) e)
+        rw o (written-refused asIs code u r m _ k p (ap (λ (x : Read (Counted (List Effect))). andThen x
+        (λ y a. got (counts (listCells (y .tree)) (y .left)) a)) z) e)
 
     pub body-effects : (a v l : ℕ) (m′ : List ℕ) → r ≡ Done a v l → m′ ≡ set m v 0 → Written asIs code u (Done a (v + 1) l) m′ (bodyOf over s c d n at)
     unfolding bodyOf

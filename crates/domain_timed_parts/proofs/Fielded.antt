@@ -38,11 +38,13 @@ instant code u r m₁ m (got y a) q h =
 instant code u r m₁ m (refused k p) q h = h
 
 module _ (s : List ℕ) (c : Scope) (n at : ℕ) (durative over : Bool) (code : List ℕ) (u : ℕ) (r : Progress) (m : List ℕ) where
-  pub held-parts : durative ≡ true → Written timedCells code u r m (parts s over (bodyOf over s c) 14 n at) → Written timedCells code u r m (partsOf durative over s c n at)
+  pub held-parts : durative ≡ true → Written timedCells code u r m (parts s over (bodyOf over s c) 14 n at)
+      → Written timedCells code u r m (partsOf durative over s c n at)
   unfolding partsOf
   held-parts e w = rw e w
 
-  pub held-instant : (m₁ : List ℕ) → durative ≡ false → m₁ ≡ set code u 1 → Written asIs m₁ (u + 1) r m (bodyOf over s c 14 n at) → Written timedCells code u r m (partsOf durative over s c n at)
+  pub held-instant : (m₁ : List ℕ) → durative ≡ false → m₁ ≡ set code u 1 → Written asIs m₁ (u + 1) r m (bodyOf over s c 14 n at)
+      → Written timedCells code u r m (partsOf durative over s c n at)
   unfolding partsOf
   held-instant m₁ e q w = rw e (instant code u r m₁ m (bodyOf over s c 14 n at) q w)
 
@@ -87,7 +89,8 @@ there (got false n) e h = absurd (let z : _≡_ {A = ℕ} 0 1 = cc in let y : �
 there (refused k p) e h = absurd (let z : _≡_ {A = ℕ} 0 1 = cc in let y : ⊥ = omega arith in y)
 
 -- parts, and the cell that ends them
-ended : (code : List ℕ) (u : ℕ) (xs : List (Timed (List ℕ))) (a v : ℕ) (m m′ : List ℕ) → v ≡ u + length (timedCells xs) → m ≡ sets code u (timedCells xs) → m′ ≡ set m v 0
+ended : (code : List ℕ) (u : ℕ) (xs : List (Timed (List ℕ))) (a v : ℕ) (m m′ : List ℕ) → v ≡ u + length (timedCells xs)
+    → m ≡ sets code u (timedCells xs) → m′ ≡ set m v 0
     → Wrote endedCells code u (A.Done a (v + 1)) m′ (got xs a)
 unfolding Wrote
 ended code u xs a v m m′ free stored q =
@@ -98,16 +101,19 @@ ended code u xs a v m m′ free stored q =
 -- ---- the field
 
 module _ (s : List ℕ) (c : Scope) (w : List ℕ) (n at : ℕ) (durative over : Bool) (code : List ℕ) (u : ℕ) where
-  pub field-none : (m : List ℕ) → Nothing ≡ fieldFound (fieldOf s w at) → m ≡ set code u 0 → Wrote endedCells code u (A.Done at (u + 1)) m (fieldParts durative over s c w n at)
+  pub field-none : (m : List ℕ) → Nothing ≡ fieldFound (fieldOf s w at) → m ≡ set code u 0
+      → Wrote endedCells code u (A.Done at (u + 1)) m (fieldParts durative over s c w n at)
   unfolding fieldParts Wrote timedCells
   field-none m h q = rw (missing s w at h) (refl, q)
 
-  module _ (e : ℕ) (h : At e ≡ fieldFound (fieldOf s w at)) (r : Progress) (m : List ℕ) (x : Written timedCells code u r m (partsOf durative over s c n e)) where
+  module _ (e : ℕ) (h : At e ≡ fieldFound (fieldOf s w at)) (r : Progress) (m : List ℕ)
+      (x : Written timedCells code u r m (partsOf durative over s c n e)) where
     pub field-refused : (k p : ℕ) → r ≡ Refused k p → Wrote endedCells code u (A.Refused k p) m (fieldParts durative over s c w n at)
     unfolding fieldParts Wrote
     field-refused k p i = rw (there (fieldOf s w at) e h, written-not timedCells code u r m (partsOf durative over s c n e) k p x i) refl
 
-    pub field-done : (a v l : ℕ) (m′ : List ℕ) → r ≡ Done a v l → m′ ≡ set m v 0 → Wrote endedCells code u (A.Done a (v + 1)) m′ (fieldParts durative over s c w n at)
+    pub field-done : (a v l : ℕ) (m′ : List ℕ) → r ≡ Done a v l → m′ ≡ set m v 0
+        → Wrote endedCells code u (A.Done a (v + 1)) m′ (fieldParts durative over s c w n at)
     unfolding fieldParts
     field-done a v l m′ i q =
         let g = written-got timedCells code u r m (partsOf durative over s c n e) a v l x i in

@@ -48,7 +48,8 @@ module _ (s : List ℕ) (over : Bool) (f : ℕ → ℕ → Reader (Counted (List
   parts-unopened r k p o e = written-refused timedCells code u r code _ k p (opened-refused s d at several k p o) e
 
   module _ (v a : ℕ) (o : opening s d at ≡ got v a) where
-    module _ (t : Token) (q : t ≡ tokenAt s a) (h : OneOf (1 ∷ 2 ∷ 3 ∷ 4 ∷ 5 ∷ 6 ∷ []) (tagOf token-type.the-type t)) (r : Progress) (e : r ≡ Refused (numberOf (d - 1) t) (placeOf t)) where
+    module _ (t : Token) (q : t ≡ tokenAt s a) (h : OneOf (1 ∷ 2 ∷ 3 ∷ 4 ∷ 5 ∷ 6 ∷ []) (tagOf token-type.the-type t)) (r : Progress)
+        (e : r ≡ Refused (numberOf (d - 1) t) (placeOf t)) where
       pub part-else : Written timedCells code u r code (partAt s over f d n at)
       unfolding partAt
       part-else = written-refused timedCells code u r code _ (numberOf (d - 1) t) (placeOf t) (opened-else s d at one v a o t q h) e
@@ -62,10 +63,12 @@ module _ (s : List ℕ) (over : Bool) (f : ℕ → ℕ → Reader (Counted (List
       unfolding partAt
       part-headed w = rw (opened-word s d at one v a o k p e q) w
 
-      pub parts-several : sameWord (part s p e) (bytes "and") ≡ true → Written timedCells code u r m (partsTo s over f (length s + 1) (d - 1) n e) → Written timedCells code u r m (parts s over f d n at)
+      pub parts-several : sameWord (part s p e) (bytes "and") ≡ true → Written timedCells code u r m (partsTo s over f (length s + 1) (d - 1) n e)
+          → Written timedCells code u r m (parts s over f d n at)
       unfolding parts
       parts-several h w = rw (opened-word s d at several v a o k p e q) (rw h w)
 
-      pub parts-one : sameWord (part s p e) (bytes "and") ≡ false → Written timedCells code u r m (partBehind s over f (d - 1) n p e e) → Written timedCells code u r m (parts s over f d n at)
+      pub parts-one : sameWord (part s p e) (bytes "and") ≡ false → Written timedCells code u r m (partBehind s over f (d - 1) n p e e)
+          → Written timedCells code u r m (parts s over f d n at)
       unfolding parts
       parts-one h w = rw (opened-word s d at several v a o k p e q) (rw h w)

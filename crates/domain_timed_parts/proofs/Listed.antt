@@ -31,10 +31,12 @@ timed-append : (xs ys : List (Timed (List ℕ))) → timedCells (xs ++ ys) ≡ t
 unfolding timedCells
 timed-append [] ys = refl
 timed-append (x ∷ xs) ys =
-    ap (λ (t : List ℕ). whenCell (x .when) ∷ (x .what ++ t)) (timed-append xs ys) ∙ ap (λ (t : List ℕ). whenCell (x .when) ∷ t) (sym (append-assoc (x .what) (timedCells xs) (timedCells ys)))
+    ap (λ (t : List ℕ). whenCell (x .when) ∷ (x .what ++ t)) (timed-append xs ys)
+    ∙ ap (λ (t : List ℕ). whenCell (x .when) ∷ t) (sym (append-assoc (x .what) (timedCells xs) (timedCells ys)))
 
 -- one part's cells and those of the rest
-joined : (code : List ℕ) (u : ℕ) (x : Counted (List (Timed (List ℕ)))) (v : ℕ) (m₁ : List ℕ) (r : Progress) (m : List ℕ) (y : Read (Counted (List (Timed (List ℕ)))))
+joined : (code : List ℕ) (u : ℕ) (x : Counted (List (Timed (List ℕ)))) (v : ℕ) (m₁ : List ℕ) (r : Progress) (m : List ℕ)
+    (y : Read (Counted (List (Timed (List ℕ)))))
     → v ≡ u + length (timedCells (x .tree)) → m₁ ≡ sets code u (timedCells (x .tree)) → Written timedCells m₁ v r m y
     → Written timedCells code u r m (andThen y (λ xs n. got (counts (x .tree ++ xs .tree) (xs .left)) n))
 unfolding Written
@@ -42,7 +44,11 @@ joined code u x v m₁ r m (got xs n) free stored h =
     let cells = timedCells (x .tree) in
     let rest = timedCells (xs .tree) in
     let long : v + length rest ≡ u + length (cells ++ rest) = omega (arith, free, length-append cells rest) in
-    rw (timed-append (x .tree) (xs .tree)) (h .0 ∙ rw long refl, h .1 ∙ ap (λ (l : List ℕ). sets l v rest) stored ∙ ap (λ (k : ℕ). sets (sets code u cells) k rest) free ∙ sets-append code u cells rest)
+    rw (timed-append (x .tree) (xs .tree)) (
+      h .0 ∙ rw long refl,
+      h .1 ∙ ap (λ (l : List ℕ). sets l v rest) stored
+          ∙ ap (λ (k : ℕ). sets (sets code u cells) k rest) free ∙ sets-append code u cells rest,
+    )
 joined code u x v m₁ r m (refused k p) free stored h = h
 
 -- a closing bracket: no part more
@@ -56,7 +62,8 @@ module _ (s : List ℕ) (over : Bool) (f : ℕ → ℕ → Reader (Counted (List
   pub record Onward (n at : ℕ) (code : List ℕ) (u : ℕ) : Type 0 where
     pub fuel : ℕ
     pub enough : length s - at < fuel
-    pub on : (r : Progress) (m : List ℕ) → Written timedCells code u r m (partsTo s over f fuel d n at) → Written timedCells code₀ u₀ r m (partsTo s over f k d n₀ from)
+    pub on : (r : Progress) (m : List ℕ) → Written timedCells code u r m (partsTo s over f fuel d n at)
+        → Written timedCells code₀ u₀ r m (partsTo s over f k d n₀ from)
 
   pub onward-start : length s - from < k → Onward n₀ from code₀ u₀
   onward-start h = record { fuel = k; enough = h; on = λ r m w. w }
@@ -77,7 +84,8 @@ module _ (s : List ℕ) (over : Bool) (f : ℕ → ℕ → Reader (Counted (List
 
       pub onward-refused : (j p : ℕ) → r ≡ Refused j p → Written timedCells code₀ u₀ r m (partsTo s over f k d n₀ from)
       onward-refused j p i =
-          o .on r m (rw more (rw (step (o .fuel - 1), written-not timedCells code u r m (partAt s over f d n at) j p w i) (written-refused timedCells code u r m _ j p refl i)))
+          o .on r m (rw more (rw (step (o .fuel - 1), written-not timedCells code u r m (partAt s over f d n at) j p w i)
+          (written-refused timedCells code u r m _ j p refl i)))
 
       pub onward-more : (a v l : ℕ) → r ≡ Done a v l → at < a → a ≤ length s → Onward l a m v
       onward-more a v l i lo hi =

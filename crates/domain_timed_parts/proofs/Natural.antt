@@ -35,7 +35,8 @@ module _ {B C : Type 0} (k : B → C) where
   then-image h (got a n) y f g q e = rw q (e a n)
   then-image h (refused j p) y f g q e = rw q refl
 
-  same-image : {A : Type 0} (x : Read A) (f : A → Reader B) (g : A → Reader C) → ((a : A) (n : ℕ) → g a n ≡ image k (f a n)) → andThen x g ≡ image k (andThen x f)
+  same-image : {A : Type 0} (x : Read A) (f : A → Reader B) (g : A → Reader C) → ((a : A) (n : ℕ) → g a n ≡ image k (f a n))
+      → andThen x g ≡ image k (andThen x f)
   same-image (got a n) f g e = e a n
   same-image (refused j p) f g e = refl
 
@@ -43,7 +44,8 @@ module _ {B C : Type 0} (k : B → C) where
   cond-image true x z y w at e i = e
   cond-image false x z y w at e i = i
 
-  word-image : (t : Token) (d : ℕ) (f : Word → ℕ → ℕ → Reader B) (g : Word → ℕ → ℕ → Reader C) (at : ℕ) → ((j : Word) (p e : ℕ) → g j p e at ≡ image k (f j p e at))
+  word-image : (t : Token) (d : ℕ) (f : Word → ℕ → ℕ → Reader B) (g : Word → ℕ → ℕ → Reader C) (at : ℕ)
+      → ((j : Word) (p e : ℕ) → g j p e at ≡ image k (f j p e at))
       → onWord t g (wrong d t) at ≡ image k (onWord t f (wrong d t) at)
   word-image (T.Word j p e) d f g at h = h j p e
   word-image (T.Number z p e) d f g at h = refl
@@ -53,7 +55,8 @@ module _ {B C : Type 0} (k : B → C) where
   word-image (T.Refusal j p) d f g at h = refl
   word-image (T.End p) d f g at h = refl
 
-  close-image : (t : Token) (f : ℕ → Reader B) (g : ℕ → Reader C) (x : Reader B) (y : Reader C) (at : ℕ) → ((p : ℕ) → g p at ≡ image k (f p at)) → y at ≡ image k (x at)
+  close-image : (t : Token) (f : ℕ → Reader B) (g : ℕ → Reader C) (x : Reader B) (y : Reader C) (at : ℕ) → ((p : ℕ) → g p at ≡ image k (f p at))
+      → y at ≡ image k (x at)
       → onClose t g y at ≡ image k (onClose t f x at)
   close-image (T.Word j p e) f g x y at h i = i
   close-image (T.Number z p e) f g x y at h i = i
@@ -93,8 +96,10 @@ module _ {A B : Type 0} (g : A → B) (s : List ℕ) (over : Bool) (f : ℕ → 
       close-image (onTree (each g)) (tokenAt s at) _ _ _ _ at
       (λ p. same-image (onTree (each g)) (closing s d at) _ _ (λ o c. refl))
       (then-image (onTree (each g)) (onTree (each g)) (partAt s over f d n at) (partAt s over h d n at) _ _ (part-each d n at)
-      (λ x b. then-image (onTree (each g)) (onTree (each g)) (partsTo s over f k d (x .left) b) (partsTo s over h k d (x .left) b) _ _ (parts-to-each k d (x .left) b)
-      (λ xs c. ap (λ (l : List (Timed B)). got (counts l (xs .left)) c) (sym (map-append (λ (y : Timed A). record { when = y .when; what = g (y .what) }) (x .tree) (xs .tree))))))
+      (λ x b. then-image (onTree (each g)) (onTree (each g)) (partsTo s over f k d (x .left) b) (partsTo s over h k d (x .left) b) _ _
+      (parts-to-each k d (x .left) b)
+      (λ xs c. ap (λ (l : List (Timed B)). got (counts l (xs .left)) c)
+      (sym (map-append (λ (y : Timed A). record { when = y .when; what = g (y .what) }) (x .tree) (xs .tree))))))
 
   pub parts-each : (d n at : ℕ) → parts s over h d n at ≡ mapped (each g) (parts s over f d n) at
   unfolding parts
@@ -110,9 +115,11 @@ pub each-cells : {A : Type 0} (g : A → List ℕ) (xs : List (Timed A)) → tim
 unfolding timedCells partsCells
 each-cells g [] = refl
 each-cells g (x ∷ xs) =
-    ap (λ (t : List ℕ). whenCell (x .when) ∷ t) (append-assoc (g (x .what)) (timedCells (each g xs)) (0 ∷ []) ∙ ap (λ (t : List ℕ). g (x .what) ++ t) (each-cells g xs))
+    ap (λ (t : List ℕ). whenCell (x .when) ∷ t) (append-assoc (g (x .what)) (timedCells (each g xs)) (0 ∷ [])
+    ∙ ap (λ (t : List ℕ). g (x .what) ++ t) (each-cells g xs))
 
-wrote-each : {A : Type 0} (g : A → List ℕ) (code : List ℕ) (u : ℕ) (r : Parsed) (m : List ℕ) (x : Read (List (Timed A))) → Wrote endedCells code u r m (image (each g) x)
+wrote-each : {A : Type 0} (g : A → List ℕ) (code : List ℕ) (u : ℕ) (r : Parsed) (m : List ℕ) (x : Read (List (Timed A)))
+    → Wrote endedCells code u r m (image (each g) x)
     → Wrote (partsCells g) code u r m x
 unfolding Wrote
 wrote-each g code u r m (got xs n) h = rw (each-cells g xs) at h
@@ -126,11 +133,13 @@ instant-each g (got y n) = refl
 instant-each g (refused k p) = refl
 
 -- the field w, behind which the trees x are read, or their cells y
-field-each : {A : Type 0} (g : A → List ℕ) (s w : List ℕ) (x : Reader (List (Timed A))) (y : Reader (List (Timed (List ℕ)))) → ((at : ℕ) → y at ≡ image (each g) (x at))
+field-each : {A : Type 0} (g : A → List ℕ) (s w : List ℕ) (x : Reader (List (Timed A))) (y : Reader (List (Timed (List ℕ))))
+    → ((at : ℕ) → y at ≡ image (each g) (x at))
     → (code : List ℕ) (u : ℕ) (r : Parsed) (m : List ℕ) (at : ℕ) → Wrote endedCells code u r m (andThen (fieldOf s w at) (λ b. cond b y (give [])))
     → Wrote (partsCells g) code u r m (andThen (fieldOf s w at) (λ b. cond b x (give [])))
 field-each g s w x y e code u r m at h =
-    let q = same-image (each g) (fieldOf s w at) (λ b. cond b x (give [])) (λ b. cond b y (give [])) (λ b n. cond-image (each g) b x (give []) y (give []) n (e n) refl) in
+    let q = same-image (each g) (fieldOf s w at) (λ b. cond b x (give [])) (λ b. cond b y (give []))
+    (λ b n. cond-image (each g) b x (give []) y (give []) n (e n) refl) in
     wrote-each g code u r m _ (rw q at h)
 
 module _ (s : List ℕ) (c : Scope) (code : List ℕ) (u : ℕ) (r : Parsed) (m : List ℕ) (at : ℕ) where
@@ -138,13 +147,15 @@ module _ (s : List ℕ) (c : Scope) (code : List ℕ) (u : ℕ) (r : Parsed) (m 
       → Wrote (partsCells condCells) code u r m (whenField s ":precondition" (oneCondition s c) at)
   unfolding fieldParts partsOf bodyOf
   simple-condition h =
-      field-each condCells s (bytes ":precondition") (oneCondition s c) (treeOf (partsOf false true s c 32)) (λ a. instant-each condCells (condition 14 s c 32 a)) code u r m at h
+      field-each condCells s (bytes ":precondition") (oneCondition s c) (treeOf (partsOf false true s c 32))
+      (λ a. instant-each condCells (condition 14 s c 32 a)) code u r m at h
 
   pub simple-effect : Wrote endedCells code u r m (fieldParts false false s c (bytes ":effect") 16 at)
       → Wrote (partsCells listCells) code u r m (whenField s ":effect" (oneInstant s c) at)
   unfolding fieldParts partsOf bodyOf
   simple-effect h =
-      field-each listCells s (bytes ":effect") (oneInstant s c) (treeOf (partsOf false false s c 16)) (λ a. instant-each listCells (effect 14 s c 16 a)) code u r m at h
+      field-each listCells s (bytes ":effect") (oneInstant s c) (treeOf (partsOf false false s c 16))
+      (λ a. instant-each listCells (effect 14 s c 16 a)) code u r m at h
 
   pub durative-condition : Wrote endedCells code u r m (fieldParts true true s c (bytes ":condition") 32 at)
       → Wrote (partsCells condCells) code u r m (whenField s ":condition" (treeOf (parts s true (λ d n. condition d s c n) 14 32)) at)

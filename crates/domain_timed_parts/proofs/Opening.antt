@@ -41,7 +41,8 @@ module _ {B : Type 0} (s : List ℕ) (d at : ℕ) (f : Word → ℕ → ℕ → 
   opened-refused k p e = rw e
 
   module _ (v a : ℕ) (o : opening s d at ≡ got v a) where
-    pub opened-else : (t : Token) → t ≡ tokenAt s a → OneOf (1 ∷ 2 ∷ 3 ∷ 4 ∷ 5 ∷ 6 ∷ []) (tagOf token-type.the-type t) → opened at ≡ refused (numberOf (d - 1) t) (placeOf t)
+    pub opened-else : (t : Token) → t ≡ tokenAt s a → OneOf (1 ∷ 2 ∷ 3 ∷ 4 ∷ 5 ∷ 6 ∷ []) (tagOf token-type.the-type t)
+        → opened at ≡ refused (numberOf (d - 1) t) (placeOf t)
     opened-else t e h = rw (o, ← e) (ap (λ (x : Reader B). x (afterOf t)) (not-word t f (refuse (numberOf (d - 1) t) (placeOf t)) h))
 
     pub opened-word : (k : Word) (p e : ℕ) → tokenAt s a ≡ T.Word k p e → opened at ≡ f k p e e

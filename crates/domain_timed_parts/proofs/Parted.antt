@@ -43,7 +43,8 @@ when-small start = omega arith
 when-small whole = omega arith
 when-small end = omega arith
 
-wrote-timed : (code : List ℕ) (u : ℕ) (w : When) (y : Counted (List ℕ)) (b x v l : ℕ) (m₁ m : List ℕ) → x ≡ whenCell w → m₁ ≡ set code u x → v ≡ u + 1 + length (y .tree)
+wrote-timed : (code : List ℕ) (u : ℕ) (w : When) (y : Counted (List ℕ)) (b x v l : ℕ) (m₁ m : List ℕ) → x ≡ whenCell w → m₁ ≡ set code u x
+    → v ≡ u + 1 + length (y .tree)
     → l ≡ y .left → m ≡ sets m₁ (u + 1) (y .tree) → Written timedCells code u (Done b v l) m (got (timed w y) b)
 unfolding Written timedCells
 wrote-timed code u w y b x v l m₁ m cell q free left stored =
@@ -65,7 +66,8 @@ module _ (s : List ℕ) (over : Bool) (f : ℕ → ℕ → Reader (Counted (List
     behind-refused k q i = written-refused timedCells code u r m _ k q (rw (t .is, written-not asIs m₁ (u + 1) r m (f d n a) k q w i) refl) i
 
     module _ (b v l : ℕ) (i : r ≡ Done b v l) where
-      pub behind-unclosed : (z : Progress) (k q : ℕ) → closing s d b ≡ refused k q → z ≡ Refused k q → Written timedCells code u z m (partBehind s over f d n p e e)
+      pub behind-unclosed : (z : Progress) (k q : ℕ) → closing s d b ≡ refused k q → z ≡ Refused k q
+          → Written timedCells code u z m (partBehind s over f d n p e e)
       unfolding partBehind
       behind-unclosed z k q j o =
           let g = written-got asIs m₁ (u + 1) r m (f d n a) b v l w i in

@@ -64,7 +64,8 @@ module _ (s : List ℕ) (d : ℕ) (over : Bool) (p e : ℕ) where
   time-at r h q = rw h q
 
   module _ (n : sameWord (part s p e) (bytes "at") ≡ false) where
-    pub time-over : (r : Parsed) → over ≡ true → sameWord (part s p e) (bytes "over") ≡ true → r ≡ whenAnswer (behindOver s d e) → r ≡ whenAnswer (timeOf s d over p e e)
+    pub time-over : (r : Parsed) → over ≡ true → sameWord (part s p e) (bytes "over") ≡ true → r ≡ whenAnswer (behindOver s d e)
+        → r ≡ whenAnswer (timeOf s d over p e e)
     unfolding timeOf behindOver
     time-over r o h q = rw (n, o, h) q
 

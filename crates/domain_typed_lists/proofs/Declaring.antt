@@ -106,7 +106,8 @@ signed-done (got t n) m r was now a v h e l =
     let v≡ : length t ≡ v = cc q in
     let long : length (length t ∷ map typeOf t) ≡ v + 1 = omega (arith, length-map t typeOf) in
     let b : v + 1 ≤ length was = omega (arith, h .1) in
-    let is : take (v + 1) now ≡ length t ∷ map typeOf t = ap (λ (y : List ℕ). take (v + 1) y) (h .2) ∙ sets-front was (length t ∷ map typeOf t) (v + 1) long b in
+    let is : take (v + 1) now ≡ length t ∷ map typeOf t = ap (λ (y : List ℕ). take (v + 1) y) (h .2)
+    ∙ sets-front was (length t ∷ map typeOf t) (v + 1) long b in
     record {
       table = t;
       is = ap (λ (j : ℕ). got t j) n≡;
@@ -126,7 +127,8 @@ pub signs-refused : (m : ℕ) (r : Parsed) (was now : List ℕ) (k p : ℕ) (x :
 unfolding Signed
 signs-refused m r was now k p x e h = rw e h
 
-pub signs-done : (m : ℕ) (rows was now : List ℕ) (a v : ℕ) (x : Read Table) (y : As m rows a v x) → now ≡ sets was 0 (v ∷ map typeOf (y .table)) → Signed m (Done a v) was now x
+pub signs-done : (m : ℕ) (rows was now : List ℕ) (a v : ℕ) (x : Read Table) (y : As m rows a v x) → now ≡ sets was 0 (v ∷ map typeOf (y .table))
+    → Signed m (Done a v) was now x
 unfolding Signed
 signs-done m rows was now a v x y e =
     let c = y .holds .count in
@@ -152,7 +154,8 @@ module _ (s : List ℕ) (ts : Table) (max most : ℕ) (t : Table) (at : ℕ) whe
       unfolding declaration
       declaration-refused k c e = simp (q .is, new, e)
 
-      pub declaration-done : (vs : Table) (e : ℕ) → variablesTo s ts most a ≡ got vs e → declaration s ts max most t at ≡ got (t ++ signature (part s v a) vs ∷ []) e
+      pub declaration-done : (vs : Table) (e : ℕ) → variablesTo s ts most a ≡ got vs e
+          → declaration s ts max most t at ≡ got (t ++ signature (part s v a) vs ∷ []) e
       unfolding declaration
       declaration-done vs e g = simp (q .is, new, g)
 
@@ -164,7 +167,8 @@ module _ (k : ℕ) (s : List ℕ) (ts : Table) (max most : ℕ) (t : Table) (at 
   declarations-close p n e = simp e
 
   pub declarations-open : (c : Token) → c ≡ tokenAt s at → OneOf (0 ∷ 1 ∷ 2 ∷ 4 ∷ 5 ∷ 6 ∷ []) (tagOf token-type.the-type c)
-      → declarations (suc k) s ts max most t at ≡ andThen (opening s 14 at) (λ _ a. andThen (declaration s ts max most t a) (λ u b. declarations k s ts max most u b))
+      → declarations (suc k) s ts max most t at ≡ andThen (opening s 14 at)
+      (λ _ a. andThen (declaration s ts max most t a) (λ u b. declarations k s ts max most u b))
   unfolding declarations
   declarations-open c e o = rw (← e, not-close c _ _ o)
 
@@ -175,7 +179,8 @@ pub record Declaring (s : List ℕ) (ts : Table) (max most : ℕ) (t₀ : Table)
   pub holds : Holds max rows n table
   pub on : (k : ℕ) → length s - from < k → (j : ℕ) × (length s - at < j) × (declarations k s ts max most t₀ from ≡ declarations j s ts max most table at)
 
-pub declaring-start : (s : List ℕ) (ts : Table) (max most : ℕ) (t : Table) (n from : ℕ) (rows : List ℕ) → Holds max rows n t → Declaring s ts max most t from rows n from
+pub declaring-start : (s : List ℕ) (ts : Table) (max most : ℕ) (t : Table) (n from : ℕ) (rows : List ℕ) → Holds max rows n t
+    → Declaring s ts max most t from rows n from
 declaring-start s ts max most t n from rows h = record { table = t; holds = h; on = λ k q. (k, q, refl) }
 
 module _ (s : List ℕ) (ts : Table) (max most : ℕ) (t₀ : Table) (from : ℕ) (rows : List ℕ) (n at : ℕ) (o : Declaring s ts max most t₀ from rows n at) where
@@ -183,7 +188,8 @@ module _ (s : List ℕ) (ts : Table) (max most : ℕ) (t₀ : Table) (from : ℕ
       → (k : ℕ) → length s - from < k → declarations k s ts max most t₀ from ≡ x
   whole x f k h = go (o .on k h .0) (o .on k h .1) (o .on k h .2)
     where
-      go : (j : ℕ) → length s - at < j → declarations k s ts max most t₀ from ≡ declarations j s ts max most (o .table) at → declarations k s ts max most t₀ from ≡ x
+      go : (j : ℕ) → length s - at < j → declarations k s ts max most t₀ from ≡ declarations j s ts max most (o .table) at
+          → declarations k s ts max most t₀ from ≡ x
       go zero q e = absurd (let z : ⊥ = omega arith in z)
       go (suc j) q e = e ∙ f j
 
@@ -197,16 +203,21 @@ module _ (s : List ℕ) (ts : Table) (max most : ℕ) (t₀ : Table) (from : ℕ
       go k zero q e = absurd (let z : ⊥ = omega arith in z)
       go k (suc j) q e = (j, omega arith, e ∙ f j)
 
-  pub declaring-close : (p e : ℕ) → tokenAt s at ≡ T.Close p e → (k : ℕ) → length s - from < k → Outcome max (Done e n) rows (declarations k s ts max most t₀ from)
-  declaring-close p e q k h = reads max rows n e (o .table) _ (whole (got (o .table) e) (λ j. declarations-close j s ts max most (o .table) at p e q) k h) (o .holds)
+  pub declaring-close : (p e : ℕ) → tokenAt s at ≡ T.Close p e → (k : ℕ) → length s - from < k
+      → Outcome max (Done e n) rows (declarations k s ts max most t₀ from)
+  declaring-close p e q k h = reads max rows n e (o .table) _
+      (whole (got (o .table) e) (λ j. declarations-close j s ts max most (o .table) at p e q) k h) (o .holds)
 
-  module _ (c : Token) (z : c ≡ tokenAt s at) (w : OneOf (0 ∷ 1 ∷ 2 ∷ 4 ∷ 5 ∷ 6 ∷ []) (tagOf token-type.the-type c)) (d : Parsed) (y : d ≡ answerOf (opening s 14 at)) where
+  module _ (c : Token) (z : c ≡ tokenAt s at) (w : OneOf (0 ∷ 1 ∷ 2 ∷ 4 ∷ 5 ∷ 6 ∷ []) (tagOf token-type.the-type c)) (d : Parsed)
+      (y : d ≡ answerOf (opening s 14 at)) where
     pub declaring-no-open : (r : List ℕ) (i p : ℕ) → d ≡ Refused i p → (k : ℕ) → length s - from < k → Outcome max d r (declarations k s ts max most t₀ from)
     declaring-no-open r i p e k h =
-        refuses max d r i p _ (whole (refused i p) (λ j. declarations-open j s ts max most (o .table) at c z w ∙ simp (answer-refused (opening s 14 at) i p (sym y ∙ e))) k h) e
+        refuses max d r i p _ (whole (refused i p) (λ j. declarations-open j s ts max most (o .table) at c z w
+        ∙ simp (answer-refused (opening s 14 at) i p (sym y ∙ e))) k h) e
 
     module _ (b p : ℕ) (q : d ≡ Done b p) (r : Parsed) (rows′ : List ℕ) (out : Outcome max r rows′ (declaration s ts max most (o .table) b)) where
-      way : (j : ℕ) → declarations (suc j) s ts max most (o .table) at ≡ andThen (declaration s ts max most (o .table) b) (λ u a. declarations j s ts max most u a)
+      way : (j : ℕ) → declarations (suc j) s ts max most (o .table) at ≡ andThen (declaration s ts max most (o .table) b)
+          (λ u a. declarations j s ts max most u a)
       way j = declarations-open j s ts max most (o .table) at c z w ∙ simp (answer-done (opening s 14 at) b p (sym y ∙ q))
 
       pub declaring-more : (a m : ℕ) → r ≡ Done a m → at < a → a ≤ length s → Declaring s ts max most t₀ from rows′ m a

@@ -68,11 +68,13 @@ module _ (s : List ℕ) (own : Bool) (ts t : Table) (g p at : ℕ) where
   unfolding waiting
   group-none h = simp (le-ltb g (length t) h)
 
-  pub group-done : g < length t → (k a : ℕ) → typeDue s (cond own t ts) (cond own g (length ts)) at ≡ got k a → andThen (waiting t g p at) (λ _. group s own ts t g) ≡ got (retype g k t) a
+  pub group-done : g < length t → (k a : ℕ) → typeDue s (cond own t ts) (cond own g (length ts)) at ≡ got k a
+      → andThen (waiting t g p at) (λ _. group s own ts t g) ≡ got (retype g k t) a
   unfolding waiting group
   group-done h k a e = simp (lt-ltb g (length t) h, e)
 
-  pub group-refused : g < length t → (k q : ℕ) → typeDue s (cond own t ts) (cond own g (length ts)) at ≡ refused k q → andThen (waiting t g p at) (λ _. group s own ts t g) ≡ refused k q
+  pub group-refused : g < length t → (k q : ℕ) → typeDue s (cond own t ts) (cond own g (length ts)) at ≡ refused k q
+      → andThen (waiting t g p at) (λ _. group s own ts t g) ≡ refused k q
   unfolding waiting group
   group-refused h k q e = simp (lt-ltb g (length t) h, e)
 
@@ -108,16 +110,19 @@ pub record Going (s : List ℕ) (var own : Bool) (ts : Table) (max : ℕ) (t₀ 
   pub holds : Holds max rows n table
   pub on : (k : ℕ) → length s - from < k → (j : ℕ) × (length s - at < j) × (typed k s var own ts max t₀ g₀ from ≡ typed j s var own ts max table g at)
 
-pub going-start : (s : List ℕ) (var own : Bool) (ts : Table) (max : ℕ) (t : Table) (n from : ℕ) (rows : List ℕ) → Holds max rows n t → Going s var own ts max t n from rows n n from
+pub going-start : (s : List ℕ) (var own : Bool) (ts : Table) (max : ℕ) (t : Table) (n from : ℕ) (rows : List ℕ) → Holds max rows n t
+    → Going s var own ts max t n from rows n n from
 going-start s var own ts max t n from rows h = record { table = t; holds = h; on = λ k q. (k, q, refl) }
 
-module _ (s : List ℕ) (var own : Bool) (ts : Table) (max : ℕ) (t₀ : Table) (g₀ from : ℕ) (rows : List ℕ) (n g at : ℕ) (o : Going s var own ts max t₀ g₀ from rows n g at) where
+module _ (s : List ℕ) (var own : Bool) (ts : Table) (max : ℕ) (t₀ : Table) (g₀ from : ℕ) (rows : List ℕ) (n g at : ℕ)
+    (o : Going s var own ts max t₀ g₀ from rows n g at) where
   -- the whole is what the rest is
   whole : (x : Read Table) → ((j : ℕ) → length s - at ≤ j → typed (suc j) s var own ts max (o .table) g at ≡ x)
       → (k : ℕ) → length s - from < k → typed k s var own ts max t₀ g₀ from ≡ x
   whole x f k h = go (o .on k h .0) (o .on k h .1) (o .on k h .2)
     where
-      go : (j : ℕ) → length s - at < j → typed k s var own ts max t₀ g₀ from ≡ typed j s var own ts max (o .table) g at → typed k s var own ts max t₀ g₀ from ≡ x
+      go : (j : ℕ) → length s - at < j → typed k s var own ts max t₀ g₀ from ≡ typed j s var own ts max (o .table) g at
+          → typed k s var own ts max t₀ g₀ from ≡ x
       go zero q e = absurd (let z : ⊥ = omega arith in z)
       go (suc j) q e = e ∙ f j (omega arith)
 
@@ -134,11 +139,14 @@ module _ (s : List ℕ) (var own : Bool) (ts : Table) (max : ℕ) (t₀ : Table)
   pub going-close : (e : ℕ) → item s var at ≡ got G.closes e → (k : ℕ) → length s - from < k → Outcome max (Done e n) rows (typed k s var own ts max t₀ g₀ from)
   going-close e q k h = reads max rows n e (o .table) _ (whole (got (o .table) e) (λ j _. typed-close j s var own ts max (o .table) g at e q) k h) (o .holds)
 
-  pub going-refused : (i p : ℕ) (r : List ℕ) → item s var at ≡ refused i p → (k : ℕ) → length s - from < k → Outcome max (Refused i p) r (typed k s var own ts max t₀ g₀ from)
+  pub going-refused : (i p : ℕ) (r : List ℕ) → item s var at ≡ refused i p → (k : ℕ) → length s - from < k
+      → Outcome max (Refused i p) r (typed k s var own ts max t₀ g₀ from)
   going-refused i p r q k h = refuses max (Refused i p) r i p _ (whole (refused i p) (λ j _. typed-refused j s var own ts max (o .table) g at i p q) k h) refl
 
-  module _ (p e : ℕ) (q : item s var at ≡ got (G.dash p) e) (r : Parsed) (rows′ : List ℕ) (out : Outcome max r rows′ (andThen (waiting (o .table) g p e) (λ _. group s own ts (o .table) g))) where
-    way : (j : ℕ) → typed (suc j) s var own ts max (o .table) g at ≡ andThen (andThen (waiting (o .table) g p e) (λ _. group s own ts (o .table) g)) (λ u a. typed j s var own ts max u (length u) a)
+  module _ (p e : ℕ) (q : item s var at ≡ got (G.dash p) e) (r : Parsed) (rows′ : List ℕ)
+      (out : Outcome max r rows′ (andThen (waiting (o .table) g p e) (λ _. group s own ts (o .table) g))) where
+    way : (j : ℕ) → typed (suc j) s var own ts max (o .table) g at ≡ andThen (andThen (waiting (o .table) g p e) (λ _. group s own ts (o .table) g))
+        (λ u a. typed j s var own ts max u (length u) a)
     way j = typed-dash j s var own ts max (o .table) g at p e q
 
     pub going-group : (a m : ℕ) → r ≡ Done a m → at < a → a ≤ length s → Going s var own ts max t₀ g₀ from rows′ m m a
@@ -149,7 +157,8 @@ module _ (s : List ℕ) (var own : Bool) (ts : Table) (max : ℕ) (t₀ : Table)
     pub going-group-refused : (i c : ℕ) → r ≡ Refused i c → (k : ℕ) → length s - from < k → Outcome max r rows′ (typed k s var own ts max t₀ g₀ from)
     going-group-refused i c d k h = refuses max r rows′ i c _ (whole (refused i c) (λ j _. way j ∙ simp (outcome-refused _ max r rows′ i c out d)) k h) d
 
-  module _ (p b e : ℕ) (q : item s var at ≡ got (G.names p (part s b e)) e) (r : Parsed) (rows′ : List ℕ) (out : Outcome max r rows′ (declare max (o .table) p (part s b e) e)) where
+  module _ (p b e : ℕ) (q : item s var at ≡ got (G.names p (part s b e)) e) (r : Parsed) (rows′ : List ℕ)
+      (out : Outcome max r rows′ (declare max (o .table) p (part s b e) e)) where
     pub going-name : (a m : ℕ) → r ≡ Done a m → at < e → e ≤ length s → Going s var own ts max t₀ g₀ from rows′ m g e
     going-name a m d lo hi =
         let x = outcome-done _ max r rows′ a m out d in
@@ -157,10 +166,12 @@ module _ (s : List ℕ) (var own : Bool) (ts : Table) (max : ℕ) (t₀ : Table)
         further (x .table) rows′ m g e (x .holds) lo hi (λ j _. typed-name j s var own ts max (o .table) g at p b e q ∙ simp (x .is, stay))
 
     pub going-name-refused : (i c : ℕ) → r ≡ Refused i c → (k : ℕ) → length s - from < k → Outcome max r rows′ (typed k s var own ts max t₀ g₀ from)
-    going-name-refused i c d k h = refuses max r rows′ i c _ (whole (refused i c) (λ j _. typed-name j s var own ts max (o .table) g at p b e q ∙ simp (outcome-refused _ max r rows′ i c out d)) k h) d
+    going-name-refused i c d k h = refuses max r rows′ i c _
+        (whole (refused i c) (λ j _. typed-name j s var own ts max (o .table) g at p b e q ∙ simp (outcome-refused _ max r rows′ i c out d)) k h) d
 
 -- ---- lists with a table of their own, or behind the names of one
 
-pub names-typed : (s : List ℕ) (ts : Table) (max : ℕ) (t : Table) (at n : ℕ) → n ≡ length t → namesTo s ts max t at ≡ typed (length s + 1) s false false ts max t n at
+pub names-typed : (s : List ℕ) (ts : Table) (max : ℕ) (t : Table) (at n : ℕ) → n ≡ length t
+    → namesTo s ts max t at ≡ typed (length s + 1) s false false ts max t n at
 unfolding namesTo
 names-typed s ts max t at n e = rw e

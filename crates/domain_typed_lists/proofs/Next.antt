@@ -37,7 +37,8 @@ Lies s at (Other (Done a v)) x = ⊥
 Lies s at (Other (Refused k p)) x = x ≡ refused k p
 
 module _ (s : List ℕ) (at p e : ℕ) (lo : at ≤ p) (mid : p < e) (hi : e ≤ length s) where
-  name-lies : (b : Bool) → e - p ≤ 32 → Lies s at (itemFor false (cond b (refuse 3 p) (give (G.names p (part s p e))) e)) (cond b (refuse 3 p) (give (G.names p (part s p e))) e)
+  name-lies : (b : Bool) → e - p ≤ 32 → Lies s at (itemFor false (cond b (refuse 3 p) (give (G.names p (part s p e))) e))
+      (cond b (refuse 3 p) (give (G.names p (part s p e))) e)
   unfolding Lies
   name-lies true h = refl
   name-lies false h = (refl, omega arith, hi, let z : length (part s p e) ≤ 32 = omega (arith, part-length s p e hi) in z)
@@ -48,11 +49,18 @@ module _ (s : List ℕ) (at p e : ℕ) (lo : at ≤ p) (mid : p < e) (hi : e ≤
   dash-lies var false = refl
 
 token-lies : (s : List ℕ) (at : ℕ) (var : Bool) (t : Token) → Within s at t
-    → Lies s at (itemFor var (onClose t (λ p. give G.closes) (onWord t (itemOf s var) (wrong 13 t)) (afterOf t))) (onClose t (λ p. give G.closes) (onWord t (itemOf s var) (wrong 13 t)) (afterOf t))
+    → Lies s at (itemFor var (onClose t (λ p. give G.closes) (onWord t (itemOf s var) (wrong 13 t)) (afterOf t)))
+    (onClose t (λ p. give G.closes) (onWord t (itemOf s var) (wrong 13 t)) (afterOf t))
 unfolding Lies Within
 token-lies s at true (T.Word W.Name p e) w = refl
 token-lies s at false (T.Word W.Name p e) w = name-lies s at p e (w .0) (w .1) (w .2) (isReserved (part s p e)) (w .3)
-token-lies s at true (T.Word W.Variable p e) w = (refl, omega arith, w .2, let z : length (part s (p + 1) e) ≤ 32 = omega (arith, part-length s (p + 1) e (w .2)) in z)
+token-lies s at true (T.Word W.Variable p e) w = (
+  refl,
+  omega arith,
+  w .2,
+  let z : length (part s (p + 1) e) ≤ 32 =
+      omega (arith, part-length s (p + 1) e (w .2)) in z,
+)
 token-lies s at false (T.Word W.Variable p e) w = refl
 token-lies s at var (T.Word W.Keyword p e) w = refl
 token-lies s at var (T.Word W.Operator p e) w = dash-lies s at p e (w .0) (w .1) (w .2) var (sameWord (part s p e) (bytes "-"))
@@ -89,7 +97,8 @@ module _ (s : List ℕ) (var : Bool) (at : ℕ) (h : at ≤ length s) (r : Item)
   item-other (Refused i p) e = (i, p, refl, lies-as (Other (Refused i p)) e)
 
 -- a token that is no bracket that closes and no word is refused
-pub item-else : (s : List ℕ) (var : Bool) (at : ℕ) (t : Token) (r : Parsed) → t ≡ tokenAt s at → OneOf (0 ∷ 1 ∷ 2 ∷ 4 ∷ 5 ∷ 6 ∷ []) (tagOf token-type.the-type t)
+pub item-else : (s : List ℕ) (var : Bool) (at : ℕ) (t : Token) (r : Parsed) → t ≡ tokenAt s at
+    → OneOf (0 ∷ 1 ∷ 2 ∷ 4 ∷ 5 ∷ 6 ∷ []) (tagOf token-type.the-type t)
     → OneOf (1 ∷ 2 ∷ 3 ∷ 4 ∷ 5 ∷ 6 ∷ []) (tagOf token-type.the-type t) → r ≡ Refused (numberOf 13 t) (placeOf t) → Other r ≡ itemFor var (item s var at)
 unfolding item
 item-else s var at t r e o w q = rw (← e, not-close t _ _ o, not-word t _ _ w, q)

@@ -68,5 +68,6 @@ pub holds-none : (m : ℕ) (rows : List ℕ) → rows ≡ rowsOf m [] → Holds 
 holds-none m rows e = record { are = e; count = refl; fits = let z : 0 ≤ m = omega arith in z; short = tt }
 
 -- what `find` answers of the word v, which is w
-pub found : (m : ℕ) (rows : List ℕ) (n : ℕ) (t : Table) (w v : List ℕ) (r f : Place) → Holds m rows n t → r ≡ placeFrom 0 (namesOf n rows) v → v ≡ w → r ≡ f → lookup t w ≡ f
+pub found : (m : ℕ) (rows : List ℕ) (n : ℕ) (t : Table) (w v : List ℕ) (r f : Place) → Holds m rows n t → r ≡ placeFrom 0 (namesOf n rows) v → v ≡ w
+    → r ≡ f → lookup t w ≡ f
 found m rows n t w v r f h q z e = sym (lookup-held m rows n t w h) ∙ sym (ap (λ (x : List ℕ). placeFrom 0 (namesOf n rows) x) z) ∙ sym q ∙ e

@@ -36,15 +36,18 @@ unfolding Within
 bracket-in s at p n h e = let w = rw e at (token-within s at h) in omega (arith, w .1, w .2)
 
 module _ (s : List ℕ) (from at : ℕ) where
-  pub other-else : (t : Token) (r : Parsed) → t ≡ tokenAt s from → OneOf (0 ∷ 1 ∷ 3 ∷ 4 ∷ 5 ∷ 6 ∷ []) (tagOf token-type.the-type t) → r ≡ Refused (numberOf 13 t) (placeOf t)
+  pub other-else : (t : Token) (r : Parsed) → t ≡ tokenAt s from → OneOf (0 ∷ 1 ∷ 3 ∷ 4 ∷ 5 ∷ 6 ∷ []) (tagOf token-type.the-type t)
+      → r ≡ Refused (numberOf 13 t) (placeOf t)
       → r ≡ answerOf (onOpen (tokenAt s from) (typeOfOther s) (wrong 13 (tokenAt s from)) at)
   other-else t r e o q = rw (← e, not-open t _ _ o) q
 
   module _ (p n : ℕ) (e : tokenAt s from ≡ T.Open p n) where
-    pub other-bracket : spotAt s (p + 1) (bytes "either") ≡ P.Other → Refused 3 p ≡ answerOf (onOpen (tokenAt s from) (typeOfOther s) (wrong 13 (tokenAt s from)) at)
+    pub other-bracket : spotAt s (p + 1) (bytes "either") ≡ P.Other
+        → Refused 3 p ≡ answerOf (onOpen (tokenAt s from) (typeOfOther s) (wrong 13 (tokenAt s from)) at)
     other-bracket o = rw (e, o)
 
-    pub other-either : (a z : ℕ) → spotAt s (p + 1) (bytes "either") ≡ P.At a z → Refused 11 a ≡ answerOf (onOpen (tokenAt s from) (typeOfOther s) (wrong 13 (tokenAt s from)) at)
+    pub other-either : (a z : ℕ) → spotAt s (p + 1) (bytes "either") ≡ P.At a z
+        → Refused 11 a ≡ answerOf (onOpen (tokenAt s from) (typeOfOther s) (wrong 13 (tokenAt s from)) at)
     other-either a z o = rw (e, o)
 
 -- an answer with no number is a refusal
@@ -55,7 +58,8 @@ never-ahead (Refused k p) n at h = tt
 
 -- ---- a word
 
-no-type : (s : List ℕ) (ts : Table) (b : ℕ) (k : Word) (p e at : ℕ) → OneOf (1 ∷ 2 ∷ 3 ∷ []) (tagOf word-type.the-type k) → typeOfWord s ts b k p e at ≡ refused 3 p
+no-type : (s : List ℕ) (ts : Table) (b : ℕ) (k : Word) (p e at : ℕ) → OneOf (1 ∷ 2 ∷ 3 ∷ []) (tagOf word-type.the-type k)
+    → typeOfWord s ts b k p e at ≡ refused 3 p
 no-type s ts b W.Name p e at h = absurd (miss (1 ∷ 2 ∷ 3 ∷ []) 0 tt h)
 no-type s ts b W.Variable p e at h = refl
 no-type s ts b W.Keyword p e at h = refl
@@ -67,7 +71,8 @@ module _ (s : List ℕ) (ts : Table) (b at : ℕ) where
   unfolding typeDue
   type-else t r e o f = rw (← e, not-word t _ _ o) (rw (← e) at (f (afterOf t)))
 
-  pub type-other : (k : Word) (p e : ℕ) → tokenAt s at ≡ T.Word k p e → OneOf (1 ∷ 2 ∷ 3 ∷ []) (tagOf word-type.the-type k) → Refused 3 p ≡ answerOf (typeDue s ts b at)
+  pub type-other : (k : Word) (p e : ℕ) → tokenAt s at ≡ T.Word k p e → OneOf (1 ∷ 2 ∷ 3 ∷ []) (tagOf word-type.the-type k)
+      → Refused 3 p ≡ answerOf (typeDue s ts b at)
   unfolding typeDue
   type-other k p e q o = rw (q, no-type s ts b k p e e o)
 

@@ -97,7 +97,8 @@ module _ (g : Grounds) (old : List ℤ) (l : ℕ) (os : List ℕ) where
   bounded-one m ns (changes how r e) b =
       bounded-needed m l old ns how (numberOf g os r) (valueOf g old os e) (needed how old (numberOf g os r)) (value-ranged g old os e) b
 
-  pub bounded-all : (m : ℕ) (ns : List ℤ) (es : List Effect) → Bounded m old ns → Bounded (m + 1000000000000 * length es) old (changeAll g old l os ns es .numbers)
+  pub bounded-all : (m : ℕ) (ns : List ℤ) (es : List Effect) → Bounded m old ns
+      → Bounded (m + 1000000000000 * length es) old (changeAll g old l os ns es .numbers)
   unfolding changeAll
   bounded-all m ns [] b = bounded-wider m (m + 1000000000000 * 0) old ns (omega arith) b
   bounded-all m ns (e ∷ es) b =
@@ -126,5 +127,6 @@ room-start n old h = (1000000000000, λ x d. inside-le (numberAt old x) d, omega
 pub room-bound : (n : ℕ) (old ns : List ℤ) → Room n old ns → Bounded (2 ^ 61 - 1) old ns
 room-bound n old ns r = let q = r .2 in bounded-wider (r .0) (2 ^ 61 - 1) old ns (omega arith) (r .1)
 
-pub room-step : (n l : ℕ) (old ns : List ℤ) (k : Mark) (how : Change) (v : Value) → 0 < n → Ranged v → Room n old ns → Room (n - 1) old (changeBy l old ns k how v .numbers)
+pub room-step : (n l : ℕ) (old ns : List ℤ) (k : Mark) (how : Change) (v : Value) → 0 < n → Ranged v → Room n old ns
+    → Room (n - 1) old (changeBy l old ns k how v .numbers)
 room-step n l old ns k how v h t r = let q = r .2 in (r .0 + 1000000000000, bounded-step (r .0) l old ns k how v t (r .1), omega arith)

@@ -76,11 +76,13 @@ module _ (l : ℕ) (old ns : List ℤ) (x : ℕ) {v : Value} (e : v ≡ stored o
     pub shift-small : Bounded (2 ^ 61 - 1) old ns → mag y₀ < 2 ^ 61
     shift-small b = let q = b x (stored-inside old x e n) in rw (g₀, g) (omega (arith, q))
 
-    pub shift-raise : (z : ℤ) {raises : Bool} {z₀ s s₀ : ℤ} {ms : List ℤ} → raises ≡ true → z₀ ≡ z → s ≡ y₀ +ℤ z₀ → s₀ ≡ s → ms ≡ set ns x s₀ → made Done ms ≡ shifted l old ns x raises z
+    pub shift-raise : (z : ℤ) {raises : Bool} {z₀ s s₀ : ℤ} {ms : List ℤ} → raises ≡ true → z₀ ≡ z → s ≡ y₀ +ℤ z₀ → s₀ ≡ s → ms ≡ set ns x s₀
+        → made Done ms ≡ shifted l old ns x raises z
     unfolding shifted
     shift-raise z t k s s₀ m = rw (← e, n, t, m, s₀, s, k, g₀, g)
 
-    pub shift-lower : (z : ℤ) {raises : Bool} {z₀ s s₀ : ℤ} {ms : List ℤ} → raises ≡ false → z₀ ≡ z → s ≡ y₀ -ℤ z₀ → s₀ ≡ s → ms ≡ set ns x s₀ → made Done ms ≡ shifted l old ns x raises z
+    pub shift-lower : (z : ℤ) {raises : Bool} {z₀ s s₀ : ℤ} {ms : List ℤ} → raises ≡ false → z₀ ≡ z → s ≡ y₀ -ℤ z₀ → s₀ ≡ s → ms ≡ set ns x s₀
+        → made Done ms ≡ shifted l old ns x raises z
     unfolding shifted
     shift-lower z t k s s₀ m = rw (← e, n, t, m, s₀, s, k, g₀, g)
 
@@ -100,7 +102,8 @@ module _ (g : Grounds) (l : ℕ) (old ns : List ℤ) (os : List ℕ) (m : Mark) 
       go (Number a x) h = absurd (miss (0 ∷ 1 ∷ []) 2 tt h)
 
   module _ {a : Bool} {x : ℕ} {e : Valued} (q : m ≡ Number a x) (f : e ≡ valuedOf g old os d) where
-    pub change-none : {r : Outcome} → NoNumber (e .value) → r ≡ blamed l (e .value) → made r ns ≡ changeBy l old ns m (changeIn tag) (valueOf g old os (d .tree))
+    pub change-none : {r : Outcome} → NoNumber (e .value) → r ≡ blamed l (e .value)
+        → made r ns ≡ changeBy l old ns m (changeIn tag) (valueOf g old os (d .tree))
     unfolding changeBy valuedOf
     change-none {r} h b = rw (q, ← (ap (λ (u : Valued). u .value) f)) (no-number l ns (e .value) _ h b)
 
@@ -116,7 +119,8 @@ module _ (g : Grounds) (l : ℕ) (old ns : List ℤ) (os : List ℕ) (m : Mark) 
       unfolding changeBy changeIn
       change-assign h k = rw (q, is-value, lt-ltb tag 15 h, k, n₀)
 
-      pub change-shift : {r : Outcome} {ms : List ℤ} → 15 ≤ tag → made r ms ≡ shifted l old ns x (ltb tag 18) z₀ → made r ms ≡ changeBy l old ns m (changeIn tag) (valueOf g old os (d .tree))
+      pub change-shift : {r : Outcome} {ms : List ℤ} → 15 ≤ tag → made r ms ≡ shifted l old ns x (ltb tag 18) z₀
+          → made r ms ≡ changeBy l old ns m (changeIn tag) (valueOf g old os (d .tree))
       unfolding changeBy changeIn shifted
       change-shift h k = rw (q, is-value, le-ltb tag 15 h) (k ∙ rw n₀ (go (ltb tag 18)))
         where
@@ -149,7 +153,8 @@ module _ (m : Mark) where
       go (Fact a x) h = refl
       go (Number a x) h = absurd (miss (0 ∷ 1 ∷ []) 2 tt h)
 
-  pub settle-number : (source target : List ℤ) {a : Bool} {x : ℕ} {y y₀ : ℤ} {into : List ℤ} → m ≡ Number a x → y ≡ numberAt source x → y₀ ≡ y → into ≡ set target x y₀
+  pub settle-number : (source target : List ℤ) {a : Bool} {x : ℕ} {y y₀ : ℤ} {into : List ℤ} → m ≡ Number a x → y ≡ numberAt source x → y₀ ≡ y
+      → into ≡ set target x y₀
       → into ≡ settleOne source target m
   unfolding settleOne
   settle-number source target q g g₀ h = rw (q, h, g₀, g)

@@ -75,7 +75,8 @@ settle-in source target Nothing = refl
 settle-in source target (Fact a x) = refl
 settle-in source target (Number a x) = refl
 
-needed-length : (l : ℕ) (ns : List ℤ) (how : Change) (x : ℕ) (v w : Value) → length (onNeeded l ns v (λ z. onNeeded l ns w (λ _. made Done (setNumber how ns x z))) .numbers) ≡ length ns
+needed-length : (l : ℕ) (ns : List ℤ) (how : Change) (x : ℕ) (v w : Value)
+    → length (onNeeded l ns v (λ z. onNeeded l ns w (λ _. made Done (setNumber how ns x z))) .numbers) ≡ length ns
 needed-length l ns how x (Is.Number z) (Is.Number u) = length-set ns x (newNumber how (numberAt ns x) z)
 needed-length l ns how x (Is.Number z) Is.Undefined = refl
 needed-length l ns how x (Is.Number z) Is.Range = refl
@@ -115,7 +116,8 @@ module _ (g : Grounds) (os : List ℕ) (es : List Effect) (e : es ≡ []) where
 
 -- ---- one step
 
-module _ (g : Grounds) (os : List ℕ) (code : List ℕ) (w : When) (part at n : ℕ) (k : 0 < n) {s : Marked} (e : s ≡ markedAt g os 0 code w part at) (h : s .ended ≡ false) where
+module _ (g : Grounds) (os : List ℕ) (code : List ℕ) (w : When) (part at n : ℕ) (k : 0 < n) {s : Marked} (e : s ≡ markedAt g os 0 code w part at)
+    (h : s .ended ≡ false) where
   marks-step : marksOf g os (flatAt n code w part at) ≡ marksIn (s .mark) ++ marksOf g os (flatAt (n - 1) code w (s .part) (s .next))
   marks-step =
       let q : n ≡ suc (n - 1) = omega arith in
@@ -131,7 +133,8 @@ module _ (g : Grounds) (os : List ℕ) (code : List ℕ) (w : When) (part at n :
   rest = marksOf g os (flatAt (n - 1) code w (s .part) (s .next))
 
   pub facts-turn : (add : Bool) (fs gs : List ℕ) → gs ≡ writeFact add fs (s .mark)
-      → eachMark (writeFact add) gs (marksOf g os (flatAt (n - 1) code w (s .part) (s .next))) ≡ eachMark (writeFact add) fs (marksOf g os (flatAt n code w part at))
+      → eachMark (writeFact add) gs (marksOf g os (flatAt (n - 1) code w (s .part) (s .next))) ≡ eachMark (writeFact add) fs
+      (marksOf g os (flatAt n code w part at))
   facts-turn add fs gs q =
       ap (λ (l : List ℕ). eachMark (writeFact add) l rest) (q ∙ sym (facts-in add fs (s .mark)))
       ∙ sym (each-append (writeFact add) fs (marksIn (s .mark)) rest)
@@ -167,13 +170,16 @@ module _ (g : Grounds) (os : List ℕ) (code : List ℕ) (w : When) (part at n :
       → Fails o → made o ms ≡ changeAll g old l os ns (flatAt n code w part at)
   changes-fail old l ns {o} q f = sym (changes-step old l ns ∙ rw (← q, fails o f))
 
-  pub changes-room : (old : List ℤ) (l : ℕ) (ns : List ℤ) {o : Outcome} {ms : List ℤ} → made o ms ≡ changeStep g old l os ns code s → Room n old ns → Room (n - 1) old ms
+  pub changes-room : (old : List ℤ) (l : ℕ) (ns : List ℤ) {o : Outcome} {ms : List ℤ} → made o ms ≡ changeStep g old l os ns code s → Room n old ns
+      → Room (n - 1) old ms
   changes-room old l ns {o} {ms} q r =
       rw (ap (λ (m : Made). m .numbers) q)
-      (room-step n l old ns (s .mark) (changeIn (s .tag)) (valueOf g old os (expressionAt code (s .right) .tree)) k (value-ranged g old os (expressionAt code (s .right) .tree)) r)
+      (room-step n l old ns (s .mark) (changeIn (s .tag)) (valueOf g old os (expressionAt code (s .right) .tree)) k
+      (value-ranged g old os (expressionAt code (s .right) .tree)) r)
 
   pub changes-length : (old : List ℤ) (l : ℕ) (ns : List ℤ) {o : Outcome} {ms : List ℤ} → made o ms ≡ changeStep g old l os ns code s → length ms ≡ length ns
-  changes-length old l ns q = ap (λ (m : Made). length (m .numbers)) q ∙ change-length l old ns (s .mark) (changeIn (s .tag)) (valueOf g old os (expressionAt code (s .right) .tree))
+  changes-length old l ns q = ap (λ (m : Made). length (m .numbers)) q
+      ∙ change-length l old ns (s .mark) (changeIn (s .tag)) (valueOf g old os (expressionAt code (s .right) .tree))
 
 -- ---- lengths stay
 

@@ -15,7 +15,8 @@ use Rattle.domain_meaning.specs.First.{undefined}
 use Rattle.happening_meaning.specs.State.{Grounds, numberAt, numberOf}
 use Rattle.happening_meaning.specs.Truths.{valueOf}
 use Rattle.happening_meaning.specs.Writes.{some, markOf, marksOf}
-use Rattle.happening_meaning.specs.Happening.{Point, lineOf, objectsOf, effectsOf, marks, allMarks, made, isDone, onNeeded, needed, newNumber, setNumber, changeOne, changeAll, changePoints, Made}
+use Rattle.happening_meaning.specs.Happening.{Point, lineOf, objectsOf, effectsOf, marks, allMarks, made, isDone, onNeeded, needed, newNumber, setNumber}
+use Rattle.happening_meaning.specs.Happening.{changeOne, changeAll, changePoints, Made}
 use Rattle.happening_meaning.specs.declared.Value.{Value}
 use Rattle.happening_meaning.specs.declared.Value.the-variants as Is
 use Rattle.happening_meaning.specs.declared.Mark.{Mark}
@@ -63,7 +64,8 @@ unfolding some names numberAt
 except-set ms a b t x y h = (
   h .0 ∙ sym (length-set b x y),
   λ i k. let q = sym (some-append (names i) ms (Number t x ∷ [])) ∙ k in
-      h .1 i (or-left (some (names i) ms) (eqb i x || false) q) ∙ sym (getD-set-other b x i y undefined (eqb-false i x (one-more (some (names i) ms) (eqb i x) q))),
+      h .1 i (or-left (some (names i) ms) (eqb i x || false) q)
+      ∙ sym (getD-set-other b x i y undefined (eqb-false i x (one-more (some (names i) ms) (eqb i x) q))),
 )
 
 except-needed : (ms : List Mark) (a b : List ℤ) (l : ℕ) (t : Bool) (how : Change) (x : ℕ) (v w : Value) → Except ms a b
@@ -77,14 +79,17 @@ except-needed ms a b l t how x Is.Range w h = except-more ms (Number t x ∷ [])
 -- ---- after effects
 
 module _ (g : Grounds) (old a : List ℤ) where
-  except-one : (l : ℕ) (os : List ℕ) (ms : List Mark) (b : List ℤ) (e : Effect) → Except ms a b → Except (ms ++ markOf g os e ∷ []) a (changeOne g old l os b e .numbers)
+  except-one : (l : ℕ) (os : List ℕ) (ms : List Mark) (b : List ℤ) (e : Effect) → Except ms a b
+      → Except (ms ++ markOf g os e ∷ []) a (changeOne g old l os b e .numbers)
   unfolding changeOne markOf
   except-one l os ms b (becomes yes′ r) h = except-more ms (markOf g os (becomes yes′ r) ∷ []) a b h
-  except-one l os ms b (changes assign r e) h = except-needed ms a b l true assign (numberOf g os r) (valueOf g old os e) (needed assign old (numberOf g os r)) h
+  except-one l os ms b (changes assign r e) h = except-needed ms a b l true assign (numberOf g os r) (valueOf g old os e)
+      (needed assign old (numberOf g os r)) h
   except-one l os ms b (changes raise r e) h = except-needed ms a b l false raise (numberOf g os r) (valueOf g old os e) (needed raise old (numberOf g os r)) h
   except-one l os ms b (changes lower r e) h = except-needed ms a b l false lower (numberOf g os r) (valueOf g old os e) (needed lower old (numberOf g os r)) h
 
-  pub except-change : (l : ℕ) (os : List ℕ) (ms : List Mark) (b : List ℤ) (es : List Effect) → Except ms a b → Except (ms ++ marksOf g os es) a (changeAll g old l os b es .numbers)
+  pub except-change : (l : ℕ) (os : List ℕ) (ms : List Mark) (b : List ℤ) (es : List Effect) → Except ms a b
+      → Except (ms ++ marksOf g os es) a (changeAll g old l os b es .numbers)
   unfolding changeAll
   except-change l os ms b [] h = except-more ms [] a b h
   except-change l os ms b (e ∷ es) h =
@@ -124,7 +129,8 @@ unfolding some names numberAt
 settle-number ms a b t x h = (h .0 ∙ sym (length-set b x (getD a x undefined)), λ i k. go i k (eqb i x) refl)
   where
     go : (i : ℕ) → some (names i) ms ≡ false → (d : Bool) → eqb i x ≡ d → getD a i undefined ≡ getD (set b x (getD a x undefined)) i undefined
-    go i k true q = let e = eqb-true i x q in subst (λ (j : ℕ). getD a j undefined ≡ getD (set b x (getD a x undefined)) j undefined) (sym e) (stored-there a b x (h .0))
+    go i k true q = let e = eqb-true i x q in subst (λ (j : ℕ). getD a j undefined ≡ getD (set b x (getD a x undefined)) j undefined) (sym e)
+        (stored-there a b x (h .0))
     go i k false q = h .1 i (rw q k) ∙ sym (getD-set-other b x i (getD a x undefined) undefined (eqb-false i x q))
 
 pub except-settle : (ms : List Mark) (a b : List ℤ) → Except ms a b → settleAll a b ms ≡ a

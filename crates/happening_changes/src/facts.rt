@@ -51,7 +51,10 @@ pub fn write_facts<'a>(
     add: bool,
     earlier: bool,
 ) -> bool
-    ensures { λ r. ⌜ (now (facts .exit) ≡ eachMark (writeFact add) (now (facts .entry)) (marksOf (groundsIn (now (firsts .entry))) (objectsIn who) (flatAt (length (now (code .entry))) (now (code .entry)) (whenOf time) 0 from))) × (r ≡ (earlier || some adds (marksOf (groundsIn (now (firsts .entry))) (objectsIn who) (flatAt (length (now (code .entry))) (now (code .entry)) (whenOf time) 0 from)))) ⌝ }
+    ensures { λ r. ⌜ (now (facts .exit) ≡ eachMark (writeFact add) (now (facts .entry))
+        (marksOf (groundsIn (now (firsts .entry))) (objectsIn who) (flatAt (length (now (code .entry))) (now (code .entry)) (whenOf time) 0 from)))
+        × (r ≡ (earlier || some adds (marksOf (groundsIn (now (firsts .entry))) (objectsIn who)
+        (flatAt (length (now (code .entry))) (now (code .entry)) (whenOf time) 0 from)))) ⌝ }
 {
     let mut part = 0;
     let mut at = from;

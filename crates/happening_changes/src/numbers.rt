@@ -58,7 +58,8 @@ fn change_one<'a>(
     right: usize,
 ) -> Outcome
     requires { ⌜ Bounded (2 ^ 61 - 1) (now old) (now fresh) ⌝ }
-    ensures { λ r. ⌜ made r (now (fresh .exit)) ≡ changeBy line (now (old .entry)) (now (fresh .entry)) m (changeIn tag) (valueOf (groundsIn (now (firsts .entry))) (now (old .entry)) (objectsIn who) (expressionAt (now (code .entry)) right .tree)) ⌝ }
+    ensures { λ r. ⌜ made r (now (fresh .exit)) ≡ changeBy line (now (old .entry)) (now (fresh .entry)) m (changeIn tag)
+        (valueOf (groundsIn (now (firsts .entry))) (now (old .entry)) (objectsIn who) (expressionAt (now (code .entry)) right .tree)) ⌝ }
 {
     let Mark::Number(_, x) = m else {
         return Outcome::Done;
@@ -87,7 +88,8 @@ pub fn change_all<'a>(
     from: usize,
 ) -> Outcome
     requires { ⌜ Room (length (now code)) (now old) (now fresh) ⌝ }
-    ensures { λ r. ⌜ made r (now (fresh .exit)) ≡ changeAll (groundsIn (now (firsts .entry))) (now (old .entry)) line (objectsIn who) (now (fresh .entry)) (flatAt (length (now (code .entry))) (now (code .entry)) (whenOf time) 0 from) ⌝ }
+    ensures { λ r. ⌜ made r (now (fresh .exit)) ≡ changeAll (groundsIn (now (firsts .entry))) (now (old .entry)) line (objectsIn who)
+        (now (fresh .entry)) (flatAt (length (now (code .entry))) (now (code .entry)) (whenOf time) 0 from) ⌝ }
 {
     let mut part = 0;
     let mut at = from;
@@ -127,7 +129,8 @@ pub fn leave_any<'a>(
     time: usize,
     from: usize,
 ) -> bool
-    ensures { λ r. ⌜ r ≡ some (leaves (now (fresh .entry))) (marksOf (groundsIn (now (firsts .entry))) (objectsIn who) (flatAt (length (now (code .entry))) (now (code .entry)) (whenOf time) 0 from)) ⌝ }
+    ensures { λ r. ⌜ r ≡ some (leaves (now (fresh .entry))) (marksOf (groundsIn (now (firsts .entry))) (objectsIn who)
+        (flatAt (length (now (code .entry))) (now (code .entry)) (whenOf time) 0 from)) ⌝ }
 {
     let mut part = 0;
     let mut at = from;
@@ -167,7 +170,8 @@ pub fn settle<'a>(
     time: usize,
     from: usize,
 )
-    ensures { λ _. ⌜ now (target .exit) ≡ settleAll (now (source .entry)) (now (target .entry)) (marksOf (groundsIn (now (firsts .entry))) (objectsIn who) (flatAt (length (now (code .entry))) (now (code .entry)) (whenOf time) 0 from)) ⌝ }
+    ensures { λ _. ⌜ now (target .exit) ≡ settleAll (now (source .entry)) (now (target .entry))
+        (marksOf (groundsIn (now (firsts .entry))) (objectsIn who) (flatAt (length (now (code .entry))) (now (code .entry)) (whenOf time) 0 from)) ⌝ }
 {
     let mut part = 0;
     let mut at = from;

@@ -94,7 +94,8 @@ pub fn ground<'a>(
     k: usize,
 ) -> usize
     requires { ⌜ (at ≤ length (now code)) × (k ≤ 3) ⌝ }
-    ensures { λ r. ⌜ (r ≡ indexIn (firstsIn numeric (now (firsts .entry))) (countIn (now (firsts .entry))) (objectsIn who) (refAt (now (code .entry)) at k)) × (r < 1000000000000000) ⌝ }
+    ensures { λ r. ⌜ (r ≡ indexIn (firstsIn numeric (now (firsts .entry))) (countIn (now (firsts .entry))) (objectsIn who)
+        (refAt (now (code .entry)) at k)) × (r < 1000000000000000) ⌝ }
 {
     let base = first(firsts, numeric, cell(code, at));
     if k == 0 {

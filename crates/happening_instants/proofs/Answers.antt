@@ -29,7 +29,8 @@ module _ (g : Grounds) (s : State) where
       allowed-by da eo = rw (← et, ← ea, ← eo) (unless-done _ da ∙ unless-done _ dt)
 
   -- time 2 is `over all`
-  pub spans-by : (x : Step) {t : Truth} {o : Outcome} → t ≡ holdAll g s (x .objects) (partsFor (whenOf 2) (x .conditions)) → o ≡ judged (Invariant (x .line)) (x .line) t
+  pub spans-by : (x : Step) {t : Truth} {o : Outcome} → t ≡ holdAll g s (x .objects) (partsFor (whenOf 2) (x .conditions))
+      → o ≡ judged (Invariant (x .line)) (x .line) t
       → o ≡ spans g s x
   unfolding spans whenOf
   spans-by x et eo = eo ∙ ap (judged (Invariant (x .line)) (x .line)) et

@@ -10,7 +10,8 @@ use Rattle.domain_stored_meaning.specs.Decode.{whenOf}
 use Rattle.domain_meaning.specs.Effects.{Effect}
 use Rattle.happening_meaning.specs.State.{Grounds}
 use Rattle.happening_meaning.specs.Writes.{some, marksOf}
-use Rattle.happening_meaning.specs.Happening.{Point, unless, each, Made, made, changeAll, changePoints, leaves, stays, eachMark, allMarks, newFacts, effectsOf, marks}
+use Rattle.happening_meaning.specs.Happening.{Point, unless, each, Made, made, changeAll, changePoints, leaves, stays, eachMark, allMarks, newFacts, effectsOf}
+use Rattle.happening_meaning.specs.Happening.{marks}
 use Rattle.happening_meaning.specs.declared.Mark.{Mark}
 use Rattle.happening_meaning.specs.declared.Outcome.{Outcome}
 use Rattle.happening_meaning.specs.declared.Outcome.the-variants.{Done, Range}
@@ -68,11 +69,13 @@ room-first n old ns h e = rw e (room-start ((n - 0) * 32768) old (omega arith))
 pub room-here : (k n j : ℕ) (old ns : List ℤ) → j < n → k ≤ 32768 → Room ((n - j) * 32768) old ns → Room k old ns
 room-here k n j old ns h s r = room-less ((n - j) * 32768) k old ns (omega arith) r
 
-pub room-next : (g : Grounds) (code : List ℕ) (n j : ℕ) (p : Placed) (old ns : List ℤ) {o : Outcome} {ms : List ℤ} → j < n → length code ≤ 32768 → made o ms ≡ madeAt g old ns code p
+pub room-next : (g : Grounds) (code : List ℕ) (n j : ℕ) (p : Placed) (old ns : List ℤ) {o : Outcome} {ms : List ℤ} → j < n → length code ≤ 32768
+    → made o ms ≡ madeAt g old ns code p
     → Room ((n - j) * 32768) old ns → Room ((n - (j + 1)) * 32768) old ms
 room-next g code n j p old ns {o} {ms} h s e r =
     rw (ap (λ m. m .numbers) e)
-    (room-all g old (p .line) (objectsIn (p .who)) (length code) ((n - (j + 1)) * 32768) ns (flat code p) (flat-length (length code) code (whenOf (p .time)) 0 (p .effect))
+    (room-all g old (p .line) (objectsIn (p .who)) (length code) ((n - (j + 1)) * 32768) ns (flat code p)
+    (flat-length (length code) code (whenOf (p .time)) 0 (p .effect))
     (room-less ((n - j) * 32768) (length code + (n - (j + 1)) * 32768) old ns (omega arith) r))
 
 -- ---- the ways of the four loops

@@ -100,7 +100,8 @@ module _ (g : Grounds) (code ss ps os : List ℕ) where
       → o ≡ clear g (pointIn code (placedIn ss ps os i)) q
   clear-met i ep q eo = eo ∙ ap (λ p. clear g (pointIn code p) q) ep
 
-  pub clear-unmet : (signs : List ℕ) {n i j : ℕ} → SignedTo g code ss ps os n signs → i < n → j < n → {s t : Signature} → s ≡ signatureIn signs i → t ≡ signatureIn signs j
+  pub clear-unmet : (signs : List ℕ) {n i j : ℕ} → SignedTo g code ss ps os n signs → i < n → j < n → {s t : Signature} → s ≡ signatureIn signs i
+      → t ≡ signatureIn signs j
       → {b : Bool} → b ≡ meeting s t → b ≡ false → Done ≡ clear g (pointIn code (placedIn ss ps os i)) (pointIn code (placedIn ss ps os j))
   clear-unmet signs {n} {i} {j} signed hi hj {s} {t} es et eb unmet =
       let p = pointIn code (placedIn ss ps os i) in

@@ -6,7 +6,8 @@ use Prim.Native.Nat.{ℕ}
 use lib.IntN.{ℤ}
 use Rattle.happening_truths.specs.Judged.{stateIn}
 use Rattle.happening_meaning.specs.State.{State, Grounds}
-use Rattle.happening_meaning.specs.Happening.{Point, Step, each, made, changePoints, stays, allMarks, newFacts, Happened, happened, onDone, allowed, happening, spanning}
+use Rattle.happening_meaning.specs.Happening.{Point, Step, each, made, changePoints, stays, allMarks, newFacts, Happened, happened, onDone, allowed, happening}
+use Rattle.happening_meaning.specs.Happening.{spanning}
 use Rattle.happening_meaning.specs.declared.Outcome.{Outcome}
 use Rattle.happening_meaning.specs.declared.Outcome.the-variants.{Done}
 use Rattle.happening_meaning.proofs.Failing.{Fails, fails, unless-done, unless-fails}
@@ -38,11 +39,13 @@ module _ (g : Grounds) (fs : List ℕ) (ns fr : List ℤ) (ps : List Point) (sam
     happen-fails f ek = (rw (← eo, d, ← changed, ← unless-fails c (each (stays g ms) ps) f) (kept c f (stateIn fs ns) _), back ek)
 
     module _ (dc : c ≡ Done) {s : Outcome} (es : s ≡ each (stays g ms) ps) where
-      pub happen-leaves : {k : List ℤ} → Fails s → k ≡ settleAll ns ms (allMarks g ps) → (happened s (stateIn fs ns) ≡ happening g (stateIn fs ns) ps) × (k ≡ ns)
+      pub happen-leaves : {k : List ℤ} → Fails s → k ≡ settleAll ns ms (allMarks g ps) → (happened s (stateIn fs ns) ≡ happening g (stateIn fs ns) ps)
+          × (k ≡ ns)
       unfolding happening
       happen-leaves f ek = (rw (← eo, d, ← changed, ← es, ← unless-done s dc) (kept s f (stateIn fs ns) _), back ek)
 
-      pub happen-done : s ≡ Done → {hs : List ℕ} {k : List ℤ} → hs ≡ newFacts g fs ps → k ≡ settleAll ms ns (allMarks g ps) → (happened Done (stateIn hs k) ≡ happening g (stateIn fs ns) ps) × (ms ≡ k)
+      pub happen-done : s ≡ Done → {hs : List ℕ} {k : List ℤ} → hs ≡ newFacts g fs ps → k ≡ settleAll ms ns (allMarks g ps)
+          → (happened Done (stateIn hs k) ≡ happening g (stateIn fs ns) ps) × (ms ≡ k)
       unfolding happening
       happen-done ds eh ek = (rw (← eo, d, ← changed, ← es, ← unless-done s dc, ds, eh, ← forth ek), forth ek)
 

@@ -24,10 +24,12 @@ pub who-of : (os : List ℕ) (j : ℕ) {a b c d : ℕ} → a ≡ byteAt os (4 * 
 unfolding whoIn
 who-of os j ea eb ec ed = rw (ea, eb, ec, ed)
 
-pub placed-of : (ss ps os : List ℕ) (j : ℕ) {action line rule condition effect time duration : ℕ} {who : Who} → action ≡ getD ps (4 * j + 1) 0 → who ≡ whoIn os j
+pub placed-of : (ss ps os : List ℕ) (j : ℕ) {action line rule condition effect time duration : ℕ} {who : Who} → action ≡ getD ps (4 * j + 1) 0
+    → who ≡ whoIn os j
     → line ≡ getD ps (4 * j) 0 → rule ≡ startIn ss action 0 → condition ≡ startIn ss action 1 → effect ≡ startIn ss action 2 → time ≡ getD ps (4 * j + 2) 0
     → duration ≡ getD ps (4 * j + 3) 0
-    → _≡_ {A = Placed} (record { line = line; rule = rule; condition = condition; effect = effect; time = time; duration = duration; who = who }) (placedIn ss ps os j)
+    → _≡_ {A = Placed} (record { line = line; rule = rule; condition = condition; effect = effect; time = time; duration = duration; who = who })
+    (placedIn ss ps os j)
 unfolding placedIn
 placed-of ss ps os j ea ew el er ec ee et ed = rw (el, er, ec, ee, et, ed, ew, ea)
 

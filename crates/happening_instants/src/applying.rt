@@ -24,7 +24,8 @@ pub fn change_points<'a>(
     n: usize,
 ) -> Outcome
     requires { ⌜ (n ≤ 64) × (length (now code) ≤ 32768) × (now fresh ≡ now old) ⌝ }
-    ensures { λ r. ⌜ made r (now (fresh .exit)) ≡ changePoints (groundsIn (now (firsts .entry))) (now (old .entry)) (now (fresh .entry)) (pointsIn (now (code .entry)) (now (starts .entry)) (now (points .entry)) (now (objects .entry)) n 0) ⌝ }
+    ensures { λ r. ⌜ made r (now (fresh .exit)) ≡ changePoints (groundsIn (now (firsts .entry))) (now (old .entry)) (now (fresh .entry))
+        (pointsIn (now (code .entry)) (now (starts .entry)) (now (points .entry)) (now (objects .entry)) n 0) ⌝ }
 {
     let mut j = 0;
     while j < n {
@@ -50,7 +51,8 @@ pub fn stay_all<'a>(
     n: usize,
 ) -> Outcome
     requires { ⌜ n ≤ 64 ⌝ }
-    ensures { λ r. ⌜ r ≡ each (stays (groundsIn (now (firsts .entry))) (now (fresh .entry))) (pointsIn (now (code .entry)) (now (starts .entry)) (now (points .entry)) (now (objects .entry)) n 0) ⌝ }
+    ensures { λ r. ⌜ r ≡ each (stays (groundsIn (now (firsts .entry))) (now (fresh .entry)))
+        (pointsIn (now (code .entry)) (now (starts .entry)) (now (points .entry)) (now (objects .entry)) n 0) ⌝ }
 {
     let mut j = 0;
     while j < n {
@@ -76,7 +78,10 @@ fn write_points<'a>(
     add: bool,
 ) -> bool
     requires { ⌜ n ≤ 64 ⌝ }
-    ensures { λ r. ⌜ (now (facts .exit) ≡ eachMark (writeFact add) (now (facts .entry)) (allMarks (groundsIn (now (firsts .entry))) (pointsIn (now (code .entry)) (now (starts .entry)) (now (points .entry)) (now (objects .entry)) n 0))) × (r ≡ some adds (allMarks (groundsIn (now (firsts .entry))) (pointsIn (now (code .entry)) (now (starts .entry)) (now (points .entry)) (now (objects .entry)) n 0))) ⌝ }
+    ensures { λ r. ⌜ (now (facts .exit) ≡ eachMark (writeFact add) (now (facts .entry))
+        (allMarks (groundsIn (now (firsts .entry))) (pointsIn (now (code .entry)) (now (starts .entry)) (now (points .entry)) (now (objects .entry)) n
+        0))) × (r ≡ some adds (allMarks (groundsIn (now (firsts .entry)))
+        (pointsIn (now (code .entry)) (now (starts .entry)) (now (points .entry)) (now (objects .entry)) n 0))) ⌝ }
 {
     let mut any = false;
     let mut j = 0;
@@ -100,7 +105,8 @@ pub fn renew_facts<'a>(
     n: usize,
 )
     requires { ⌜ n ≤ 64 ⌝ }
-    ensures { λ _. ⌜ now (facts .exit) ≡ newFacts (groundsIn (now (firsts .entry))) (now (facts .entry)) (pointsIn (now (code .entry)) (now (starts .entry)) (now (points .entry)) (now (objects .entry)) n 0) ⌝ }
+    ensures { λ _. ⌜ now (facts .exit) ≡ newFacts (groundsIn (now (firsts .entry))) (now (facts .entry))
+        (pointsIn (now (code .entry)) (now (starts .entry)) (now (points .entry)) (now (objects .entry)) n 0) ⌝ }
 {
     let more = write_points(code, starts, firsts, facts, points, objects, n, false);
     if more {
@@ -120,7 +126,8 @@ pub fn settle_points<'a>(
     n: usize,
 )
     requires { ⌜ n ≤ 64 ⌝ }
-    ensures { λ _. ⌜ now (target .exit) ≡ settleAll (now (source .entry)) (now (target .entry)) (allMarks (groundsIn (now (firsts .entry))) (pointsIn (now (code .entry)) (now (starts .entry)) (now (points .entry)) (now (objects .entry)) n 0)) ⌝ }
+    ensures { λ _. ⌜ now (target .exit) ≡ settleAll (now (source .entry)) (now (target .entry))
+        (allMarks (groundsIn (now (firsts .entry))) (pointsIn (now (code .entry)) (now (starts .entry)) (now (points .entry)) (now (objects .entry)) n 0)) ⌝ }
 {
     let mut j = 0;
     while j < n {

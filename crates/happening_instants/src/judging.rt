@@ -28,7 +28,8 @@ fn test_all<'a>(
     n: usize,
 ) -> Outcome
     requires { ⌜ n ≤ 64 ⌝ }
-    ensures { λ r. ⌜ r ≡ each (tested (groundsIn (now (firsts .entry))) (stateIn (now (facts .entry)) (now (numbers .entry)))) (pointsIn (now (code .entry)) (now (starts .entry)) (now (points .entry)) (now (objects .entry)) n 0) ⌝ }
+    ensures { λ r. ⌜ r ≡ each (tested (groundsIn (now (firsts .entry))) (stateIn (now (facts .entry)) (now (numbers .entry))))
+        (pointsIn (now (code .entry)) (now (starts .entry)) (now (points .entry)) (now (objects .entry)) n 0) ⌝ }
 {
     let mut j = 0;
     while j < n {
@@ -52,7 +53,8 @@ fn apart_all<'a>(
     n: usize,
 ) -> Outcome
     requires { ⌜ n ≤ 64 ⌝ }
-    ensures { λ r. ⌜ r ≡ each (apart (groundsIn (now (firsts .entry)))) (pointsIn (now (code .entry)) (now (starts .entry)) (now (points .entry)) (now (objects .entry)) n 0) ⌝ }
+    ensures { λ r. ⌜ r ≡ each (apart (groundsIn (now (firsts .entry))))
+        (pointsIn (now (code .entry)) (now (starts .entry)) (now (points .entry)) (now (objects .entry)) n 0) ⌝ }
 {
     let mut j = 0;
     while j < n {
@@ -90,7 +92,8 @@ fn sign_all<'a>(
     signs: &mut [u64; 192],
 )
     requires { ⌜ (n ≤ 64) × (length (now signs) ≡ 192) ⌝ }
-    ensures { λ _. ⌜ SignedTo (groundsIn (now (firsts .entry))) (now (code .entry)) (now (starts .entry)) (now (points .entry)) (now (objects .entry)) n (now (signs .exit)) ⌝ }
+    ensures { λ _. ⌜ SignedTo (groundsIn (now (firsts .entry))) (now (code .entry)) (now (starts .entry)) (now (points .entry)) (now (objects .entry))
+        n (now (signs .exit)) ⌝ }
 {
     let mut j = 0;
     while j < n {
@@ -116,7 +119,9 @@ fn clear_all<'a>(
     signs: &'a [u64; 192],
 ) -> Outcome
     requires { ⌜ (n ≤ 64) × (i < n) × SignedTo (groundsIn (now firsts)) (now code) (now starts) (now points) (now objects) n (now signs) ⌝ }
-    ensures { λ r. ⌜ r ≡ each (clear (groundsIn (now (firsts .entry))) (pointIn (now (code .entry)) (placedIn (now (starts .entry)) (now (points .entry)) (now (objects .entry)) i))) (pointsIn (now (code .entry)) (now (starts .entry)) (now (points .entry)) (now (objects .entry)) (n - (i + 1)) (i + 1)) ⌝ }
+    ensures { λ r. ⌜ r ≡ each (clear (groundsIn (now (firsts .entry)))
+        (pointIn (now (code .entry)) (placedIn (now (starts .entry)) (now (points .entry)) (now (objects .entry)) i)))
+        (pointsIn (now (code .entry)) (now (starts .entry)) (now (points .entry)) (now (objects .entry)) (n - (i + 1)) (i + 1)) ⌝ }
 {
     let s = signature_at(signs, i);
     let mut j = i + 1;
@@ -144,7 +149,8 @@ fn clear_pairs<'a>(
     n: usize,
 ) -> Outcome
     requires { ⌜ n ≤ 64 ⌝ }
-    ensures { λ r. ⌜ r ≡ pairs (groundsIn (now (firsts .entry))) (pointsIn (now (code .entry)) (now (starts .entry)) (now (points .entry)) (now (objects .entry)) n 0) ⌝ }
+    ensures { λ r. ⌜ r ≡ pairs (groundsIn (now (firsts .entry)))
+        (pointsIn (now (code .entry)) (now (starts .entry)) (now (points .entry)) (now (objects .entry)) n 0) ⌝ }
 {
     if n < 2 {
         return Outcome::Done;
@@ -174,7 +180,8 @@ pub fn allow<'a>(
     n: usize,
 ) -> Outcome
     requires { ⌜ n ≤ 64 ⌝ }
-    ensures { λ r. ⌜ r ≡ allowed (groundsIn (now (firsts .entry))) (stateIn (now (facts .entry)) (now (numbers .entry))) (pointsIn (now (code .entry)) (now (starts .entry)) (now (points .entry)) (now (objects .entry)) n 0) ⌝ }
+    ensures { λ r. ⌜ r ≡ allowed (groundsIn (now (firsts .entry))) (stateIn (now (facts .entry)) (now (numbers .entry)))
+        (pointsIn (now (code .entry)) (now (starts .entry)) (now (points .entry)) (now (objects .entry)) n 0) ⌝ }
 {
     let t = test_all(code, starts, firsts, facts, numbers, points, objects, n);
     let Outcome::Done = t else {
@@ -213,7 +220,8 @@ pub fn span_all<'a>(
     n: usize,
 ) -> Outcome
     requires { ⌜ n ≤ 64 ⌝ }
-    ensures { λ r. ⌜ r ≡ spanning (groundsIn (now (firsts .entry))) (stateIn (now (facts .entry)) (now (numbers .entry))) (stepsIn (now (code .entry)) (now (starts .entry)) (now (lines .entry)) (now (objects .entry)) n 0) ⌝ }
+    ensures { λ r. ⌜ r ≡ spanning (groundsIn (now (firsts .entry))) (stateIn (now (facts .entry)) (now (numbers .entry)))
+        (stepsIn (now (code .entry)) (now (starts .entry)) (now (lines .entry)) (now (objects .entry)) n 0) ⌝ }
 {
     let mut j = 0;
     while j < n {

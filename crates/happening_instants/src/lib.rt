@@ -29,7 +29,9 @@ pub fn happen<'a>(
     n: usize,
 ) -> Outcome
     requires { ⌜ (n ≤ 64) × (length (now code) ≤ 32768) × (now fresh ≡ now numbers) ⌝ }
-    ensures { λ r. ⌜ (happened r (stateIn (now (facts .exit)) (now (numbers .exit))) ≡ happening (groundsIn (now (firsts .entry))) (stateIn (now (facts .entry)) (now (numbers .entry))) (pointsIn (now (code .entry)) (now (starts .entry)) (now (points .entry)) (now (objects .entry)) n 0)) × (now (fresh .exit) ≡ now (numbers .exit)) ⌝ }
+    ensures { λ r. ⌜ (happened r (stateIn (now (facts .exit)) (now (numbers .exit))) ≡ happening (groundsIn (now (firsts .entry)))
+        (stateIn (now (facts .entry)) (now (numbers .entry)))
+        (pointsIn (now (code .entry)) (now (starts .entry)) (now (points .entry)) (now (objects .entry)) n 0)) × (now (fresh .exit) ≡ now (numbers .exit)) ⌝ }
 {
     let o = judging::allow(code, starts, firsts, facts, numbers, points, objects, n);
     let Outcome::Done = o else {
@@ -66,7 +68,10 @@ pub fn instant<'a>(
     m: usize,
 ) -> Outcome
     requires { ⌜ (n ≤ 64) × (m ≤ 64) × (length (now code) ≤ 32768) × (now fresh ≡ now numbers) ⌝ }
-    ensures { λ r. ⌜ (happened r (stateIn (now (facts .exit)) (now (numbers .exit))) ≡ instantOf (groundsIn (now (firsts .entry))) (stateIn (now (facts .entry)) (now (numbers .entry))) (pointsIn (now (code .entry)) (now (starts .entry)) (now (points .entry)) (now (objects .entry)) n 0) (stepsIn (now (code .entry)) (now (starts .entry)) (now (lines .entry)) (now (others .entry)) m 0)) × (now (fresh .exit) ≡ now (numbers .exit)) ⌝ }
+    ensures { λ r. ⌜ (happened r (stateIn (now (facts .exit)) (now (numbers .exit))) ≡ instantOf (groundsIn (now (firsts .entry)))
+        (stateIn (now (facts .entry)) (now (numbers .entry)))
+        (pointsIn (now (code .entry)) (now (starts .entry)) (now (points .entry)) (now (objects .entry)) n 0)
+        (stepsIn (now (code .entry)) (now (starts .entry)) (now (lines .entry)) (now (others .entry)) m 0)) × (now (fresh .exit) ≡ now (numbers .exit)) ⌝ }
 {
     let o = happen(
         code,
@@ -87,7 +92,8 @@ pub fn instant<'a>(
 
 // "The last state of all meets the goal."
 pub fn reach<'a>(goal: &'a [u8], firsts: &'a [u16], facts: &'a [u8], numbers: &'a [i64]) -> Outcome
-    ensures { λ r. ⌜ r ≡ reached (groundsIn (now (firsts .entry))) (conditionAt (now (goal .entry)) 0 .tree) (stateIn (now (facts .entry)) (now (numbers .entry))) ⌝ }
+    ensures { λ r. ⌜ r ≡ reached (groundsIn (now (firsts .entry))) (conditionAt (now (goal .entry)) 0 .tree)
+        (stateIn (now (facts .entry)) (now (numbers .entry))) ⌝ }
 {
     let nobody = Who {
         a: 0,

@@ -62,10 +62,12 @@ module _ (g : Grounds) (os : List ℕ) (x : ℕ) (code : List ℕ) (w : When) (p
         pub step-effect : part ≡ v → {e : Noted} → e ≡ notedOf g os x code at tag → noted part tag e ≡ markedAt g os x code w part at
         step-effect s ee =
             rw (ee, et)
-            (sym (marked-effect g os x code w part at (lt-ltb at (length code) h) (ne-eqb part 0 z) (rw et at (sym eb ∙ not-false b t)) (eq-eqb part (order w) (s ∙ ev))))
+            (sym (marked-effect g os x code w part at (lt-ltb at (length code) h) (ne-eqb part 0 z) (rw et at (sym eb ∙ not-false b t))
+            (eq-eqb part (order w) (s ∙ ev))))
 
         pub step-other : (part ≡ v → ⊥) → {n : ℕ} → n ≡ effectAt code at tag .next → bare false part n at ≡ markedAt g os x code w part at
         unfolding notedOf
         step-other s en =
             rw (en, et)
-            (sym (marked-other g os x code w part at (lt-ltb at (length code) h) (ne-eqb part 0 z) (rw et at (sym eb ∙ not-false b t)) (ne-eqb part (order w) (rw ev at s))))
+            (sym (marked-other g os x code w part at (lt-ltb at (length code) h) (ne-eqb part 0 z) (rw et at (sym eb ∙ not-false b t))
+            (ne-eqb part (order w) (rw ev at s))))

@@ -143,17 +143,20 @@ marks-in g os (changes lower r e) = refl
 
 module _ (g : Grounds) (os : List ℕ) (x : ℕ) (code : List ℕ) (w : When) (part at n : ℕ) {m : Marked}
     (s : flatAt (suc n) code w part at ≡ movedOn (λ p i. flatAt n code w p i) (moveAt code w part at)) where
-  marks-way : Way g os x code w part at m → marksOf g os (flatAt (suc n) code w part at) ≡ marksIn (m .mark) ++ marksOf g os (flatAt n code w (m .part) (m .next))
+  marks-way : Way g os x code w part at m → marksOf g os (flatAt (suc n) code w part at) ≡ marksIn (m .mark)
+      ++ marksOf g os (flatAt n code w (m .part) (m .next))
   marks-way (quiet k a b) = rw (s, k, a)
   marks-way (loud k a b c d) = rw (s, k, a, marks-in g os (effectAt code at (byteAt code at) .tree))
 
-  rights-way : Way g os x code w part at m → some (rightReads g os x) (flatAt (suc n) code w part at) ≡ (m .found || some (rightReads g os x) (flatAt n code w (m .part) (m .next)))
+  rights-way : Way g os x code w part at m → some (rightReads g os x) (flatAt (suc n) code w part at) ≡
+      (m .found || some (rightReads g os x) (flatAt n code w (m .part) (m .next)))
   unfolding some
   rights-way (quiet k a b) = rw (s, k, b)
   rights-way (loud k a b c d) = rw (s, k, b)
 
   changes-way : (old : List ℤ) (l : ℕ) (ns : List ℤ) → Way g os x code w part at m
-      → changeAll g old l os ns (flatAt (suc n) code w part at) ≡ onMade (changeStep g old l os ns code m) (λ ms. changeAll g old l os ms (flatAt n code w (m .part) (m .next)))
+      → changeAll g old l os ns (flatAt (suc n) code w part at) ≡ onMade (changeStep g old l os ns code m)
+      (λ ms. changeAll g old l os ms (flatAt n code w (m .part) (m .next)))
   unfolding changeAll changeBy
   changes-way old l ns (quiet k a b) = rw (s, k, a)
   changes-way old l ns (loud k a b c d) = rw (s, k, a, c, d, changed-by g old l os ns code at (byteAt code at))

@@ -59,7 +59,8 @@ pub fn clashes<'a>(
     m: Mark,
     two: bool,
 ) -> bool
-    ensures { λ r. ⌜ r ≡ some (clashOf two m) (marksOf (groundsIn (now (firsts .entry))) (objectsIn who) (flatAt steps (now (code .entry)) (whenOf time) p from)) ⌝ }
+    ensures { λ r. ⌜ r ≡ some (clashOf two m) (marksOf (groundsIn (now (firsts .entry))) (objectsIn who)
+        (flatAt steps (now (code .entry)) (whenOf time) p from)) ⌝ }
 {
     let mut part = p;
     let mut at = from;
@@ -91,7 +92,8 @@ fn clashes_later<'a>(
     steps: usize,
     m: Mark,
 ) -> bool
-    ensures { λ r. ⌜ r ≡ some (collide m) (marksOf (groundsIn (now (firsts .entry))) (objectsIn who) (flatAt steps (now (code .entry)) (whenOf time) part at)) ⌝ }
+    ensures { λ r. ⌜ r ≡ some (collide m) (marksOf (groundsIn (now (firsts .entry))) (objectsIn who)
+        (flatAt steps (now (code .entry)) (whenOf time) part at)) ⌝ }
 {
     let Mark::Number(_, _) = m else {
         return false;
@@ -101,7 +103,8 @@ fn clashes_later<'a>(
 
 // Step 2: whether two effects of one point can't be together.
 pub fn itself_at<'a>(code: &'a [u8], firsts: &'a [u16], who: Who, time: usize, from: usize) -> bool
-    ensures { λ r. ⌜ r ≡ itself (marksOf (groundsIn (now (firsts .entry))) (objectsIn who) (flatAt (length (now (code .entry))) (now (code .entry)) (whenOf time) 0 from)) ⌝ }
+    ensures { λ r. ⌜ r ≡ itself (marksOf (groundsIn (now (firsts .entry))) (objectsIn who)
+        (flatAt (length (now (code .entry))) (now (code .entry)) (whenOf time) 0 from)) ⌝ }
 {
     let mut part = 0;
     let mut at = from;
@@ -131,7 +134,8 @@ pub fn rights_read<'a>(
     from: usize,
     x: usize,
 ) -> bool
-    ensures { λ r. ⌜ r ≡ some (rightReads (groundsIn (now (firsts .entry))) (objectsIn who) x) (flatAt (length (now (code .entry))) (now (code .entry)) (whenOf time) 0 from) ⌝ }
+    ensures { λ r. ⌜ r ≡ some (rightReads (groundsIn (now (firsts .entry))) (objectsIn who) x)
+        (flatAt (length (now (code .entry))) (now (code .entry)) (whenOf time) 0 from) ⌝ }
 {
     let mut part = 0;
     let mut at = from;

@@ -74,13 +74,15 @@ unfolding open-happenings
 swapped = refl
 
 -- a rise and a fall cancel, though the sum leaves the range on the way; a rise alone does not stay
-cancelled : happening ground (numbers most (pos 0)) (does 1 0 0 (changes raise (f 0) (number most) ∷ []) ∷ does 2 0 0 (changes lower (f 0) (number most) ∷ []) ∷ [])
+cancelled : happening ground (numbers most (pos 0)) (does 1 0 0 (changes raise (f 0) (number most) ∷ [])
+    ∷ does 2 0 0 (changes lower (f 0) (number most) ∷ []) ∷ [])
     ≡ happened Done (numbers most (pos 0))
 unfolding open-happenings
 cancelled = refl
 
 -- the lowest line to write a number that ends outside is named, though it lowers it
-risen : happening ground (numbers most (pos 0)) (does 3 0 0 (changes lower (f 0) (number (pos 1)) ∷ []) ∷ does 4 0 0 (changes raise (f 0) (number (pos 2)) ∷ []) ∷ [])
+risen : happening ground (numbers most (pos 0)) (does 3 0 0 (changes lower (f 0) (number (pos 1)) ∷ [])
+    ∷ does 4 0 0 (changes raise (f 0) (number (pos 2)) ∷ []) ∷ [])
     ≡ happened (Range 3) (numbers most (pos 0))
 unfolding open-happenings
 risen = refl
@@ -92,14 +94,16 @@ unknown = refl
 
 -- the first `undefined` or `range` decides: number 0 is given, number 1 is not
 values : map (valueOf ground (most ∷ []) (0 ∷ 1 ∷ []))
-    (plus (value (f 1)) (plus (value (f 0)) (number (pos 1))) ∷ plus (plus (value (f 0)) (number (pos 1))) (value (f 1)) ∷ difference (value (f 1)) (value (f 0)) ∷ [])
+    (plus (value (f 1)) (plus (value (f 0)) (number (pos 1))) ∷ plus (plus (value (f 0)) (number (pos 1))) (value (f 1))
+    ∷ difference (value (f 1)) (value (f 0)) ∷ [])
     ≡ Is.Undefined ∷ Is.Range ∷ Is.Undefined ∷ []
 unfolding open-happenings
 values = refl
 
 -- "Minus of a number is exact over the whole range", at both ends
 ends-of-range : map (valueOf ground [] [])
-    (minus (number most) ∷ minus (number least) ∷ difference (number least) (number (pos 0)) ∷ difference (number least) (number (pos 1)) ∷ plus (number most) (number (pos 1)) ∷ [])
+    (minus (number most) ∷ minus (number least) ∷ difference (number least) (number (pos 0)) ∷ difference (number least) (number (pos 1))
+    ∷ plus (number most) (number (pos 1)) ∷ [])
     ≡ Is.Number least ∷ Is.Number most ∷ Is.Number least ∷ Is.Range ∷ Is.Range ∷ []
 unfolding open-happenings
 ends-of-range = refl

@@ -11,12 +11,17 @@ use Rattle.domain_meaning.proofs.Bench.{bench, two-doses, open-bench}
 use Rattle.happening_meaning.specs.State.{State, Grounds, isTrue, inside, within, defined, numberAt, plusOf, lessOf}
 use Rattle.happening_meaning.specs.Truths.{valueOf, agrees, compared, comparedOf, andThen, truthOf, truthsOf, holdAll}
 use Rattle.happening_meaning.specs.Writes.{some, exprReads, condReads, condsRead, rightReads, markOf, undo, collide, against, itself}
-use Rattle.happening_meaning.specs.Happening.{Step, Point, stepOf, partsFor, joined, unless, each, judged, lasting, tested, apart, ruleReads, readsFact, readsNumber, reads, interfere, clear, pairs, changeOne, changeAll, changePoints, leaves, stays, without, with, eachMark, allMarks, happened, allowed, happening, spans, spanning, reached}
+use Rattle.happening_meaning.specs.Happening.{Step, Point, stepOf, partsFor, joined, unless, each, judged, lasting, tested, apart, ruleReads, readsFact}
+use Rattle.happening_meaning.specs.Happening.{readsNumber, reads, interfere, clear, pairs, changeOne, changeAll, changePoints, leaves, stays, without}
+use Rattle.happening_meaning.specs.Happening.{with, eachMark, allMarks, happened, allowed, happening, spans, spanning, reached}
 use Rattle.happening_meaning.specs.declared.Outcome.the-variants.{Done, Duration, Condition, Undefined, Conflict, Invariant, Goal}
 
 -- on an `unfolding` line this opens all that a happening goes through
 unfoldable pub open-happenings : Unit {0}
-unfolding isTrue inside within defined numberAt plusOf lessOf digits indexIn valueOf agrees compared comparedOf andThen truthOf truthsOf holdAll some exprReads condReads condsRead rightReads markOf undo collide against itself partsFor joined unless each judged lasting tested apart ruleReads readsFact readsNumber reads interfere clear pairs changeOne changeAll changePoints leaves stays without with eachMark allMarks allowed happening spans spanning reached
+unfolding isTrue inside within defined numberAt plusOf lessOf digits indexIn valueOf agrees compared comparedOf andThen truthOf truthsOf holdAll some
+    exprReads condReads condsRead rightReads markOf undo collide against itself partsFor joined unless each judged lasting tested apart ruleReads
+    readsFact readsNumber reads interfere clear pairs changeOne changeAll changePoints leaves stays without with eachMark allMarks allowed happening
+    spans spanning reached
 open-happenings = tt
 
 -- ---- the bench: pumps a and b; `ready` and `on` of each, `lock` and `doses` of each

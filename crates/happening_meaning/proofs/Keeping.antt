@@ -3,7 +3,8 @@ use mathlib.Core.Bool.{Bool, true, false, true≢false}
 use mathlib.Core.List.{List}
 use mathlib.Core.Path.{_≡_, refl}
 use Rattle.happening_meaning.specs.State.{State, Grounds}
-use Rattle.happening_meaning.specs.Happening.{Point, isDone, unless, each, Made, changePoints, stays, newFacts, Happened, happened, onDone, applied, allowed, happening}
+use Rattle.happening_meaning.specs.Happening.{Point, isDone, unless, each, Made, changePoints, stays, newFacts, Happened, happened, onDone, applied}
+use Rattle.happening_meaning.specs.Happening.{allowed, happening}
 use Rattle.happening_meaning.specs.declared.Outcome.{Outcome}
 use Rattle.happening_meaning.specs.declared.Outcome.the-variants.{Done}
 
@@ -19,7 +20,8 @@ kept o s h k = go (isDone o) refl
 
 pub happening-kept : (g : Grounds) (s : State) (ps : List Point) → isDone (happening g s ps .outcome) ≡ false → happening g s ps .state ≡ s
 unfolding happening
-happening-kept g s ps = kept (allowed g s ps) s (applied g s ps m) (kept (unless (m .outcome) (each (stays g (m .numbers)) ps)) s (happened Done new) (λ e. absurd (true≢false e)))
+happening-kept g s ps = kept (allowed g s ps) s (applied g s ps m)
+    (kept (unless (m .outcome) (each (stays g (m .numbers)) ps)) s (happened Done new) (λ e. absurd (true≢false e)))
   where
     m : Made
     m = changePoints g (s .numbers) (s .numbers) ps

@@ -9,7 +9,8 @@ use Rattle.domain_meaning.specs.Actions.{When}
 use Rattle.domain_stored_meaning.specs.Decode.{whenOf}
 use Rattle.happening_meaning.specs.State.{Grounds}
 use Rattle.happening_meaning.specs.Writes.{some, condReads, rightReads, marksOf, undo, collide, against}
-use Rattle.happening_meaning.specs.Happening.{Point, lineOf, objectsOf, conditionsOf, effectsOf, ruleOf, ruleReads, readsFact, readsNumber, reads, marks, interfere, clear}
+use Rattle.happening_meaning.specs.Happening.{Point, lineOf, objectsOf, conditionsOf, effectsOf, ruleOf, ruleReads, readsFact, readsNumber, reads, marks}
+use Rattle.happening_meaning.specs.Happening.{interfere, clear}
 use Rattle.happening_meaning.specs.declared.Mark.{Mark}
 use Rattle.happening_meaning.specs.declared.Mark.the-variants.{Nothing, Fact, Number}
 use Rattle.happening_meaning.specs.declared.Outcome.the-variants.{Done, Conflict}
@@ -40,7 +41,8 @@ module _ (g : Grounds) (p : Point) (x : ℕ) {a : Bool} (ea : a ≡ some (condRe
     number-in-right h ec = rw (← ea, n, ← eb, h, ec)
 
 pub rights-flat : (g : Grounds) (code : List ℕ) (p : Placed) (x : ℕ)
-    → some (rightReads g (objectsIn (p .who)) x) (flatAt (length code) code (whenOf (p .time)) 0 (p .effect)) ≡ some (rightReads g (objectsIn (p .who)) x) (effectsOf (pointIn code p))
+    → some (rightReads g (objectsIn (p .who)) x) (flatAt (length code) code (whenOf (p .time)) 0 (p .effect)) ≡ some
+    (rightReads g (objectsIn (p .who)) x) (effectsOf (pointIn code p))
 rights-flat g code p x = sym (ap (some (rightReads g (objectsIn (p .who)) x)) (flat-parts code (whenOf (p .time)) (p .effect)))
 
 module _ (g : Grounds) (p : Point) {m : Mark} where
@@ -74,8 +76,10 @@ nothing-against [] = refl
 nothing-against (k ∷ ks) = nothing-against ks
 
 pub clash-marks : (g : Grounds) (code : List ℕ) (q : Placed) (m : Mark) {b : Bool}
-    → b ≡ some (clashOf true m) (marksOf g (objectsIn (q .who)) (flatAt (length code) code (whenOf (q .time)) 0 (q .effect))) → b ≡ some (against m) (marks g (pointIn code q))
-clash-marks g code q m e = e ∙ clash-against m (marksOf g (objectsIn (q .who)) (flatAt (length code) code (whenOf (q .time)) 0 (q .effect))) ∙ ap (some (against m)) (marks-flat g code q)
+    → b ≡ some (clashOf true m) (marksOf g (objectsIn (q .who)) (flatAt (length code) code (whenOf (q .time)) 0 (q .effect)))
+    → b ≡ some (against m) (marks g (pointIn code q))
+clash-marks g code q m e = e ∙ clash-against m (marksOf g (objectsIn (q .who)) (flatAt (length code) code (whenOf (q .time)) 0 (q .effect)))
+    ∙ ap (some (against m)) (marks-flat g code q)
 
 -- ---- a search among the effects, step by step
 

@@ -73,7 +73,8 @@ module _ (code : List ℕ) (time at : ℕ) where
     unfolding whenOf lastingAt
     rule-none h t z = simp (eq-eqb time 1 s, lt-ltb at (length code) h, ← t, z)
 
-    pub rule-some : at < length code → {tag : ℕ} → tag ≡ byteAt code at → (tag ≡ 0 → ⊥) → ruleAt (whenOf time) (lastingAt code at .tree) ≡ rule (exprAt 16 code (at + 1) .tree)
+    pub rule-some : at < length code → {tag : ℕ} → tag ≡ byteAt code at → (tag ≡ 0 → ⊥)
+        → ruleAt (whenOf time) (lastingAt code at .tree) ≡ rule (exprAt 16 code (at + 1) .tree)
     unfolding whenOf lastingAt
     rule-some h {tag} t n = simp (eq-eqb time 1 s, lt-ltb at (length code) h, ← t, ne-eqb tag 0 n)
 
@@ -84,7 +85,8 @@ module _ (g : Grounds) (p : Point) where
   unfolding lasting
   lasting-none ns e = rw e
 
-  pub lasting-rule : (ns : List ℤ) (code : List ℕ) (at : ℕ) {v : Valued} {o : Outcome} → ruleOf p ≡ rule (exprAt 16 code at .tree) → v ≡ valuedOf g ns (objectsOf p) (exprAt 16 code at)
+  pub lasting-rule : (ns : List ℤ) (code : List ℕ) (at : ℕ) {v : Valued} {o : Outcome} → ruleOf p ≡ rule (exprAt 16 code at .tree)
+      → v ≡ valuedOf g ns (objectsOf p) (exprAt 16 code at)
       → o ≡ lasts (lineOf p) (p .step .duration) (v .value) → o ≡ lasting g ns p (ruleOf p)
   unfolding lasting valuedOf
   lasting-rule ns code at e v o = rw (e, o, v)
@@ -94,6 +96,7 @@ module _ (g : Grounds) (os : List ℕ) (x : ℕ) {l : Lasting} where
   unfolding ruleReads
   reads-none e = rw e
 
-  pub reads-rule : (code : List ℕ) (at : ℕ) {f : Found} → l ≡ rule (exprAt 16 code at .tree) → f ≡ exprFound g os x (exprAt 16 code at) → f .found ≡ ruleReads g os x l
+  pub reads-rule : (code : List ℕ) (at : ℕ) {f : Found} → l ≡ rule (exprAt 16 code at .tree) → f ≡ exprFound g os x (exprAt 16 code at)
+      → f .found ≡ ruleReads g os x l
   unfolding ruleReads exprFound
   reads-rule code at e f = rw (e, f)

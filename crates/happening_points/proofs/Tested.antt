@@ -43,7 +43,8 @@ module _ (g : Grounds) (s : State) (p : Point) {o : Outcome} (eo : o ≡ lasting
   test-fails f = unless-fails o (judged (Condition (lineOf p)) (lineOf p) (holdAll g s (objectsOf p) (conditionsOf p))) f
       ∙ ap (λ i. unless i (judged (Condition (lineOf p)) (lineOf p) (holdAll g s (objectsOf p) (conditionsOf p)))) eo
 
-  pub test-judges : o ≡ Done → {t : Truth} {r : Outcome} → t ≡ holdAll g s (objectsOf p) (conditionsOf p) → r ≡ judged (Condition (lineOf p)) (lineOf p) t → r ≡ tested g s p
+  pub test-judges : o ≡ Done → {t : Truth} {r : Outcome} → t ≡ holdAll g s (objectsOf p) (conditionsOf p)
+      → r ≡ judged (Condition (lineOf p)) (lineOf p) t → r ≡ tested g s p
   unfolding tested unless
   test-judges d et er = rw (← eo, d, ← et, er)
 

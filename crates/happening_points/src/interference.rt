@@ -57,7 +57,8 @@ fn reads_mark<'a>(code: &'a [u8], firsts: &'a [u16], p: Placed, m: Mark) -> bool
 
 // Whether p reads something that q writes.
 fn reads_any<'a>(code: &'a [u8], firsts: &'a [u16], p: Placed, q: Placed) -> bool
-    ensures { λ r. ⌜ r ≡ some (Happens.reads (groundsIn (now (firsts .entry))) (pointIn (now (code .entry)) p)) (marks (groundsIn (now (firsts .entry))) (pointIn (now (code .entry)) q)) ⌝ }
+    ensures { λ r. ⌜ r ≡ some (Happens.reads (groundsIn (now (firsts .entry))) (pointIn (now (code .entry)) p))
+        (marks (groundsIn (now (firsts .entry))) (pointIn (now (code .entry)) q)) ⌝ }
 {
     let who = q.who;
     let mut part = 0;
@@ -81,7 +82,8 @@ fn reads_any<'a>(code: &'a [u8], firsts: &'a [u16], p: Placed, q: Placed) -> boo
 
 // Whether an effect of p can't be together with one of q.
 fn clash_any<'a>(code: &'a [u8], firsts: &'a [u16], p: Placed, q: Placed) -> bool
-    ensures { λ r. ⌜ r ≡ some (λ m. some (against m) (marks (groundsIn (now (firsts .entry))) (pointIn (now (code .entry)) q))) (marks (groundsIn (now (firsts .entry))) (pointIn (now (code .entry)) p)) ⌝ }
+    ensures { λ r. ⌜ r ≡ some (λ m. some (against m) (marks (groundsIn (now (firsts .entry))) (pointIn (now (code .entry)) q)))
+        (marks (groundsIn (now (firsts .entry))) (pointIn (now (code .entry)) p)) ⌝ }
 {
     let who = p.who;
     let other = q.who;

@@ -53,7 +53,8 @@ fn compare_duration(line: usize, duration: usize, v: Value) -> Outcome
 
 // "for a start, the duration rule"
 fn test_rule<'a>(code: &'a [u8], firsts: &'a [u16], numbers: &'a [i64], p: Placed) -> Outcome
-    ensures { λ r. ⌜ r ≡ lasting (groundsIn (now (firsts .entry))) (now (numbers .entry)) (pointIn (now (code .entry)) p) (ruleOf (pointIn (now (code .entry)) p)) ⌝ }
+    ensures { λ r. ⌜ r ≡ lasting (groundsIn (now (firsts .entry))) (now (numbers .entry)) (pointIn (now (code .entry)) p)
+        (ruleOf (pointIn (now (code .entry)) p)) ⌝ }
 {
     if p.time != 1 {
         return Outcome::Done;

@@ -51,26 +51,43 @@ module _ (g : Grounds) (os : List ℕ) (numeric : Bool) (x : ℕ) (code : List �
     pub single-high : 22 ≤ tag → no (at + 1) ≡ condFound g os numeric x (singleAt code at tag)
     unfolding condFound condReads condsRead singleAt
     single-high h =
-        simp (le-ltb tag 2 (omega arith), le-ltb tag 4 (omega arith), le-ltb tag 8 (omega arith), le-ltb tag 12 (omega arith), le-ltb tag 17 (omega arith), le-ltb tag 22 h)
+        simp (
+          le-ltb tag 2 (omega arith),
+          le-ltb tag 4 (omega arith),
+          le-ltb tag 8 (omega arith),
+          le-ltb tag 12 (omega arith),
+          le-ltb tag 17 (omega arith),
+          le-ltb tag 22 h,
+        )
 
     module _ {r : Found} where
       pub single-atom : 4 ≤ tag → tag < 8 → r ≡ condFound g os numeric x (atomAt code at true (tag - 4)) → r ≡ condFound g os numeric x (singleAt code at tag)
       unfolding singleAt
       single-atom l h r = rw (le-ltb tag 2 (omega arith), le-ltb tag 4 l, lt-ltb tag 8 h) r
 
-      pub single-no-atom : 8 ≤ tag → tag < 12 → r ≡ condFound g os numeric x (atomAt code at false (tag - 8)) → r ≡ condFound g os numeric x (singleAt code at tag)
+      pub single-no-atom : 8 ≤ tag → tag < 12 → r ≡ condFound g os numeric x (atomAt code at false (tag - 8))
+          → r ≡ condFound g os numeric x (singleAt code at tag)
       unfolding singleAt
       single-no-atom l h r = rw (le-ltb tag 2 (omega arith), le-ltb tag 4 (omega arith), le-ltb tag 8 l, lt-ltb tag 12 h) r
 
-      pub single-compare : 12 ≤ tag → tag < 17 → r ≡ condFound g os numeric x (compareAt code at true (tag - 12)) → r ≡ condFound g os numeric x (singleAt code at tag)
+      pub single-compare : 12 ≤ tag → tag < 17 → r ≡ condFound g os numeric x (compareAt code at true (tag - 12))
+          → r ≡ condFound g os numeric x (singleAt code at tag)
       unfolding singleAt
       single-compare l h r =
           rw (le-ltb tag 2 (omega arith), le-ltb tag 4 (omega arith), le-ltb tag 8 (omega arith), le-ltb tag 12 l, lt-ltb tag 17 h) r
 
-      pub single-no-compare : 17 ≤ tag → tag < 22 → r ≡ condFound g os numeric x (compareAt code at false (tag - 17)) → r ≡ condFound g os numeric x (singleAt code at tag)
+      pub single-no-compare : 17 ≤ tag → tag < 22 → r ≡ condFound g os numeric x (compareAt code at false (tag - 17))
+          → r ≡ condFound g os numeric x (singleAt code at tag)
       unfolding singleAt
       single-no-compare l h r =
-          rw (le-ltb tag 2 (omega arith), le-ltb tag 4 (omega arith), le-ltb tag 8 (omega arith), le-ltb tag 12 (omega arith), le-ltb tag 17 l, lt-ltb tag 22 h) r
+          rw (
+            le-ltb tag 2 (omega arith),
+            le-ltb tag 4 (omega arith),
+            le-ltb tag 8 (omega arith),
+            le-ltb tag 12 (omega arith),
+            le-ltb tag 17 l,
+            lt-ltb tag 22 h,
+          ) r
 
   pub cond-zero : (d : ℕ) → d ≡ 0 → no at ≡ condFound g os numeric x (condAt d code at)
   unfolding condFound condReads condsRead condAt

@@ -156,7 +156,8 @@ fn conds_read<'a>(
     numeric: bool,
     x: usize,
 ) -> Found
-    ensures { λ r. ⌜ r ≡ condsFound (groundsIn (now (firsts .entry))) (objectsIn who) numeric x (condsAt (condAt depth (now (code .entry))) (length (now (code .entry))) (now (code .entry)) at) ⌝ }
+    ensures { λ r. ⌜ r ≡ condsFound (groundsIn (now (firsts .entry))) (objectsIn who) numeric x
+        (condsAt (condAt depth (now (code .entry))) (length (now (code .entry))) (now (code .entry)) at) ⌝ }
 {
     let mut found = false;
     let mut i = at;
@@ -195,7 +196,8 @@ pub fn read<'a>(
     numeric: bool,
     x: usize,
 ) -> bool
-    ensures { λ r. ⌜ r ≡ some (condReads (groundsIn (now (firsts .entry))) (objectsIn who) numeric x) (partsFor (whenOf time) (conditionsAt (now (code .entry)) at .tree)) ⌝ }
+    ensures { λ r. ⌜ r ≡ some (condReads (groundsIn (now (firsts .entry))) (objectsIn who) numeric x)
+        (partsFor (whenOf time) (conditionsAt (now (code .entry)) at .tree)) ⌝ }
 {
     let wanted = happening_grounds::time_of(time);
     let mut found = false;

@@ -46,7 +46,8 @@ signature r a b = record { reads = r; one = a; other = b }
 both-of : (a b : Bool) → a ≡ true → b ≡ true → (a && b) ≡ true
 both-of a b h k = rw (h, k)
 
-module _ (s r : Signature) (one : (x : ℕ) → has (s .one) x ≡ true → has (r .one) x ≡ true) (other : (x : ℕ) → has (s .other) x ≡ true → has (r .other) x ≡ true) where
+module _ (s r : Signature) (one : (x : ℕ) → has (s .one) x ≡ true → has (r .one) x ≡ true)
+    (other : (x : ℕ) → has (s .other) x ≡ true → has (r .other) x ≡ true) where
   still-shown : (k : Mark) → shows s k ≡ true → shows r k ≡ true
   unfolding shows
   still-shown Nothing h = refl
@@ -118,7 +119,8 @@ module _ (g : Grounds) (os : List ℕ) (m : Mark) (d : Decoded Expr) where
 
 module _ (g : Grounds) (os : List ℕ) (x : ℕ) (code : List ℕ) (at tag : ℕ) where
   abbrev Same : Type 0
-  Same = rightReads g os x (effectAt code at tag .tree) ≡ readsRight g os x (markOf g os (effectAt code at tag .tree)) (expressionAt code (at + 2 + shapeOf tag .k) .tree)
+  Same = rightReads g os x (effectAt code at tag .tree) ≡ readsRight g os x (markOf g os (effectAt code at tag .tree))
+      (expressionAt code (at + 2 + shapeOf tag .k) .tree)
 
   right-8 : ltb tag 8 ≡ true → Same
   unfolding effectAt rightReads readsRight markOf
@@ -177,7 +179,16 @@ module _ (g : Grounds) (os : List ℕ) (x y : ℕ) (code : List ℕ) (w : When) 
           (ap (λ (r : Bool). seeing r (markedAs (effectAt code at (byteAt code at)))) (sym (right-by g os x code at (byteAt code at))))
         where
           markedAs : Decoded Effect → Marked
-          markedAs d = record { ended = false; part = part; next = d .next; mark = markOf g os (d .tree); found = false; right = at + 2 + shapeOf (byteAt code at) .k; tag = byteAt code at }
+          markedAs d = record {
+            ended = false;
+            part = part;
+            next = d .next;
+            mark = markOf g os (d .tree);
+            found = false;
+            right =
+                at + 2 + shapeOf (byteAt code at) .k;
+            tag = byteAt code at;
+          }
 
       alike-in : (b s : Bool) → begins (byteAt code at) ≡ b → eqb part (order w) ≡ s → Alike
       alike-in true true b s = alike-effect b s
@@ -231,7 +242,8 @@ module _ (g : Grounds) (os : List ℕ) (code : List ℕ) (w : When) (from reads 
     ends e =
         record {
           written = so .written s (λ k h. h) (rw e);
-          rights = λ x h. one-of (has (s .reads) x) (some (rightReads g os x) (flatAt left code w part at)) (λ k. k) (λ k. absurd (false≢true (rw e at k))) (so .rights x h);
+          rights = λ x h. one-of (has (s .reads) x) (some (rightReads g os x) (flatAt left code w part at)) (λ k. k)
+              (λ k. absurd (false≢true (rw e at k))) (so .rights x h);
           kept = so .kept;
         }
 
@@ -266,7 +278,8 @@ module _ (g : Grounds) (os : List ℕ) (code : List ℕ) (w : When) (from reads 
             record {
               written = λ t e k. so .written t (λ n i. e n (a .kept n i))
                   (subst (λ (ms : List Mark). showsAll t ms ≡ true) (sym marks-step) (shows-in t (m .mark) (marksOf g os rest) (e (m .mark) (a .written)) k));
-              rights = λ x k. either-way x (has (s .reads) x) (readsRight g os x (m .mark) (expressionAt code (m .right) .tree)) (a .reads x) (λ i. a .rights x (er x i))
+              rights = λ x k. either-way x (has (s .reads) x) (readsRight g os x (m .mark) (expressionAt code (m .right) .tree)) (a .reads x)
+                  (λ i. a .rights x (er x i))
                   (subst (λ (b : Bool). (has (s .reads) x || b) ≡ true) (rights-step x) (so .rights x k));
               kept = λ x k. a .reads x (so .kept x k);
             }
@@ -296,9 +309,11 @@ module _ (g : Grounds) (code : List ℕ) (p : Placed) where
   signed c u {r} ec eu e =
       record {
         facts = λ x h. e .kept x (has-first c u x (ec false x h));
-        numbers = λ x h. one-of (some (condReads g (objectsIn (p .who)) true x) (conditionsOf (pointIn code p)) || ruleReads g (objectsIn (p .who)) x (ruleOf (pointIn code p)))
+        numbers = λ x h. one-of (some (condReads g (objectsIn (p .who)) true x) (conditionsOf (pointIn code p))
+            || ruleReads g (objectsIn (p .who)) x (ruleOf (pointIn code p)))
             (some (rightReads g (objectsIn (p .who)) x) (effectsOf (pointIn code p)))
-            (λ k. one-of (some (condReads g (objectsIn (p .who)) true x) (conditionsOf (pointIn code p))) (ruleReads g (objectsIn (p .who)) x (ruleOf (pointIn code p)))
+            (λ k. one-of (some (condReads g (objectsIn (p .who)) true x) (conditionsOf (pointIn code p)))
+            (ruleReads g (objectsIn (p .who)) x (ruleOf (pointIn code p)))
             (λ i. e .kept x (has-first c u x (ec true x i))) (λ i. e .kept x (has-second c u x (eu x i))) k)
             (λ k. e .rights x (rights-flat g code p x ∙ k)) h;
         written = subst (λ (ms : List Mark). showsAll r ms ≡ true) (marks-flat g code p) (e .written);

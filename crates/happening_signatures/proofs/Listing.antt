@@ -14,7 +14,8 @@ use Rattle.happening_meaning.specs.Writes.{condReads}
 use Rattle.happening_meaning.specs.Happening.{order}
 use Rattle.happening_values.specs.declared.reads.Found.{Found}
 use Rattle.happening_reads.specs.Read.{condFound, condsFound}
-use Rattle.happening_reads.proofs.Lists.{Onward, onward-start, onward-none, onward-out, onward-last, onward-turn, reading, Onwards, onwards-start, onwards-none, onwards-out, onwards-last, onwards-counts, onwards-passes}
+use Rattle.happening_reads.proofs.Lists.{Onward, onward-start, onward-none, onward-out, onward-last, onward-turn, reading, Onwards, onwards-start, onwards-none}
+use Rattle.happening_reads.proofs.Lists.{onwards-out, onwards-last, onwards-counts, onwards-passes}
 use Rattle.happening_signatures.specs.Signs.{has}
 use Rattle.happening_signatures.specs.Shown.{CondBits, CondsBits}
 use Rattle.happening_signatures.specs.declared.reading.Bits.{Bits}
@@ -64,8 +65,10 @@ module _ (g : Grounds) (os : List ℕ) (f : ℕ → Decoded Cond) (code : List �
           record {
             found = so numeric x .found || condReads g os numeric x (f i .tree);
             shown = has-either (so numeric x .found) (condReads g os numeric x (f i .tree)) bits (v .bits) x (so numeric x .shown) (e .shown numeric x);
-            leads = subst (λ (n : ℕ). Onward g os numeric x f code at (so numeric x .found || condReads g os numeric x (f i .tree)) n (left - 1)) (sym (e .after))
-                (onward-turn g os numeric x f code at i left l h t {a = condFound g os numeric x (f i)} (so numeric x .found) z refl refl (so numeric x .leads));
+            leads = subst (λ (n : ℕ). Onward g os numeric x f code at (so numeric x .found || condReads g os numeric x (f i .tree)) n (left - 1))
+                (sym (e .after))
+                (onward-turn g os numeric x f code at i left l h t {a = condFound g os numeric x (f i)} (so numeric x .found) z refl refl
+                (so numeric x .leads));
           }
 
 -- ---- the parts for a time
@@ -98,8 +101,10 @@ module _ (g : Grounds) (os : List ℕ) (w : When) (f : ℕ → Decoded Cond) (co
             record {
               found = so numeric x .found || condReads g os numeric x (f (i + 1) .tree);
               shown = has-either (so numeric x .found) (condReads g os numeric x (f (i + 1) .tree)) bits (v .bits) x (so numeric x .shown) (e .shown numeric x);
-              leads = subst (λ (n : ℕ). Onwards g os numeric x w f code at (so numeric x .found || condReads g os numeric x (f (i + 1) .tree)) n (left - 1)) (sym (e .after))
-                  (onwards-counts g os numeric x w f code at i left l h t z eb ec (so numeric x .found) q {a = condFound g os numeric x (f (i + 1))} refl refl (so numeric x .leads));
+              leads = subst (λ (n : ℕ). Onwards g os numeric x w f code at (so numeric x .found || condReads g os numeric x (f (i + 1) .tree)) n
+                  (left - 1)) (sym (e .after))
+                  (onwards-counts g os numeric x w f code at i left l h t z eb ec (so numeric x .found) q {a = condFound g os numeric x (f (i + 1))}
+                  refl refl (so numeric x .leads));
             }
 
         pub through-passes : (b ≡ c → ⊥) → {m : ℕ} → m ≡ f (i + 1) .next → Through bits m (left - 1)

@@ -50,7 +50,8 @@ module _ (g : Grounds) (os : List ℕ) where
     unfolding exprReads
     bits-minus e s r = rw s (record { after = r .after; shown = r .shown })
 
-    pub bits-two : (t : Bool) (e : Decoded Expr) (f : ℕ → Decoded Expr) {a b : Bits} → d ≡ both (twoOf t) e f → ExprBits g os e a → ExprBits g os (f (a .next)) b
+    pub bits-two : (t : Bool) (e : Decoded Expr) (f : ℕ → Decoded Expr) {a b : Bits} → d ≡ both (twoOf t) e f → ExprBits g os e a
+        → ExprBits g os (f (a .next)) b
         → ExprBits g os d (bitsTo (bitOr (a .bits) (b .bits)) (b .next))
     bits-two t e f {a} {b} s ea eb =
         let eb′ = subst (λ (n : ℕ). ExprBits g os (f n) b) (ea .after) eb in
@@ -70,7 +71,8 @@ sides-show false u v a b x f k h = absurd (false≢true h)
 
 module _ (g : Grounds) (os : List ℕ) where
   module _ (code : List ℕ) (at : ℕ) where
-    pub bits-atom : (s : Bool) (k : ℕ) {i b : ℕ} → i ≡ factOf g os (refAt code (at + 1) k) → b ≡ bitOf i → CondBits g os (atomAt code at s k) (bitsTo b (at + 2 + k))
+    pub bits-atom : (s : Bool) (k : ℕ) {i b : ℕ} → i ≡ factOf g os (refAt code (at + 1) k) → b ≡ bitOf i
+        → CondBits g os (atomAt code at s k) (bitsTo b (at + 2 + k))
     unfolding condReads atomAt
     bits-atom s k e f = rw (f, e) (record { after = refl; shown = λ numeric x h. fact-shows numeric (factOf g os (refAt code (at + 1) k)) x h })
 
@@ -81,7 +83,8 @@ module _ (g : Grounds) (os : List ℕ) where
         let eb′ = subst (λ (n : ℕ). ExprBits g os (exprAt 16 code n) b) (ea .after) eb in
         record {
           after = eb′ .after;
-          shown = λ numeric x h. sides-show numeric (exprReads g os x (exprAt 16 code (at + 1) .tree)) (exprReads g os x (exprAt 16 code (exprAt 16 code (at + 1) .next) .tree)) (a .bits) (b .bits) x (ea .shown x) (eb′ .shown x) h;
+          shown = λ numeric x h. sides-show numeric (exprReads g os x (exprAt 16 code (at + 1) .tree))
+              (exprReads g os x (exprAt 16 code (exprAt 16 code (at + 1) .next) .tree)) (a .bits) (b .bits) x (ea .shown x) (eb′ .shown x) h;
         }
 
   module _ {d : Decoded Cond} {r : Bits} where
@@ -96,7 +99,8 @@ module _ (g : Grounds) (os : List ℕ) where
         })
 
     -- it is read as another one is
-    pub bits-as : (e : Decoded Cond) → ((numeric : Bool) (x : ℕ) → condFound g os numeric x e ≡ condFound g os numeric x d) → CondBits g os e r → CondBits g os d r
+    pub bits-as : (e : Decoded Cond) → ((numeric : Bool) (x : ℕ) → condFound g os numeric x e ≡ condFound g os numeric x d) → CondBits g os e r
+        → CondBits g os d r
     unfolding condFound
     bits-as e q b =
         record {
@@ -105,7 +109,8 @@ module _ (g : Grounds) (os : List ℕ) where
         }
 
     -- or as a list is
-    pub bits-all : (e : Decoded Conds) → ((numeric : Bool) (x : ℕ) → condsFound g os numeric x e ≡ condFound g os numeric x d) → CondsBits g os e r → CondBits g os d r
+    pub bits-all : (e : Decoded Conds) → ((numeric : Bool) (x : ℕ) → condsFound g os numeric x e ≡ condFound g os numeric x d) → CondsBits g os e r
+        → CondBits g os d r
     unfolding condFound condsFound
     bits-all e q b =
         record {

@@ -1,4 +1,5 @@
--- A signature of a point: 64 bits of what it reads and 64 twice of what it writes. A fact or a number has the bit of its index, so a bit may stand for several; but what is read or written is never left out.
+-- A signature of a point: 64 bits of what it reads and 64 twice of what it writes. A fact or a number has the bit of its index, so a bit may stand
+-- for several; but what is read or written is never left out.
 use Prim.Native.Nat.{ℕ, _^_, _/_, _%_}
 use mathlib.Core.Path.{_≡_}
 use mathlib.Core.List.{List, [], _∷_}
@@ -19,7 +20,8 @@ bitOf x = 2 ^ (x % 64)
 unfoldable pub has : ℕ → ℕ → Bool
 has bits x = eqb (bits / 2 ^ (x % 64) % 2) 1
 
--- What is written goes into two sets, `one` and `other`, so that two effects which can't be together meet across them: what is added into one, what is deleted into the other; a number into one, and if it is
+-- What is written goes into two sets, `one` and `other`, so that two effects which can't be together meet across them: what is added into one, what
+-- is deleted into the other; a number into one, and if it is
 -- assigned into both. Numbers that are only raised or lowered, or facts that are only added, don't meet.
 unfoldable pub shows : Signature → Mark → Bool
 shows s M.Nothing = true

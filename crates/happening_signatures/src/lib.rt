@@ -71,7 +71,8 @@ fn with_mark(s: Signature, m: Mark, right: u64) -> Signature
 
 // What the right side at a place reads, of an effect on a number.
 fn right_bits<'a>(code: &'a [u8], firsts: &'a [u16], who: Who, m: Mark, right: usize) -> u64
-    ensures { λ r. ⌜ ((x : ℕ) → readsRight (groundsIn (now (firsts .entry))) (objectsIn who) x m (expressionAt (now (code .entry)) right .tree) ≡ true → has r x ≡ true) ⌝ }
+    ensures { λ r. ⌜ ((x : ℕ) → readsRight (groundsIn (now (firsts .entry))) (objectsIn who) x m (expressionAt (now (code .entry)) right .tree) ≡ true
+        → has r x ≡ true) ⌝ }
 {
     let Mark::Number(_, _) = m else {
         return 0;
@@ -89,7 +90,8 @@ fn with_effects<'a>(
     from: usize,
     reads: u64,
 ) -> Signature
-    ensures { λ r. ⌜ Gathered (groundsIn (now (firsts .entry))) (objectsIn who) (flatAt (length (now (code .entry))) (now (code .entry)) (whenOf time) 0 from) reads r ⌝ }
+    ensures { λ r. ⌜ Gathered (groundsIn (now (firsts .entry))) (objectsIn who)
+        (flatAt (length (now (code .entry))) (now (code .entry)) (whenOf time) 0 from) reads r ⌝ }
 {
     let mut s = Signature {
         reads,
@@ -116,7 +118,8 @@ fn with_effects<'a>(
 
 // What the duration rule reads, at a start.
 fn rule_bits<'a>(code: &'a [u8], firsts: &'a [u16], p: Placed) -> u64
-    ensures { λ r. ⌜ ((x : ℕ) → ruleReads (groundsIn (now (firsts .entry))) (objectsIn (p .who)) x (ruleOf (pointIn (now (code .entry)) p)) ≡ true → has r x ≡ true) ⌝ }
+    ensures { λ r. ⌜ ((x : ℕ) → ruleReads (groundsIn (now (firsts .entry))) (objectsIn (p .who)) x (ruleOf (pointIn (now (code .entry)) p)) ≡ true
+        → has r x ≡ true) ⌝ }
 {
     if p.time != 1 {
         return 0;

@@ -156,7 +156,8 @@ fn cond_bits<'a>(code: &'a [u8], firsts: &'a [u16], who: Who, at: usize, depth: 
 
 // The conditions from a place on, up to a 0.
 fn conds_bits<'a>(code: &'a [u8], firsts: &'a [u16], who: Who, at: usize, depth: usize) -> Bits
-    ensures { λ r. ⌜ CondsBits (groundsIn (now (firsts .entry))) (objectsIn who) (condsAt (condAt depth (now (code .entry))) (length (now (code .entry))) (now (code .entry)) at) r ⌝ }
+    ensures { λ r. ⌜ CondsBits (groundsIn (now (firsts .entry))) (objectsIn who)
+        (condsAt (condAt depth (now (code .entry))) (length (now (code .entry))) (now (code .entry)) at) r ⌝ }
 {
     let mut bits = 0;
     let mut i = at;
@@ -178,7 +179,8 @@ fn conds_bits<'a>(code: &'a [u8], firsts: &'a [u16], who: Who, at: usize, depth:
 
 // The conditions for a time, among the parts from a place on.
 pub fn parts_bits<'a>(code: &'a [u8], firsts: &'a [u16], who: Who, at: usize, time: usize) -> u64
-    ensures { λ r. ⌜ ((numeric : Bool) (x : ℕ) → some (condReads (groundsIn (now (firsts .entry))) (objectsIn who) numeric x) (partsFor (whenOf time) (conditionsAt (now (code .entry)) at .tree)) ≡ true → has r x ≡ true) ⌝ }
+    ensures { λ r. ⌜ ((numeric : Bool) (x : ℕ) → some (condReads (groundsIn (now (firsts .entry))) (objectsIn who) numeric x)
+        (partsFor (whenOf time) (conditionsAt (now (code .entry)) at .tree)) ≡ true → has r x ≡ true) ⌝ }
 {
     let wanted = happening_grounds::time_of(time);
     let mut bits = 0;

@@ -105,7 +105,14 @@ module _ (g : Grounds) (s : State) (os : List ℕ) (code : List ℕ) (at : ℕ) 
     pub single-high : 22 ≤ tag → _≡_ {A = Judged} (record { truth = Holds; next = at + 1 }) (judgedOf g s os (singleAt code at tag))
     unfolding judgedOf truthOf truthsOf singleAt
     single-high h =
-        simp (le-ltb tag 2 (omega arith), le-ltb tag 4 (omega arith), le-ltb tag 8 (omega arith), le-ltb tag 12 (omega arith), le-ltb tag 17 (omega arith), le-ltb tag 22 h)
+        simp (
+          le-ltb tag 2 (omega arith),
+          le-ltb tag 4 (omega arith),
+          le-ltb tag 8 (omega arith),
+          le-ltb tag 12 (omega arith),
+          le-ltb tag 17 (omega arith),
+          le-ltb tag 22 h,
+        )
 
     -- r is what was found of the condition that the tag says
     module _ {r : Judged} where
@@ -128,4 +135,11 @@ module _ (g : Grounds) (s : State) (os : List ℕ) (code : List ℕ) (at : ℕ) 
       pub single-no-compare : 17 ≤ tag → tag < 22 → r ≡ judgedOf g s os (compareAt code at false (tag - 17)) → r ≡ judgedOf g s os (singleAt code at tag)
       unfolding singleAt
       single-no-compare l h r =
-          rw (le-ltb tag 2 (omega arith), le-ltb tag 4 (omega arith), le-ltb tag 8 (omega arith), le-ltb tag 12 (omega arith), le-ltb tag 17 l, lt-ltb tag 22 h) r
+          rw (
+            le-ltb tag 2 (omega arith),
+            le-ltb tag 4 (omega arith),
+            le-ltb tag 8 (omega arith),
+            le-ltb tag 12 (omega arith),
+            le-ltb tag 17 l,
+            lt-ltb tag 22 h,
+          ) r

@@ -97,7 +97,8 @@ fn atom<'a>(
     k: usize,
 ) -> Judged
     requires { ⌜ (at < length (now code)) × (k ≤ 3) ⌝ }
-    ensures { λ r. ⌜ r ≡ judgedOf (groundsIn (now (firsts .entry))) (stateIn (now (facts .entry)) (now (numbers .entry))) (objectsIn who) (atomAt (now (code .entry)) at wanted k) ⌝ }
+    ensures { λ r. ⌜ r ≡ judgedOf (groundsIn (now (firsts .entry))) (stateIn (now (facts .entry)) (now (numbers .entry))) (objectsIn who)
+        (atomAt (now (code .entry)) at wanted k) ⌝ }
 {
     let i = happening_grounds::ground(code, firsts, who, false, at + 1, k);
     let t = agree(wanted, is_true(facts, i));
@@ -117,7 +118,8 @@ fn same<'a>(
     wanted: bool,
 ) -> Judged
     requires { ⌜ at < length (now code) ⌝ }
-    ensures { λ r. ⌜ r ≡ judgedOf (groundsIn (now (firsts .entry))) (stateIn (now (facts .entry)) (now (numbers .entry))) (objectsIn who) (sameAt (now (code .entry)) at wanted) ⌝ }
+    ensures { λ r. ⌜ r ≡ judgedOf (groundsIn (now (firsts .entry))) (stateIn (now (facts .entry)) (now (numbers .entry))) (objectsIn who)
+        (sameAt (now (code .entry)) at wanted) ⌝ }
 {
     let x = happening_grounds::argument(who, happening_grounds::cell(code, at + 1));
     let y = happening_grounds::argument(who, happening_grounds::cell(code, at + 2));
@@ -139,7 +141,8 @@ fn comparison<'a>(
     op: usize,
 ) -> Judged
     requires { ⌜ at < length (now code) ⌝ }
-    ensures { λ r. ⌜ r ≡ judgedOf (groundsIn (now (firsts .entry))) (stateIn (now (facts .entry)) (now (numbers .entry))) (objectsIn who) (compareAt (now (code .entry)) at wanted op) ⌝ }
+    ensures { λ r. ⌜ r ≡ judgedOf (groundsIn (now (firsts .entry))) (stateIn (now (facts .entry)) (now (numbers .entry))) (objectsIn who)
+        (compareAt (now (code .entry)) at wanted op) ⌝ }
 {
     let a = values::expr(code, firsts, numbers, who, at + 1, 16);
     let x = a.value;
@@ -163,7 +166,8 @@ pub fn single<'a>(
     tag: usize,
 ) -> Judged
     requires { ⌜ at < length (now code) ⌝ }
-    ensures { λ r. ⌜ r ≡ judgedOf (groundsIn (now (firsts .entry))) (stateIn (now (facts .entry)) (now (numbers .entry))) (objectsIn who) (singleAt (now (code .entry)) at tag) ⌝ }
+    ensures { λ r. ⌜ r ≡ judgedOf (groundsIn (now (firsts .entry))) (stateIn (now (facts .entry)) (now (numbers .entry))) (objectsIn who)
+        (singleAt (now (code .entry)) at tag) ⌝ }
 {
     if tag < 2 {
         return Judged {

@@ -33,7 +33,8 @@ pub fn cond_at<'a>(
     at: usize,
     depth: usize,
 ) -> Judged
-    ensures { λ r. ⌜ r ≡ judgedOf (groundsIn (now (firsts .entry))) (stateIn (now (facts .entry)) (now (numbers .entry))) (objectsIn who) (condAt depth (now (code .entry)) at) ⌝ }
+    ensures { λ r. ⌜ r ≡ judgedOf (groundsIn (now (firsts .entry))) (stateIn (now (facts .entry)) (now (numbers .entry))) (objectsIn who)
+        (condAt depth (now (code .entry)) at) ⌝ }
 {
     if depth == 0 {
         return Judged {
@@ -64,7 +65,8 @@ fn conds_at<'a>(
     at: usize,
     depth: usize,
 ) -> Judged
-    ensures { λ r. ⌜ r ≡ listedOf (groundsIn (now (firsts .entry))) (stateIn (now (facts .entry)) (now (numbers .entry))) (objectsIn who) (condsAt (condAt depth (now (code .entry))) (length (now (code .entry))) (now (code .entry)) at) ⌝ }
+    ensures { λ r. ⌜ r ≡ listedOf (groundsIn (now (firsts .entry))) (stateIn (now (facts .entry)) (now (numbers .entry))) (objectsIn who)
+        (condsAt (condAt depth (now (code .entry))) (length (now (code .entry))) (now (code .entry)) at) ⌝ }
 {
     let mut truth = Truth::Holds;
     let mut i = at;
@@ -104,7 +106,8 @@ pub fn hold<'a>(
     at: usize,
     time: usize,
 ) -> Truth
-    ensures { λ r. ⌜ r ≡ holdAll (groundsIn (now (firsts .entry))) (stateIn (now (facts .entry)) (now (numbers .entry))) (objectsIn who) (partsFor (whenOf time) (conditionsAt (now (code .entry)) at .tree)) ⌝ }
+    ensures { λ r. ⌜ r ≡ holdAll (groundsIn (now (firsts .entry))) (stateIn (now (facts .entry)) (now (numbers .entry))) (objectsIn who)
+        (partsFor (whenOf time) (conditionsAt (now (code .entry)) at .tree)) ⌝ }
 {
     let wanted = happening_grounds::time_of(time);
     let mut truth = Truth::Holds;

@@ -44,7 +44,14 @@ module _ (code : List ℕ) (at : ℕ) where
     pub high-ends : 22 ≤ tag → at + 1 ≡ singleAt code at tag .next
     unfolding singleAt
     high-ends h =
-        rw (le-ltb tag 2 (omega arith), le-ltb tag 4 (omega arith), le-ltb tag 8 (omega arith), le-ltb tag 12 (omega arith), le-ltb tag 17 (omega arith), le-ltb tag 22 h)
+        rw (
+          le-ltb tag 2 (omega arith),
+          le-ltb tag 4 (omega arith),
+          le-ltb tag 8 (omega arith),
+          le-ltb tag 12 (omega arith),
+          le-ltb tag 17 (omega arith),
+          le-ltb tag 22 h,
+        )
 
   -- ---- any condition
 

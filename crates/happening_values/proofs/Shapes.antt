@@ -101,7 +101,8 @@ node-grows : (f : ℕ → Decoded Expr) → ((i : ℕ) → i ≤ f i .next) → 
 unfolding exprNode
 node-grows f h code at tag =
     pick at (eqb tag 0) (mapped minus (f (at + 1))) _ one
-    (pick at (eqb tag 1) (both difference (f (at + 1)) f) _ two (pick at (eqb tag 2) (both plus (f (at + 1)) f) (leafAt code at tag) two (leaf-grows code at tag)))
+    (pick at (eqb tag 1) (both difference (f (at + 1)) f) _ two
+    (pick at (eqb tag 2) (both plus (f (at + 1)) f) (leafAt code at tag) two (leaf-grows code at tag)))
   where
     one : at ≤ f (at + 1) .next
     one = let l : at + 1 ≤ f (at + 1) .next = h (at + 1) in omega arith

@@ -22,7 +22,7 @@ use Rattle.plan_meaning.specs.Promised.{Act}
 use Rattle.plan_meaning.specs.Lines.{Known, Refused, reader, limits}
 use Rattle.plan_waiting.specs.Lent.{queueIn}
 use Rattle.plan_waiting.specs.declared.Queue.{Queue}
-use Rattle.plan_feeding.specs.declared.Progress.{Progress}
+use Rattle.plan_feeding.specs.declared.PlanProgress.{PlanProgress}
 use Rattle.plan_feeding.specs.Feeding.{refusedIn, checkIn, heldIn, refusing, counted, Fit}
 use Rattle.plan_feeding.proofs.Keeping.{check-going, check-halted, check-counted}
 
@@ -42,11 +42,11 @@ module _ {S A W E : Type 0} (R : Rules S A W) (L : Limits A E) (D : Reader A E) 
 
 -- ---- a byte, by its kind
 
-module _ (R : Rules State Act Outcome) (k : Known) (s : State) (line : List ℕ) (q : Queue) (p : Progress) (b : ℕ) (unrefused : p .refused ≡ false) where
+module _ (R : Rules State Act Outcome) (k : Known) (s : State) (line : List ℕ) (q : Queue) (p : PlanProgress) (b : ℕ) (unrefused : p .refused ≡ false) where
   pub byte-beyond : 1000000 < p .number → heldIn s line q (refusing p 15 1) ≡ byte R limits (reader k) (heldIn s line q p) b
   byte-beyond h = rw (check-going s q p unrefused, check-halted s q (refusing p 15 1) refl, lt-ltb 1000000 (p .number) h)
 
-  pub byte-lf : (s′ : State) (q′ : Queue) (p′ : Progress) → p .number ≤ 1000000 → b ≡ 10
+  pub byte-lf : (s′ : State) (q′ : Queue) (p′ : PlanProgress) → p .number ≤ 1000000 → b ≡ 10
       → checkIn s′ q′ p′ ≡ M.take R limits (checkIn s q p) (reader k .line (p .number) (p .start) (take (p .used) line))
       → p′ .number ≡ p .number
       → heldIn s′ line q′ (counted p′ (p′ .number + 1) 0) ≡ byte R limits (reader k) (heldIn s line q p) b
@@ -75,7 +75,7 @@ module _ (R : Rules State Act Outcome) (k : Known) (s : State) (line : List ℕ)
         take-suc-set line (p .used) b (omega arith),
       )
 
-  pub byte-full : (r : Progress) → p .number ≤ 1000000 → (b ≡ 10 → ⊥) → 256 ≤ p .used → p .used ≤ 256 → length line ≡ 257
+  pub byte-full : (r : PlanProgress) → p .number ≤ 1000000 → (b ≡ 10 → ⊥) → 256 ≤ p .used → p .used ≤ 256 → length line ≡ 257
       → refusedIn r ≡ reader k .long (p .number) (p .start) (set line 256 b) → r ≡ refusing p (r .refusal) (r .column)
       → heldIn s (set line 256 b) q r ≡ byte R limits (reader k) (heldIn s line q p) b
   byte-full r h e m few long refused same =
@@ -83,11 +83,11 @@ module _ (R : Rules State Act Outcome) (k : Known) (s : State) (line : List ℕ)
       let whole : set line 256 b ≡ take 256 line ++ b ∷ []
       = sym (take-all 257 (set line 256 b) (omega (arith, length-set line 256 b))) ∙ take-suc-set line 256 b (omega arith) in
       rw (
-        check-halted s q r (ap (λ (x : Progress). x .refused) same),
+        check-halted s q r (ap (λ (x : PlanProgress). x .refused) same),
         refused,
         whole,
-        ap (λ (x : Progress). x .number) same,
-        ap (λ (x : Progress). x .used) same,
+        ap (λ (x : PlanProgress). x .number) same,
+        ap (λ (x : PlanProgress). x .used) same,
         check-going s q p unrefused,
         le-ltb 1000000 (p .number) h,
         ne-eqb b 10 e,
@@ -104,9 +104,9 @@ pub record Memory : Type 0 where
   pub fresh : List ℤ
   pub line : List ℕ
   pub queue : Queue
-  pub progress : Progress
+  pub progress : PlanProgress
 
-abbrev pub memory : List ℕ → List ℤ → List ℤ → List ℕ → Queue → Progress → Memory
+abbrev pub memory : List ℕ → List ℤ → List ℤ → List ℕ → Queue → PlanProgress → Memory
 memory facts numbers fresh line queue progress = record { facts = facts; numbers = numbers; fresh = fresh; line = line; queue = queue; progress = progress }
 
 abbrev pub held : Memory → Feed State Act Outcome Refused
@@ -141,7 +141,7 @@ module _ (n : ℕ) (rules : Cond → State → Rules State Act Outcome) (k : Kno
 module _ {n : ℕ} {rules : Cond → State → Rules State Act Outcome} {k : Known} where
   -- where the lists and records that a turn leads to have other names
   pub turn-same : (m : Memory) (b : ℕ) {facts facts′ : List ℕ} {numbers numbers′ fresh fresh′ : List ℤ}
-      {line line′ words words′ objects objects′ : List ℕ} {count count′ : ℕ} {p p′ : Progress}
+      {line line′ words words′ objects objects′ : List ℕ} {count count′ : ℕ} {p p′ : PlanProgress}
       → facts′ ≡ facts → numbers′ ≡ numbers → fresh′ ≡ fresh → line′ ≡ line → words′ ≡ words → objects′ ≡ objects → count′ ≡ count → p′ ≡ p
       → Turn n rules k m b (memory facts numbers fresh line (queueIn words objects count) p)
       → Turn n rules k m b (memory facts′ numbers′ fresh′ line′ (queueIn words′ objects′ count′) p′)
@@ -171,7 +171,7 @@ module _ {n : ℕ} {rules : Cond → State → Rules State Act Outcome} {k : Kno
           turns = λ c s. byte-more (rules c s) k (stateIn (m .facts) (m .numbers)) (m .line) (m .queue) (m .progress) b unrefused h e u (ready .long);
         }
 
-    pub turn-full : (r : Progress) → m .progress .number ≤ 1000000 → (b ≡ 10 → ⊥) → 256 ≤ m .progress .used
+    pub turn-full : (r : PlanProgress) → m .progress .number ≤ 1000000 → (b ≡ 10 → ⊥) → 256 ≤ m .progress .used
         → refusedIn r ≡ reader k .long (m .progress .number) (m .progress .start) (set (m .line) 256 b) → r ≡ refusing (m .progress) (r .refusal) (r .column)
         → Turn n rules k m b (memory (m .facts) (m .numbers) (m .fresh) (set (m .line) 256 b) (m .queue) r)
     turn-full r h e u refused same =
@@ -182,7 +182,7 @@ module _ {n : ℕ} {rules : Cond → State → Rules State Act Outcome} {k : Kno
               b unrefused r h e u (ready .fit .2) (ready .long) refused same;
         }
 
-    pub turn-lf : (facts : List ℕ) (numbers fresh : List ℤ) (q : Queue) (p : Progress) → m .progress .number ≤ 1000000 → b ≡ 10
+    pub turn-lf : (facts : List ℕ) (numbers fresh : List ℤ) (q : Queue) (p : PlanProgress) → m .progress .number ≤ 1000000 → b ≡ 10
         → length facts ≡ length (m .facts) → length numbers ≡ length (m .numbers) → length fresh ≡ length (m .fresh)
         → ((c : Cond) (s : State) → checkIn (stateIn facts numbers) q p
         ≡ M.take (rules c s) limits (checkIn (stateIn (m .facts) (m .numbers)) (m .queue) (m .progress))

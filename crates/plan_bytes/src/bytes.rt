@@ -1,7 +1,7 @@
 // The bytes of a plan, part by part.
 use crate::Taken;
 use domain_terms::scope::Counts;
-use plan_feeding::Progress;
+use plan_feeding::PlanProgress;
 use plan_feeding::Went;
 use plan_feeding::stepping;
 use plan_waiting::Queue;
@@ -22,11 +22,11 @@ ghost use Rattle.plan_lines.specs.Knowing.{Tabled, Headed, knownIn};
 ghost use Rattle.plan_feeding.specs.Feeding.{heldIn, counted, Fit};
 
 // Another line, with so many bytes so far.
-fn counting(p: Progress, number: usize, used: usize) -> Progress
+fn counting(p: PlanProgress, number: usize, used: usize) -> PlanProgress
     ensures { λ r. ⌜ r ≡ counted p number used ⌝ }
 {
     let past = p.past;
-    Progress {
+    PlanProgress {
         used,
         number,
         start: p.start,
@@ -54,7 +54,7 @@ fn take_bytes<'a>(
     words: &mut [usize; 384],
     objects: &mut [u8; 256],
     count: usize,
-    progress: Progress,
+    progress: PlanProgress,
     part: &'a [u8],
     points: &mut [usize; 256],
     whos: &mut [u8; 256],
@@ -146,7 +146,7 @@ pub fn take_part<'a>(
     fresh: &mut [i64],
     line: &mut [u8],
     queue: Queue,
-    progress: Progress,
+    progress: PlanProgress,
     part: &'a [u8],
 ) -> Taken
     requires { ⌜

@@ -1,11 +1,11 @@
 // A plan that is fed: its bytes, part by part.
 pub mod bytes;
 
-use plan_feeding::Progress;
+use plan_feeding::PlanProgress;
 use plan_waiting::Queue;
 
 // What is kept behind a part: the points that wait, and the rest.
 pub struct Taken {
     pub queue: Queue,
-    pub progress: Progress,
+    pub progress: PlanProgress,
 }

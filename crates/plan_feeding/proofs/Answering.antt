@@ -23,7 +23,7 @@ use Rattle.plan_lines.specs.Steps.{Lined, Within}
 use Rattle.plan_waiting.specs.Waiting.{waiting, noStep}
 use Rattle.plan_waiting.specs.declared.Queue.{Queue}
 use Rattle.plan_running.specs.Running.{runIn}
-use Rattle.plan_feeding.specs.declared.Progress.{Progress}
+use Rattle.plan_feeding.specs.declared.PlanProgress.{PlanProgress}
 use Rattle.plan_feeding.specs.Feeding.{refusedIn, checkIn, refusing}
 use Rattle.plan_meaning.proofs.Steps.{line-steps}
 
@@ -88,19 +88,19 @@ module _ (m n : ℕ) (l : Line) (x : Read (Option (Step Act))) (h : Lined n l x)
   pub long-refused : (k p : ℕ) → l ≡ L.Refused k p → refusedAt k m p ≡ longOf m x
   long-refused k p b = rw (lined-refused n l k p x b h)
 
-pub refused-as : (p new : Progress) (k place : ℕ) (r : Refused) → refusedAt k (p .number) place ≡ r → new ≡ refusing p k (place + 1)
+pub refused-as : (p new : PlanProgress) (k place : ℕ) (r : Refused) → refusedAt k (p .number) place ≡ r → new ≡ refusing p k (place + 1)
     → (refusedIn new ≡ r) × (new ≡ refusing p (new .refusal) (new .column))
 refused-as p new k place r e is = (rw is e, rw is)
 
 -- ---- a line that is taken
 
-module _ (R : Rules State Act Outcome) (s : State) (q : Queue) (p : Progress) (still : p .refused ≡ false) (n : ℕ) (l : Line)
+module _ (R : Rules State Act Outcome) (s : State) (q : Queue) (p : PlanProgress) (still : p .refused ≡ false) (n : ℕ) (l : Line)
     (x : Read (Option (Step Act))) (h : Lined n l x) where
   pub taken-blank : l ≡ L.Blank → checkIn s q p ≡ M.take R limits (checkIn s q p) (answerOf (p .number) x)
   unfolding checkIn
   taken-blank b = rw (still, lined-blank n l x b h .1)
 
-  pub taken-refusal : (new : Progress) (k place : ℕ) → l ≡ L.Refused k place → new ≡ refusing p k (place + 1)
+  pub taken-refusal : (new : PlanProgress) (k place : ℕ) → l ≡ L.Refused k place → new ≡ refusing p k (place + 1)
       → checkIn s q new ≡ M.take R limits (checkIn s q p) (answerOf (p .number) x)
   unfolding checkIn
   taken-refusal new k place b is = rw (is, still, lined-refused n l k place x b h)

@@ -17,11 +17,11 @@ use Rattle.plan_waiting.specs.Waiting.{waiting}
 use Rattle.plan_waiting.specs.declared.Queue.{Queue}
 use Rattle.plan_running.specs.Running.{runIn}
 use Rattle.plan_running.specs.declared.Past.{Past}
-use Rattle.plan_feeding.specs.declared.Progress.{Progress}
+use Rattle.plan_feeding.specs.declared.PlanProgress.{PlanProgress}
 use Rattle.plan_feeding.specs.Feeding.{checkIn, closedIn, going}
 use Rattle.plan_feeding.proofs.Keeping.{check-going, check-halted}
 
-module _ (R : Rules State Act Outcome) (s t : State) (q : Queue) (p : Progress) where
+module _ (R : Rules State Act Outcome) (s t : State) (q : Queue) (p : PlanProgress) where
   -- the points are drained below b, then the run is judged
   pub ran-out : (past last : Past) (left : List (Point Act)) (b : ℕ) → b ≡ suc (max (p .start) (latest (waiting q)))
       → (runIn past t, left) ≡ drain R (length (waiting q)) b (runIn (p .past) s) (waiting q)
@@ -29,7 +29,7 @@ module _ (R : Rules State Act Outcome) (s t : State) (q : Queue) (p : Progress) 
       → _≡_ {A = Result State Outcome Refused} (ended (runIn last t)) (finish R limits (waits (runIn (p .past) s) (p .start) (waiting q)))
   ran-out past last left b e d j = rw (← e) (ap ended (j ∙ ap (λ (rq : Run State Outcome × List (Point Act)). judged R (rq .0)) d))
 
-  module _ (D : Reader Act Refused) (still : p .refused ≡ false) (line : List ℕ) (r : Queue) (new : Progress)
+  module _ (D : Reader Act Refused) (still : p .refused ≡ false) (line : List ℕ) (r : Queue) (new : PlanProgress)
       (taken : checkIn t r new ≡ M.take R limits (checkIn s q p) (D .line (p .number) (p .start) line)) where
     -- what the plan comes to is what its check comes to behind the last line
     closes : close R limits D (reading (checkIn s q p) (p .number) line) ≡ finish R limits (checkIn t r new)
@@ -38,7 +38,7 @@ module _ (R : Rules State Act Outcome) (s t : State) (q : Queue) (p : Progress) 
     pub closed-refused : (u : State) → new .refused ≡ true → closedIn u new ≡ close R limits D (reading (checkIn s q p) (p .number) line)
     closed-refused u h = rw (closes, check-halted t r new h, h)
 
-    pub closed-run : (u : State) (past : Past) (last : Progress) → new .refused ≡ false → last ≡ going new (new .start) past
+    pub closed-run : (u : State) (past : Past) (last : PlanProgress) → new .refused ≡ false → last ≡ going new (new .start) past
         → ended (runIn past u) ≡ finish R limits (waits (runIn (new .past) t) (new .start) (waiting r))
         → closedIn u last ≡ close R limits D (reading (checkIn s q p) (p .number) line)
     closed-run u past last h is run = rw (closes, check-going t r new h, is, h) run

@@ -7,10 +7,10 @@ use Rattle.plan_meaning.specs.Machine.{waits, halted}
 use Rattle.plan_waiting.specs.Waiting.{waiting}
 use Rattle.plan_waiting.specs.declared.Queue.{Queue}
 use Rattle.plan_running.specs.Running.{runIn}
-use Rattle.plan_feeding.specs.declared.Progress.{Progress}
+use Rattle.plan_feeding.specs.declared.PlanProgress.{PlanProgress}
 use Rattle.plan_feeding.specs.Feeding.{refusedIn, checkIn, counted}
 
-module _ (s : State) (q : Queue) (p : Progress) where
+module _ (s : State) (q : Queue) (p : PlanProgress) where
   pub check-going : p .refused ≡ false → checkIn s q p ≡ waits (runIn (p .past) s) (p .start) (waiting q)
   unfolding checkIn
   check-going h = rw h

@@ -20,7 +20,7 @@ use Rattle.plan_waiting.specs.declared.Queue.{Queue}
 use Rattle.plan_waiting.proofs.Points.{one-point, two-points}
 use Rattle.plan_running.specs.Running.{runIn}
 use Rattle.plan_running.specs.declared.Past.{Past}
-use Rattle.plan_feeding.specs.declared.Progress.{Progress}
+use Rattle.plan_feeding.specs.declared.PlanProgress.{PlanProgress}
 use Rattle.plan_feeding.specs.Feeding.{checkIn, refusing, going}
 
 -- ---- the points of a step behind those that wait
@@ -40,7 +40,7 @@ module _ (q : Queue) (x : Step) where
   count-more h k = simp length-append (rw (count-waits h k))
 
   -- `before` is drained below the step's start, which leaves q
-  module _ (R : Rules State Act Outcome) (before : Queue) (s₀ s : State) (past : Past) (p new : Progress)
+  module _ (R : Rules State Act Outcome) (before : Queue) (s₀ s : State) (past : Past) (p new : PlanProgress)
       (e : (runIn past s, waiting q) ≡ drain R (length (waiting before)) (x .start) (runIn (p .past) s₀) (waiting before))
       (long : length (q .slots) ≡ 64) (few : q .count ≤ 64) where
     abbrev after : Check State Act Outcome Refused

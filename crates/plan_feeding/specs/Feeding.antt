@@ -15,23 +15,23 @@ use Rattle.plan_waiting.specs.Waiting.{waiting, Sound}
 use Rattle.plan_waiting.specs.declared.Queue.{Queue}
 use Rattle.plan_running.specs.Running.{runIn}
 use Rattle.plan_running.specs.declared.Past.{Past}
-use Rattle.plan_feeding.specs.declared.Progress.{Progress}
+use Rattle.plan_feeding.specs.declared.PlanProgress.{PlanProgress}
 
-abbrev pub refusedIn : Progress → Refused
+abbrev pub refusedIn : PlanProgress → Refused
 refusedIn p = record { number = p .refusal; line = p .at; column = p .column }
 
-unfoldable pub checkIn : State → Queue → Progress → Check State Act Outcome Refused
+unfoldable pub checkIn : State → Queue → PlanProgress → Check State Act Outcome Refused
 checkIn s q p = cond (p .refused) (halted (refusedIn p)) (waits (runIn (p .past) s) (p .start) (waiting q))
 
-abbrev pub heldIn : State → List ℕ → Queue → Progress → Feed State Act Outcome Refused
+abbrev pub heldIn : State → List ℕ → Queue → PlanProgress → Feed State Act Outcome Refused
 heldIn s line q p = reading (checkIn s q p) (p .number) (take (p .used) line)
 
 -- what has come of a plan that is finished
-abbrev pub closedIn : State → Progress → Result State Outcome Refused
+abbrev pub closedIn : State → PlanProgress → Result State Outcome Refused
 closedIn s p = cond (p .refused) (P.refused (refusedIn p)) (P.ended (runIn (p .past) s))
 
 -- a refusal more, of the line that is read
-abbrev pub refusing : Progress → ℕ → ℕ → Progress
+abbrev pub refusing : PlanProgress → ℕ → ℕ → PlanProgress
 refusing p k column =
     record {
       used = p .used;
@@ -45,7 +45,7 @@ refusing p k column =
     }
 
 -- another start and another run so far
-abbrev pub going : Progress → ℕ → Past → Progress
+abbrev pub going : PlanProgress → ℕ → Past → PlanProgress
 going p start past =
     record {
       used = p .used;
@@ -59,7 +59,7 @@ going p start past =
     }
 
 -- another line, with so many bytes so far
-abbrev pub counted : Progress → ℕ → ℕ → Progress
+abbrev pub counted : PlanProgress → ℕ → ℕ → PlanProgress
 counted p number used =
     record {
       used = used;
@@ -73,5 +73,5 @@ counted p number used =
     }
 
 -- the counters lie where the loops keep them: n is the number of actions
-abbrev pub Fit : ℕ → Queue → Progress → Type 0
+abbrev pub Fit : ℕ → Queue → PlanProgress → Type 0
 Fit n q p = Sound n q × (p .start < 1000000000000) × (p .used ≤ 256) × (0 < p .number) × (p .number ≤ 1000001)

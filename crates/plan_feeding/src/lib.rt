@@ -4,7 +4,7 @@ pub mod stepping;
 use plan_running::Past;
 
 // What is kept of a plan beside the state, the points that wait and the bytes of the line.
-pub struct Progress {
+pub struct PlanProgress {
     // how many bytes the line has so far, and its number
     pub used: usize,
     pub number: usize,
@@ -21,5 +21,5 @@ pub struct Progress {
 // How many points wait, in lent numbers, and what else is kept.
 pub struct Went {
     pub count: usize,
-    pub progress: Progress,
+    pub progress: PlanProgress,
 }

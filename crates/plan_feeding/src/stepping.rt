@@ -1,6 +1,6 @@
 // A line that has ended, and the plan's end. The points that wait are the first `count` in `words` and `objects`; points, whos, lines and others are
 // lent to be written in.
-use crate::Progress;
+use crate::PlanProgress;
 use crate::Went;
 use domain_terms::scope::Counts;
 use plan_lines::steps;
@@ -33,11 +33,11 @@ ghost use Rattle.plan_lines.specs.Knowing.{Tabled, Headed, knownIn};
 ghost use Rattle.plan_feeding.specs.Feeding.{refusedIn, checkIn, closedIn, refusing, going, Fit};
 
 // The line that is read is refused.
-pub fn refuse(p: Progress, k: u8, column: usize) -> Progress
+pub fn refuse(p: PlanProgress, k: u8, column: usize) -> PlanProgress
     ensures { λ r. ⌜ r ≡ refusing p k column ⌝ }
 {
     let past = p.past;
-    Progress {
+    PlanProgress {
         used: p.used,
         number: p.number,
         start: p.start,
@@ -50,10 +50,10 @@ pub fn refuse(p: Progress, k: u8, column: usize) -> Progress
 }
 
 // Another start and another run so far.
-fn begun(p: Progress, start: usize, past: Past) -> Progress
+fn begun(p: PlanProgress, start: usize, past: Past) -> PlanProgress
     ensures { λ r. ⌜ r ≡ going p start past ⌝ }
 {
-    Progress {
+    PlanProgress {
         used: p.used,
         number: p.number,
         start,
@@ -76,7 +76,7 @@ fn take_step<'a>(
     words: &mut [usize; 384],
     objects: &mut [u8; 256],
     count: usize,
-    p: Progress,
+    p: PlanProgress,
     x: Step,
     points: &mut [usize; 256],
     whos: &mut [u8; 256],
@@ -147,7 +147,7 @@ pub fn take_line<'a>(
     words: &mut [usize; 384],
     objects: &mut [u8; 256],
     count: usize,
-    p: Progress,
+    p: PlanProgress,
     points: &mut [usize; 256],
     whos: &mut [u8; 256],
     lines: &mut [usize; 256],
@@ -215,8 +215,8 @@ pub fn refuse_long<'a>(
     code: &'a [u8],
     starts: &'a [usize],
     text: &'a [u8],
-    p: Progress,
-) -> Progress
+    p: PlanProgress,
+) -> PlanProgress
     requires { ⌜ Tabled (now tables) counts × Headed (now heads) acting × (length (now text) ≡ 257) ⌝ }
     ensures { λ r. ⌜
         (refusedIn r
@@ -264,7 +264,7 @@ fn end_run<'a>(
     words: &mut [usize; 384],
     objects: &mut [u8; 256],
     count: usize,
-    p: Progress,
+    p: PlanProgress,
     points: &mut [usize; 256],
     whos: &mut [u8; 256],
     lines: &mut [usize; 256],
@@ -315,8 +315,8 @@ pub fn end_plan<'a>(
     fresh: &mut [i64],
     line: &'a [u8],
     queue: Queue,
-    p: Progress,
-) -> Progress
+    p: PlanProgress,
+) -> PlanProgress
     requires { ⌜
         Tabled (now tables) counts × Headed (now heads) acting × Fit acting queue p × (p .refused ≡ false) × (length (now line) ≡ 257)
         × (length (now code) ≤ 32768) × (now fresh ≡ now numbers)

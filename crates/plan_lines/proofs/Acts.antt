@@ -133,7 +133,8 @@ listed-done r out m a u (refused c p) h e = never-done c p a u (sym h ∙ e)
 
 -- ---- the action with a number, of what the model's numbers say
 
-known-many : (tables : List ℕ) (c : Counts) (heads : List ℕ) (acting : ℕ) (code starts : List ℕ) → length (knownIn tables c heads acting code starts .actions) ≡ acting
+known-many : (tables : List ℕ) (c : Counts) (heads : List ℕ) (acting : ℕ) (code starts : List ℕ)
+    → length (knownIn tables c heads acting code starts .actions) ≡ acting
 known-many tables c heads acting code starts =
     sym (length-map (knownIn tables c heads acting code starts .actions) (λ (a : Action). a .declared))
     ∙ ap (λ (t : Table). length t) (known-named tables c heads acting code starts)
@@ -206,7 +207,8 @@ module _ (s tables : List ℕ) (c : Counts) (heads : List ℕ) (acting : ℕ) (c
   known = knownIn tables c heads acting code starts
 
   act-known : actAt s known n start at ≡ andThen (namedAction s (signedIn heads acting) b) (behindOf s known n start)
-  act-known = act-named s known n start at a v m b w o ∙ ap (λ (t : Table). andThen (namedAction s t b) (behindOf s known n start)) (known-named tables c heads acting code starts)
+  act-known = act-named s known n start at a v m b w o ∙ ap (λ (t : Table). andThen (namedAction s t b) (behindOf s known n start))
+      (known-named tables c heads acting code starts)
 
   pub name-refused : (q p : ℕ) → answerOf (namedAction s (signedIn heads acting) b) ≡ Refused q p → actAt s known n start at ≡ refused q p
   name-refused q p e = act-known ∙ rw (answer-refused (namedAction s (signedIn heads acting) b) q p e)
@@ -224,7 +226,11 @@ module _ (s tables : List ℕ) (c : Counts) (heads : List ℕ) (acting : ℕ) (c
     act-behind : actAt s known n start at ≡ behind s known n start i wants (lastingRead s lasts) e
     act-behind =
         act-known
-        ∙ rw (answer-done (namedAction s (signedIn heads acting) b) e i f, known-declared tables c heads acting code starts i below, known-lasting tables c heads acting code starts i below)
+        ∙ rw (
+          answer-done (namedAction s (signedIn heads acting) b) e i f,
+          known-declared tables c heads acting code starts i below,
+          known-lasting tables c heads acting code starts i below,
+        )
         (ap (λ (h : Reader Span). behind s known n start i wants h e) (λ j g. sym (span-lasting s (lastingAt code (byteAt starts (3 * i)) .tree) g) j))
 
     module _ (r : Parsed) (out t : List ℕ) (l : Listed r out t (objectsTo s known wants e)) where
@@ -242,7 +248,8 @@ module _ (s tables : List ℕ) (c : Counts) (heads : List ℕ) (acting : ℕ) (c
           act-read : actAt s known n start at ≡ got (made n start i s (taken .objects) (spanIn d)) z
           act-read = act-behind ∙ rw (taken .is, span-done (lastingRead s lasts g) z d (span-lies s lasts g) y)
 
-          pub act-stepped : out ≡ 0 ∷ 0 ∷ 0 ∷ 0 ∷ [] → start < 1000000000000 → d < 1000000000000 → Stepped acting (R.Read (stored n start d i t (length s))) (actAt s known n start at)
+          pub act-stepped : out ≡ 0 ∷ 0 ∷ 0 ∷ 0 ∷ [] → start < 1000000000000 → d < 1000000000000
+              → Stepped acting (R.Read (stored n start d i t (length s))) (actAt s known n start at)
           unfolding Stepped
           act-stepped zeros small short =
               rw act-read (stored n start d i t (length s), refl, lies, (below, small, short))
@@ -275,5 +282,6 @@ module _ (s : List ℕ) (k : Known) (n before at acting : ℕ) where
     pub start-refused : (c p : ℕ) → answerOf (startAt before t (afterOf t)) ≡ Refused c p → lineAt s k n before at ≡ refused c p
     start-refused c p h = line-started ∙ rw (answer-refused (startAt before t (afterOf t)) c p h)
 
-    pub line-stepped : (a start : ℕ) (r : Line) → answerOf (startAt before t (afterOf t)) ≡ Done a start → Stepped acting r (actAt s k n start a) → Lined acting r (lineAt s k n before at)
+    pub line-stepped : (a start : ℕ) (r : Line) → answerOf (startAt before t (afterOf t)) ≡ Done a start → Stepped acting r (actAt s k n start a)
+        → Lined acting r (lineAt s k n before at)
     line-stepped a start r h g = rw (line-started, answer-done (startAt before t (afterOf t)) a start h) (stepped-lined acting r (actAt s k n start a) g)

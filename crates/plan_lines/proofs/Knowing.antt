@@ -9,6 +9,11 @@ use Rattle.plan_meaning.specs.Lines.{Known}
 use Rattle.plan_lines.specs.Knowing.{typesIn, objectsIn, knownIn}
 
 pub known-in : (tables : List ℕ) (c : Counts) (heads : List ℕ) (acting : ℕ) (code starts : List ℕ)
-    → knownIn tables c heads acting code starts ≡ record { types = typesIn tables c; objects = objectsIn tables c; actions = actionsAt code starts 0 (signedIn heads acting) }
+    → knownIn tables c heads acting code starts ≡ record {
+      types = typesIn tables c;
+      objects = objectsIn tables c;
+      actions =
+          actionsAt code starts 0 (signedIn heads acting);
+    }
 unfolding knownIn
 known-in tables c heads acting code starts = refl

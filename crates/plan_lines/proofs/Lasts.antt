@@ -47,7 +47,10 @@ module _ (s : List ℕ) (at : ℕ) where
       module _ (a w : ℕ) (m : answerOf (mark s 93 e) ≡ Done a w) where
         pub duration-on : (r : Parsed) (k b : ℕ) → r ≡ answerOf (lineEnd s a) → r ≡ Refused k b → (r ≡ spanAnswer (durationIn s at)) × amountAnswer r
         unfolding durationIn
-        duration-on r k b l h = (rw (q, ← v, ne-eqb d 0 some, answer-done (mark s 93 e) a w m, answer-refused (lineEnd s a) k b (sym l ∙ h)) h, amount-refused r k b h)
+        duration-on r k b l h = (
+          rw (q, ← v, ne-eqb d 0 some, answer-done (mark s 93 e) a w m, answer-refused (lineEnd s a) k b (sym l ∙ h)) h,
+          amount-refused r k b h,
+        )
 
         pub duration-read : (n x : ℕ) → answerOf (lineEnd s a) ≡ Done n x → d < 1000000000000 → (Done n d ≡ spanAnswer (durationIn s at)) × (d < 1000000000000)
         unfolding durationIn

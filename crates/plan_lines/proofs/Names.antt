@@ -69,7 +69,15 @@ module _ (rows : List ℕ) (f : ℕ → Entry) (named : (i : ℕ) → nameOf (f 
   names-from (suc n) i h =
       let k : 38 ≤ length rows - 38 * i = omega arith in
       let q : 38 * i + 38 ≡ 38 * (i + 1) = omega arith in
-      rw (length-drop (38 * i) rows, le-ltb (length rows - 38 * i) 38 k, drop-drop 38 (38 * i) rows, q, named i, name-in rows i (omega arith), names-from n (i + 1) (omega arith))
+      rw (
+        length-drop (38 * i) rows,
+        le-ltb (length rows - 38 * i) 38 k,
+        drop-drop 38 (38 * i) rows,
+        q,
+        named i,
+        name-in rows i (omega arith),
+        names-from n (i + 1) (omega arith),
+      )
 
   lookup-from : (n : ℕ) (w : List ℕ) → 38 * n ≤ length rows → placeFrom 0 (Names.namesOf n rows) w ≡ lookup (entriesFrom f 0 n) w
   unfolding lookup
@@ -121,10 +129,16 @@ module _ (tables : List ℕ) (from to n : ℕ) (room : from + 38 * n ≤ to) whe
     | yes past ↦ rw (raw-past tables from n i 0 past, entry-past (typedRow (part tables from to)) n i past)
     | no here ↦
         let q : from + 38 * i + 1 + 0 ≡ from + (38 * i + 1) = omega arith in
-        rw (raw-kept tables from n i 0 (omega arith), entry-here (typedRow (part tables from to)) n i (omega arith), q, byte-in-part tables from to (38 * i + 1) (omega arith))
+        rw (
+          raw-kept tables from n i 0 (omega arith),
+          entry-here (typedRow (part tables from to)) n i (omega arith),
+          q,
+          byte-in-part tables from to (38 * i + 1) (omega arith),
+        )
   ]
 
-pub below-typed : (tables : List ℕ) (to n a b : ℕ) → 38 * n ≤ to → belowIn n tables n a b ≡ isBelow (length (typedIn (part tables 0 to) n)) (typedIn (part tables 0 to) n) a b
+pub below-typed : (tables : List ℕ) (to n a b : ℕ) → 38 * n ≤ to
+    → belowIn n tables n a b ≡ isBelow (length (typedIn (part tables 0 to) n)) (typedIn (part tables 0 to) n) a b
 below-typed tables to n a b h =
     let ts = typedIn (part tables 0 to) n in
     below-kept n tables n ts a b (kept-typed tables 0 to n (omega arith)) ∙ ap (λ (k : ℕ). isBelow k ts a b) (sym (typed-length (part tables 0 to) n))
@@ -139,10 +153,12 @@ module _ (heads : List ℕ) (n i : ℕ) where
     | no here ↦
         let q : 0 + 38 * i + 1 + 0 ≡ 38 * i + 1 = omega arith in
         rw (raw-kept heads 0 n i 0 (omega arith), entry-here (signedRow heads) n i (omega arith), q)
-        (length-take (byteAt heads (38 * i + 1)) (bytesFrom heads (38 * i + 1 + 1) 4) ∙ ap (λ (k : ℕ). min (byteAt heads (38 * i + 1)) k) (length-bytes heads 4 (38 * i + 1 + 1)))
+        (length-take (byteAt heads (38 * i + 1)) (bytesFrom heads (38 * i + 1 + 1) 4)
+        ∙ ap (λ (k : ℕ). min (byteAt heads (38 * i + 1)) k) (length-bytes heads 4 (38 * i + 1 + 1)))
   ]
 
-  pub wanted-signed : (j : ℕ) → j < length (wantedOf (entryAt (signedIn heads n) i)) → keptIn heads 0 n i (j + 1) ≡ getD (wantedOf (entryAt (signedIn heads n) i)) j 0
+  pub wanted-signed : (j : ℕ) → j < length (wantedOf (entryAt (signedIn heads n) i))
+      → keptIn heads 0 n i (j + 1) ≡ getD (wantedOf (entryAt (signedIn heads n) i)) j 0
   unfolding signedIn signedRow infoIn bytesFrom
   wanted-signed j h = elim (decLe n i) [
     | yes past ↦ absurd (let z : ⊥ = omega (arith, arity-signed, raw-past heads 0 n i 0 past) in z)
@@ -151,7 +167,8 @@ module _ (heads : List ℕ) (n i : ℕ) where
         let p : 0 + 38 * i + 1 + (j + 1) ≡ 38 * i + 1 + 1 + j = omega arith in
         let b : j < byteAt heads (38 * i + 1) = rw (← q, ← raw-kept heads 0 n i 0 (omega arith)) (omega (arith, arity-signed)) in
         rw (raw-kept heads 0 n i (j + 1) (omega arith), entry-here (signedRow heads) n i (omega arith), p)
-        (sym (getD-take (byteAt heads (38 * i + 1)) (bytesFrom heads (38 * i + 1 + 1) 4) j 0 b ∙ bytes-at heads 4 (38 * i + 1 + 1) j (omega (arith, arity-signed))))
+        (sym (getD-take (byteAt heads (38 * i + 1)) (bytesFrom heads (38 * i + 1 + 1) 4) j 0 b
+        ∙ bytes-at heads 4 (38 * i + 1 + 1) j (omega (arith, arity-signed))))
   ]
 
 -- ---- the model's actions
@@ -160,7 +177,8 @@ pub lasting-read : (code : List ℕ) (at : ℕ) → ltb 0 (byteAt code at) ≡ l
 unfolding lastingAt byteAt
 lasting-read code at = within (ltb at (length code)) (getD code at 0)
   where
-    within : (t : Bool) (b : ℕ) → ltb 0 (cond t b 0) ≡ lastsOf (cond t (cond (eqb (cond t b 0) 0) (decoded moment (at + 1)) (mapped rule (expressionAt code (at + 1)))) (decoded moment at) .tree)
+    within : (t : Bool) (b : ℕ) → ltb 0 (cond t b 0) ≡ lastsOf
+        (cond t (cond (eqb (cond t b 0) 0) (decoded moment (at + 1)) (mapped rule (expressionAt code (at + 1)))) (decoded moment at) .tree)
     within true zero = refl
     within true (suc b) = rw (lt-ltb 0 (suc b) (omega arith), ne-eqb (suc b) 0 (λ e. let z : ⊥ = omega (arith, e) in z))
     within false b = refl

@@ -54,7 +54,8 @@ word-named s t p e a v (F.At i) q h =
     record { read = record { place = p; word = part s p e }; is = rw y; at-place = refl; found = rw x at q }
 word-named s t p e a v F.Nothing q h = never-done 8 p a v h
 
-token-named : (s : List ℕ) (names : Table) (t : Token) (a v : ℕ) → answerOf (namedBy s names t (afterOf t)) ≡ Done a v → Named (nameFrom s t (afterOf t)) names (placeOf t) a v
+token-named : (s : List ℕ) (names : Table) (t : Token) (a v : ℕ) → answerOf (namedBy s names t (afterOf t)) ≡ Done a v
+    → Named (nameFrom s t (afterOf t)) names (placeOf t) a v
 unfolding namedBy declared
 token-named s names (T.Word k p e) a v h = word-named s names p e a v (lookup names (part s p e)) refl h
 token-named s names (T.Number z p e) a v h = never-done _ _ a v h
@@ -78,7 +79,8 @@ pub named-then : {A : Type 0} (s : List ℕ) (names : Table) (f : ℕ → Reader
 unfolding namedAction
 named-then s names f at = go (name s at)
   where
-    go : (x : Read Name) → andThen x (λ w n. andThen (declared names (w .place) (w .word) n) f) ≡ andThen (andThen x (λ w. declared names (w .place) (w .word))) f
+    go : (x : Read Name) → andThen x (λ w n. andThen (declared names (w .place) (w .word) n) f) ≡ andThen
+        (andThen x (λ w. declared names (w .place) (w .word))) f
     go (got w n) = refl
     go (refused k p) = refl
 
@@ -97,7 +99,8 @@ module _ (s : List ℕ) (k : Known) (at : ℕ) where
   argument-refused c p h = go (name s at) (answer-refused _ c p h)
     where
       go : (x : Read Name) → andThen x (λ w. declared (k .objects) (w .place) (w .word)) ≡ refused c p
-          → andThen {B = Given} x (λ w n. andThen {B = Given} (declared (k .objects) (w .place) (w .word) n) (λ i. give (record { place = w .place; object = i }))) ≡ refused c p
+          → andThen {B = Given} x (λ w n. andThen {B = Given} (declared (k .objects) (w .place) (w .word) n)
+          (λ i. give (record { place = w .place; object = i }))) ≡ refused c p
       go (got w n) q = rw q
       go (refused j b) q = let y : j ≡ c = cc in let z : b ≡ p = cc in cc
 
@@ -190,27 +193,33 @@ module _ (s : List ℕ) (k : Known) (ws : List ℕ) (from : ℕ) (out₀ out : L
   onward-early p n m e h = stops (Refused 9 p) 9 p m (objects-early s k at (drop j ws) p n e (omega (arith, left))) refl
 
   module _ (no : OneOf (0 ∷ 1 ∷ 2 ∷ 4 ∷ 5 ∷ 6 ∷ []) (tagOf token-type.the-type (planTokenAt s at))) where
-    pub onward-refused : (r : Parsed) (c p : ℕ) (m : List ℕ) → r ≡ answerOf (namedAction s (k .objects) at) → r ≡ Refused c p → Listed r out₀ m (objectsTo s k ws from)
+    pub onward-refused : (r : Parsed) (c p : ℕ) (m : List ℕ) → r ≡ answerOf (namedAction s (k .objects) at) → r ≡ Refused c p
+        → Listed r out₀ m (objectsTo s k ws from)
     onward-refused r c p m q e = stops r c p m (objects-refused s k at no (drop j ws) c p (argument-refused s k at c p (sym q ∙ e))) e
 
     module _ (a v : ℕ) (q : answerOf (namedAction s (k .objects) at) ≡ Done a v) where
       pub onward-extra : (p : ℕ) (m : List ℕ) → p ≡ placeOf (planTokenAt s at) → length ws ≤ j → Listed (Refused 9 p) out₀ m (objectsTo s k ws from)
-      onward-extra p m e h = stops (Refused 9 p) 9 _ m (objects-extra s k at no (drop j ws) _ a (argument-read s k at a v q) (omega (arith, left))) (ap (Refused 9) e)
+      onward-extra p m e h = stops (Refused 9 p) 9 _ m (objects-extra s k at no (drop j ws) _ a (argument-read s k at a v q) (omega (arith, left)))
+          (ap (Refused 9) e)
 
       module _ (want : ℕ) (h : j < length ws) (w : want ≡ getD ws j 0) where
-        test : isBelow (length (k .types)) (k .types) (typeOf (entryAt (k .objects) v)) (getD (drop j ws) 0 0) ≡ isBelow (length (k .types)) (k .types) (typeOf (entryAt (k .objects) v)) want
+        test : isBelow (length (k .types)) (k .types) (typeOf (entryAt (k .objects) v)) (getD (drop j ws) 0 0) ≡ isBelow (length (k .types))
+            (k .types) (typeOf (entryAt (k .objects) v)) want
         test = rw (getD-drop j ws 0 0, add-zero j, w)
 
-        pub onward-unfit : (p : ℕ) (m : List ℕ) → p ≡ placeOf (planTokenAt s at) → isBelow (length (k .types)) (k .types) (typeOf (entryAt (k .objects) v)) want ≡ false
+        pub onward-unfit : (p : ℕ) (m : List ℕ) → p ≡ placeOf (planTokenAt s at)
+            → isBelow (length (k .types)) (k .types) (typeOf (entryAt (k .objects) v)) want ≡ false
             → Listed (Refused 10 p) out₀ m (objectsTo s k ws from)
         onward-unfit p m e b =
-            stops (Refused 10 p) 10 _ m (objects-unfit s k at no (drop j ws) _ a (argument-read s k at a v q) (omega (arith, left)) (test ∙ b)) (ap (Refused 10) e)
+            stops (Refused 10 p) 10 _ m (objects-unfit s k at no (drop j ws) _ a (argument-read s k at a v q) (omega (arith, left)) (test ∙ b))
+            (ap (Refused 10) e)
 
         pub onward-more : isBelow (length (k .types)) (k .types) (typeOf (entryAt (k .objects) v)) want ≡ true → Onward s k ws from out₀ (set out j v) (j + 1) a
         onward-more b = record {
           on = λ r m n.
               let e : drop 1 (drop j ws) ≡ drop (j + 1) ws = drop-drop 1 j ws in
-              o .on r m (rw (objects-more s k at no (drop j ws) _ a (argument-read s k at a v q) (omega (arith, left)) (test ∙ b), e) (wrote-cons out j r m v (objectsTo s k (drop (j + 1) ws) a) n));
+              o .on r m (rw (objects-more s k at no (drop j ws) _ a (argument-read s k at a v q) (omega (arith, left)) (test ∙ b), e)
+              (wrote-cons out j r m v (objectsTo s k (drop (j + 1) ws) a) n));
         }
 
 -- ---- of what the model's numbers say
@@ -231,7 +240,8 @@ module _ (tables : List ℕ) (c : Counts) where
     known-given s t at e = named-at s (objectsIn tables c) t at e
 
     pub known-fits : (k : Known) (i want : ℕ) → k ≡ knownIn tables c heads acting code starts
-        → isBelow (length (typesIn tables c)) (typesIn tables c) (typeOf (entryAt (objectsIn tables c) i)) want ≡ isBelow (length (k .types)) (k .types) (typeOf (entryAt (k .objects) i)) want
+        → isBelow (length (typesIn tables c)) (typesIn tables c) (typeOf (entryAt (objectsIn tables c) i)) want ≡ isBelow (length (k .types))
+        (k .types) (typeOf (entryAt (k .objects) i)) want
     unfolding knownIn
     known-fits k i want e = rw e
 

@@ -24,7 +24,8 @@ pub fn object_of<'a>(tables: &'a [u8], counts: Counts, w: &'a [u8]) -> Place
 // Whether object i is of the wanted type, or below it.
 pub fn is_fit(tables: &[u8], counts: Counts, i: usize, want: usize) -> bool
     requires { ⌜ Tabled (now tables) counts ⌝ }
-    ensures { λ r. ⌜ r ≡ isBelow (length (typesIn (now (tables .entry)) counts)) (typesIn (now (tables .entry)) counts) (typeOf (entryAt (objectsIn (now (tables .entry)) counts) i)) want ⌝ }
+    ensures { λ r. ⌜ r ≡ isBelow (length (typesIn (now (tables .entry)) counts)) (typesIn (now (tables .entry)) counts)
+        (typeOf (entryAt (objectsIn (now (tables .entry)) counts) i)) want ⌝ }
 {
     let n = counts.types;
     scope::is_below(

@@ -97,7 +97,9 @@ pub fn objects_at<'a>(
     out: &mut [u8],
 ) -> Parsed
     requires { ⌜ Tabled (now tables) counts × Headed (now heads) acting ⌝ }
-    ensures { λ r. ⌜ Listed r (now (out .entry)) (now (out .exit)) (objectsTo (now (text .entry)) (knownIn (now (tables .entry)) counts (now (heads .entry)) acting (now (code .entry)) (now (starts .entry))) (wantedOf (entryAt (signedIn (now (heads .entry)) acting) i)) from) ⌝ }
+    ensures { λ r. ⌜ Listed r (now (out .entry)) (now (out .exit))
+        (objectsTo (now (text .entry)) (knownIn (now (tables .entry)) counts (now (heads .entry)) acting (now (code .entry)) (now (starts .entry)))
+        (wantedOf (entryAt (signedIn (now (heads .entry)) acting) i)) from) ⌝ }
 {
     let arity = known::arity(heads, acting, i);
     let mut j = 0;

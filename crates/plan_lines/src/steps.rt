@@ -37,7 +37,8 @@ fn act_at<'a>(
     start: usize,
 ) -> Line
     requires { ⌜ Tabled (now tables) counts × Headed (now heads) acting × (start < 1000000000000) ⌝ }
-    ensures { λ r. ⌜ Stepped acting r (actAt (now (text .entry)) (knownIn (now (tables .entry)) counts (now (heads .entry)) acting (now (code .entry)) (now (starts .entry))) number start from) ⌝ }
+    ensures { λ r. ⌜ Stepped acting r (actAt (now (text .entry))
+        (knownIn (now (tables .entry)) counts (now (heads .entry)) acting (now (code .entry)) (now (starts .entry))) number start from) ⌝ }
 {
     let m = reading::mark_due(text, from, 58);
     let Parsed::Done(colon, _) = m else {
@@ -97,7 +98,8 @@ pub fn line_at<'a>(
     before: usize,
 ) -> Line
     requires { ⌜ Tabled (now tables) counts × Headed (now heads) acting ⌝ }
-    ensures { λ r. ⌜ Lined acting r (lineAt (now (text .entry)) (knownIn (now (tables .entry)) counts (now (heads .entry)) acting (now (code .entry)) (now (starts .entry))) number before 0) ⌝ }
+    ensures { λ r. ⌜ Lined acting r (lineAt (now (text .entry))
+        (knownIn (now (tables .entry)) counts (now (heads .entry)) acting (now (code .entry)) (now (starts .entry))) number before 0) ⌝ }
 {
     let t = tokens::plan_token_at(text, 0);
     if let Token::End(_) = t {

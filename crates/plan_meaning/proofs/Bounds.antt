@@ -1,4 +1,5 @@
--- How large the numbers are that a plan's text can give, whatever the text: those of its steps and of its points' times; its first refusal stands in the table. Assumes nothing.
+-- How large the numbers are that a plan's text can give, whatever the text: those of its steps and of its points' times; its first refusal stands in
+-- the table. Assumes nothing.
 use Prim.Native.Nat.{ℕ, suc, _+_, _≤_, _<_}
 use mathlib.Core.Bool.{Bool, true, false}
 use mathlib.Core.List.{List, [], _∷_, _++_, map}
@@ -152,7 +153,8 @@ module _ (k : Known) where
   refusal-small (l ∷ ls) n start lo h before e q = go (ltb 1000000 n) refl (λ u. refusal-small ls (suc n) u (omega arith))
     where
       go : (b : Bool) → ltb 1000000 n ≡ b
-          → ((u : ℕ) → suc n ≤ 1000001 → (xs : List (Step Act)) (x : Refused) → firstRefusal limits xs (answers (reader k) (suc n) u ls) ≡ some x → TextRefusal x)
+          → ((u : ℕ) → suc n ≤ 1000001 → (xs : List (Step Act)) (x : Refused) → firstRefusal limits xs (answers (reader k) (suc n) u ls) ≡ some x
+          → TextRefusal x)
           → TextRefusal e
       go true t ih = past-most n start t h l ls before e q
       go false t ih =
@@ -172,6 +174,7 @@ times-small (x ∷ xs) a = (omega (arith, starts), go (x .span) (a .0 .duration)
     starts : x .start < 1000000000000
     starts = a .0 .start
 
-    go : (d : Span) → durationOf d < 1000000000000 → All (λ t. t < 2000000000000) (map time (points xs)) → All (λ t. t < 2000000000000) (map time (ending x d ++ points xs))
+    go : (d : Span) → durationOf d < 1000000000000 → All (λ t. t < 2000000000000) (map time (points xs))
+        → All (λ t. t < 2000000000000) (map time (ending x d ++ points xs))
     go moment h ih = ih
     go (lasting d) h ih = (omega (arith, starts), ih)

@@ -10,7 +10,8 @@ use borrow.Author.Tests.{ltb-true, ltb-false, leb-true, leb-false, lt-ltb, le-lt
 use lib.Dec.{leb, ltb}
 use lib.ListN.{length}
 use Rattle.plan_meaning.specs.Lists.{keep}
-use Rattle.plan_meaning.specs.Plan.{Span, moment, lasting, Step, Point, begins, ends, Run, Rules, time, ending, points, at, from, endsAfter, under, instant, upTo}
+use Rattle.plan_meaning.specs.Plan.{Span, moment, lasting, Step, Point, begins, ends, Run, Rules, time, ending, points, at, from, endsAfter, under}
+use Rattle.plan_meaning.specs.Plan.{instant, upTo}
 use Rattle.plan_meaning.specs.Machine.{soonest, underWay, drain}
 use Rattle.plan_meaning.proofs.Lists.{All, all-map, all-keep, keep-all, keep-none, keep-keep, keep-shorter}
 
@@ -155,6 +156,7 @@ module _ {S A W : Type 0} (R : Rules S A W) (plan : List (Step A)) where
             let l′ : m < b = ltb-true m b e in
             let am : a ≤ m = soonest-greatest a b (from a (points plan)) h (from-is a (points plan)) in
             let ff : from (suc m) (from a (points plan)) ≡ from (suc m) (points plan) = from-from a (suc m) (points plan) (omega arith) in
-            let sh : length (from (suc m) (points plan)) < length (from a (points plan)) = rw ff at (soonest-falls m b (from a (points plan)) (omega arith) l′) in
+            let sh : length (from (suc m) (points plan)) < length (from a (points plan)) =
+            rw ff at (soonest-falls m b (from a (points plan)) (omega arith) l′) in
             drain-go R b n (upTo R plan a) (from a (points plan)) l′
             ∙ rw (turn a m am s (soonest-from b (from a (points plan))), ff) (ih (suc m) l′ (all-map (λ x g. omega arith) plan s) (omega arith))

@@ -19,11 +19,13 @@ use Rattle.plan_meaning.specs.Plan.{Span, moment, lasting, Run, going, f
 use Rattle.plan_meaning.specs.Plan as P
 use Rattle.plan_meaning.specs.Text.{meaning}
 use Rattle.plan_meaning.specs.Promised.{Act, rulesOf}
-use Rattle.plan_meaning.specs.Lines.{Known, mark, opening, name, lineEnd, startAt, argument, fits, objectsTo, durationIn, spanOf, actAt, lineAt, Refused, reader, limits}
+use Rattle.plan_meaning.specs.Lines.{Known, mark, opening, name, lineEnd, startAt, argument, fits, objectsTo, durationIn, spanOf, actAt, lineAt, Refused}
+use Rattle.plan_meaning.specs.Lines.{reader, limits}
 
 -- on an `unfolding` line this opens all that a plan's text goes through
 unfoldable pub open-plans : Unit {0}
-unfolding open-tokens open-happenings lookup declared isBelow padded mark opening name lineEnd startAt argument fits objectsTo durationIn spanOf actAt lineAt upTo verdict firstRefusal result meaning
+unfolding open-tokens open-happenings lookup declared isBelow padded mark opening name lineEnd startAt argument fits objectsTo durationIn spanOf actAt
+    lineAt upTo verdict firstRefusal result meaning
 open-plans = tt
 
 -- pumps a and b; `ready` and `on` of each, `lock` and `doses` of each

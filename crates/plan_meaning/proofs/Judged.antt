@@ -8,7 +8,8 @@ use native.Mathlib.Omega.{arith}
 use borrow.Author.Tests.{ltb-true, ltb-false, lt-ltb, le-ltb}
 use lib.Dec.{ltb, eqb}
 use lib.ListN.{length, length-append}
-use Rattle.plan_meaning.specs.Plan.{Run, Rules, Step, Point, Limits, Answer, blank, step, refusal, Result, refused, ended, verdict, steps, firstRefusal, unless, result}
+use Rattle.plan_meaning.specs.Plan.{Run, Rules, Step, Point, Limits, Answer, blank, step, refusal, Result, refused, ended, verdict, steps, firstRefusal}
+use Rattle.plan_meaning.specs.Plan.{unless, result}
 use Rattle.plan_meaning.specs.Machine.{Check, waits, halted, fresh, take, takes, finish}
 use Rattle.plan_meaning.specs.Text.{Reader, lines, startAfter, says, answer, answers, judged, meaning}
 use Rattle.plan_meaning.specs.Feed.{Feed, reading, byte, feed, new}
@@ -53,7 +54,8 @@ module _ {S A W E : Type 0} (R : Rules S A W) (L : Limits A E) (D : Reader A E) 
         go true e = rw (e, k .empty (ltb-true (D .most) n e), says-none n s)
 
     -- a line that is refused as a whole, whatever stands after it
-    at-stop : (e : E) (l : List ℕ) (ls : List (List ℕ)) → (ltb (D .width) (length l) || ltb (D .most) n) ≡ true → ((ms : List (List ℕ)) → answer D n s l ms ≡ refusal e)
+    at-stop : (e : E) (l : List ℕ) (ls : List (List ℕ)) → (ltb (D .width) (length l) || ltb (D .most) n) ≡ true
+        → ((ms : List (List ℕ)) → answer D n s l ms ≡ refusal e)
         → some e ≡ told (waits r s q) n s (l ∷ ls)
     at-stop e l [] h f = rw (h, f [])
     at-stop e l (m ∷ ls) h f = rw (f (judged D (suc n) (m ∷ ls))) (sym (ap stopOf (takes-halted e (answers D (suc n) s (judged D (suc n) (m ∷ ls))))))
@@ -77,7 +79,8 @@ module _ {S A W E : Type 0} (R : Rules S A W) (L : Limits A E) (D : Reader A E) 
         go false e f = rw (e, f .2) (at-stop (D .beyond n) (b ∷ f .0) (f .1) (wide (b ∷ f .0)) (λ ms. rw most))
 
     at-lf : (part : List ℕ) (b : ℕ) (bs : List ℕ) → n ≤ D .most → eqb b 10 ≡ true → length part ≤ D .width
-        → told (take R L (waits r s q) (D .line n s part)) (suc n) (startAfter s (D .line n s part)) (begun [] (lines bs)) ≡ told (waits r s q) n s (begun part (lines (b ∷ bs)))
+        → told (take R L (waits r s q) (D .line n s part)) (suc n) (startAfter s (D .line n s part)) (begun [] (lines bs)) ≡ told (waits r s q) n s
+        (begun part (lines (b ∷ bs)))
     at-lf part b bs h e k = rw (e, first bs .2, append-nil, le-ltb (D .most) n h, says-short R L D n s part k)
 
     at-full : (part : List ℕ) (b : ℕ) (bs : List ℕ) → n ≤ D .most → eqb b 10 ≡ false → length part ≡ D .width

@@ -8,7 +8,8 @@ use Rattle.plan_meaning.specs.Lines.{onMark}
 
 -- R holds of the token
 module _ {A : Type 0} {P : A → ℕ → Type 0} {Q : ℕ → ℕ → Type 0} (R : Token → Type 0) where
-  pub given-mark : (t : Token) (f : ℕ → ℕ → Reader A) (g : Reader A) (n : ℕ) → R t → ((b p e : ℕ) → R (T.Mark b p e) → Given P Q (f b p n)) → Given P Q (g n) → Given P Q (onMark t f g n)
+  pub given-mark : (t : Token) (f : ℕ → ℕ → Reader A) (g : Reader A) (n : ℕ) → R t → ((b p e : ℕ) → R (T.Mark b p e) → Given P Q (f b p n))
+      → Given P Q (g n) → Given P Q (onMark t f g n)
   given-mark (T.Word k p e) f g n r h o = o
   given-mark (T.Number z p e) f g n r h o = o
   given-mark (T.Open p e) f g n r h o = o

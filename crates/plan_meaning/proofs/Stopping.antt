@@ -4,7 +4,8 @@ use mathlib.Core.List.{List, [], _∷_}
 use mathlib.Core.Option.{Option, some, none}
 use mathlib.Core.Path.{_≡_, refl}
 use Rattle.plan_meaning.specs.Lists.{keep}
-use Rattle.plan_meaning.specs.Plan.{Step, Point, Outcome, next, stop, Run, going, failed, Rules, tested, points, at, latest, under, after, instant, upTo, judged, verdict}
+use Rattle.plan_meaning.specs.Plan.{Step, Point, Outcome, next, stop, Run, going, failed, Rules, tested, points, at, latest, under, after, instant, upTo}
+use Rattle.plan_meaning.specs.Plan.{judged, verdict}
 
 module _ {S A W : Type 0} (R : Rules S A W) (Q : W → Type 0) where
   -- the reasons that the layer of happenings gives

@@ -9,7 +9,8 @@ use borrow.Author.Tests.{leb-false, lt-leb}
 use lib.Dec.{leb}
 use lib.ListN.{length}
 use lib.Seq.{append-snoc}
-use Rattle.plan_meaning.specs.Plan.{Span, moment, lasting, Step, Point, Rules, time, ending, pointsOf, points, at, from, latest, under, upTo, verdict, Answer, blank, step, refusal, Limits, refused, ended, steps, tooMany, firstRefusal, unless, result}
+use Rattle.plan_meaning.specs.Plan.{Span, moment, lasting, Step, Point, Rules, time, ending, pointsOf, points, at, from, latest, under, upTo, verdict}
+use Rattle.plan_meaning.specs.Plan.{Answer, blank, step, refusal, Limits, refused, ended, steps, tooMany, firstRefusal, unless, result}
 use Rattle.plan_meaning.specs.Machine.{Check, waits, halted, fresh, takes, finish}
 use Rattle.plan_meaning.proofs.Lists.{All, all-map, all-append, keep-append}
 use Rattle.plan_meaning.proofs.Drain.{From, Below, at-before, at-beyond, from-all, skip, drains}
@@ -103,13 +104,18 @@ module _ {S A W E : Type 0} (R : Rules S A W) (L : Limits A E) where
   streams before s a (blank ∷ ls) u = streams before s a ls u
   streams before s a (refusal e ∷ ls) u = halts e ls
   streams before s a (step x ∷ ls) u =
-      rw (drains R before (x .start) (length (from s (points before))) s (u .0) a (omega arith), ← queued before x, ← extend R before x (x .start) (omega arith))
+      rw (
+        drains R before (x .start) (length (from s (points before))) s (u .0) a (omega arith),
+        ← queued before x,
+        ← extend R before x (x .start) (omega arith),
+      )
       (go (tooMany L before x) refl
       (streams (before ++ x ∷ []) (x .start)
       (all-append (λ y. y .start ≤ x .start) before (x ∷ []) (all-map (λ y g. let h = u .0 in omega arith) before a) (omega arith, tt)) ls (u .1)))
     where
       go : (d : Bool) → tooMany L before x ≡ d
-          → finish R L (takes R L (at-line (before ++ x ∷ []) (x .start)) ls) ≡ unless (firstRefusal L (before ++ x ∷ []) ls) (verdict R ((before ++ x ∷ []) ++ steps ls))
+          → finish R L (takes R L (at-line (before ++ x ∷ []) (x .start)) ls) ≡ unless (firstRefusal L (before ++ x ∷ []) ls)
+          (verdict R ((before ++ x ∷ []) ++ steps ls))
           → finish R L (takes R L (cond (tooMany L before x) (halted (L .crowded x)) (at-line (before ++ x ∷ []) (x .start))) ls)
           ≡ unless (cond (tooMany L before x) (some (L .crowded x)) (firstRefusal L (before ++ x ∷ []) ls)) (verdict R (before ++ x ∷ steps ls))
       go true m ih = rw m (halts (L .crowded x) ls)

@@ -78,7 +78,8 @@ module _ {S A W E : Type 0} (R : Rules S A W) (L : Limits A E) (D : Reader A E) 
         go false e f = rw (e, f .2, lt-ltb (D .most) n h) (halts R L (D .beyond n) (answers D (suc n) s (f .1)))
 
     at-lf : (part : List ℕ) (b : ℕ) (bs : List ℕ) → n ≤ D .most → eqb b 10 ≡ true → length part ≤ D .width
-        → after-lines (begun part (lines (b ∷ bs))) ≡ finish R L (takes R L (take R L (waits r s q) (D .line n s part)) (answers D (suc n) (startAfter s (D .line n s part)) (begun [] (lines bs))))
+        → after-lines (begun part (lines (b ∷ bs))) ≡ finish R L
+        (takes R L (take R L (waits r s q) (D .line n s part)) (answers D (suc n) (startAfter s (D .line n s part)) (begun [] (lines bs))))
     unfolding after-lines
     at-lf part b bs h e k = rw (e, first bs .2, append-nil, le-ltb (D .most) n h, says-short n s part k)
 
@@ -89,7 +90,8 @@ module _ {S A W E : Type 0} (R : Rules S A W) (L : Limits A E) (D : Reader A E) 
         → after-lines (begun part (lines (b ∷ bs))) ≡ refused (D .long n s (part ++ b ∷ []))
     unfolding after-lines
     at-full part b bs h e k =
-        rw (e, first bs .2, le-ltb (D .most) n h, says-long n s part (first bs .0) b k) (halts R L (D .long n s (part ++ b ∷ [])) (answers D (suc n) s (first bs .1)))
+        rw (e, first bs .2, le-ltb (D .most) n h, says-long n s part (first bs .0) b k)
+        (halts R L (D .long n s (part ++ b ∷ [])) (answers D (suc n) s (first bs .1)))
 
   -- s is the start of the last step that the check has read
   abbrev pub Last : Check S A W E → ℕ → Type 0
@@ -153,14 +155,16 @@ module _ {S A W E : Type 0} (R : Rules S A W) (L : Limits A E) (D : Reader A E) 
       where
         go : (c d : Bool) → (ltb (D .most) n && someByte l ls) ≡ c → ltb (D .width) (length l) ≡ d → s ≤ x .start
         go true d p q = let z : refusal (D .beyond n) ≡ step x = rw p at e in absurd (never (D .beyond n) x z)
-        go false true p q = let z : refusal (D .long n s (firsts (suc (D .width)) l)) ≡ step x = rw (p, q) at e in absurd (never (D .long n s (firsts (suc (D .width)) l)) x z)
+        go false true p q = let z : refusal (D .long n s (firsts (suc (D .width)) l)) ≡ step x =
+            rw (p, q) at e in absurd (never (D .long n s (firsts (suc (D .width)) l)) x z)
         go false false p q = let z : D .line n s l ≡ step x = rw (p, q) at e in promise n s l x z
 
     pub answers-rise : (ls : List (List ℕ)) (n s : ℕ) → Rises s (answers D n s ls)
     answers-rise [] n s = tt
     answers-rise (l ∷ ls) n s = go (answer D n s l ls) (answer-rises n s l ls) (answers-rise ls (suc n))
       where
-        go : (a : Answer A E) → ((x : Step A) → a ≡ step x → s ≤ x .start) → ((u : ℕ) → Rises u (answers D (suc n) u ls)) → Rises s (a ∷ answers D (suc n) (startAfter s a) ls)
+        go : (a : Answer A E) → ((x : Step A) → a ≡ step x → s ≤ x .start) → ((u : ℕ) → Rises u (answers D (suc n) u ls))
+            → Rises s (a ∷ answers D (suc n) (startAfter s a) ls)
         go blank f ih = ih s
         go (refusal e) f ih = tt
         go (step x) f ih = (f x refl, ih (x .start))
@@ -171,4 +175,5 @@ module _ {S A W E : Type 0} (R : Rules S A W) (L : Limits A E) (D : Reader A E) 
     fed ps =
         rw (feeds-joined (new R L D) ps)
         (reads (joined ps) (fresh R L) 0 1 [] (record { short = omega arith; empty = λ h. refl }) refl
-        ∙ rw (first (joined ps) .2) (right R L (answers D 1 0 (first (joined ps) .0 ∷ first (joined ps) .1)) (answers-rise (first (joined ps) .0 ∷ first (joined ps) .1) 1 0)))
+        ∙ rw (first (joined ps) .2) (right R L (answers D 1 0 (first (joined ps) .0 ∷ first (joined ps) .1))
+        (answers-rise (first (joined ps) .0 ∷ first (joined ps) .1) 1 0)))

@@ -26,7 +26,8 @@ use Rattle.domain_meaning.specs.Actions as A
 use Rattle.plan_meaning.specs.Plan.{Span, moment, lasting, Step}
 use Rattle.plan_meaning.specs.Promised.{Act, actionOf, durationOf}
 use Rattle.plan_meaning.specs.Lines as L
-use Rattle.plan_meaning.specs.Lines.{Known, declarations, mark, opening, name, lineEnd, startAt, argument, fits, objectsTo, durationIn, bracketOf, endOf, spanOf, actAt, lineAt}
+use Rattle.plan_meaning.specs.Lines.{Known, declarations, mark, opening, name, lineEnd, startAt, argument, fits, objectsTo, durationIn, bracketOf, endOf}
+use Rattle.plan_meaning.specs.Lines.{spanOf, actAt, lineAt}
 use Rattle.plan_meaning.specs.Stored.{spanIn}
 use Rattle.plan_meaning.specs.Listed.{planRows, listedRow}
 use Rattle.plan_meaning.proofs.Listed.{row-of}

@@ -4,7 +4,8 @@ use mathlib.Core.Bool.{true, false, cond}
 use mathlib.Core.List.{List, [], _∷_, _++_}
 use lib.Dec.{ltb}
 use lib.ListN.{length}
-use Rattle.plan_meaning.specs.Plan.{Step, Point, begins, ends, Run, going, Rules, time, pointsOf, at, from, latest, instant, judged, Answer, blank, step, refusal, Limits, Result, refused, ended}
+use Rattle.plan_meaning.specs.Plan.{Step, Point, begins, ends, Run, going, Rules, time, pointsOf, at, from, latest, instant, judged, Answer, blank, step}
+use Rattle.plan_meaning.specs.Plan.{refusal, Limits, Result, refused, ended}
 
 pub data Check (S A W E : Type 0) : Type 0 where
   waits : Run S W → ℕ → List (Point A) → Check S A W E

@@ -29,7 +29,8 @@ pub data Outcome (S W : Type 0) : Type 0 where
   next : S → Outcome S W
   stop : W → Outcome S W
 
--- a run so far: the state and the time of the last happening, 0 if none; or a failure: the state to hand back, "those before the failing happening; after it, if
+-- a run so far: the state and the time of the last happening, 0 if none; or a failure: the state to hand back, "those before the failing happening;
+-- after it, if
 -- step 5 failed", its time and its reason
 pub data Run (S W : Type 0) : Type 0 where
   going : S → ℕ → Run S W

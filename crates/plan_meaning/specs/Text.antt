@@ -6,7 +6,8 @@ use lib.Dec.{ltb, eqb}
 use lib.ListN.{length, take}
 use Rattle.plan_meaning.specs.Plan.{Rules, Limits, Answer, blank, step, refusal, Result, result}
 
--- what the layer of words promises: how a line is read, from its number, the start of the step before it, and its bytes, and the refusal of one that is too long, from its bytes up to the first past the limit
+-- what the layer of words promises: how a line is read, from its number, the start of the step before it, and its bytes, and the refusal of one that
+-- is too long, from its bytes up to the first past the limit
 pub record Reader (A E : Type 0) : Type 0 where
   pub width : ℕ
   pub most : ℕ

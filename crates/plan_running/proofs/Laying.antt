@@ -32,7 +32,8 @@ unfolding Laid
 lay-none f w l rows objects = record { behind = omega arith; counted = refl; laid = tt }
 
 -- s is the next slot
-module _ {f : Slot → Bool} {w : Slot → ℕ} {l : List Slot} {rows objects : List ℕ} {i j : ℕ} (k : Laying f w l rows objects i j) (h : i < length l) {s : Slot} (there : getD l i noSlot ≡ s) where
+module _ {f : Slot → Bool} {w : Slot → ℕ} {l : List Slot} {rows objects : List ℕ} {i j : ℕ} (k : Laying f w l rows objects i j) (h : i < length l)
+    {s : Slot} (there : getD l i noSlot ≡ s) where
   more : rowsFrom f w (take (i + 1) l) ≡ rowsFrom f w (take i l) ++ rowsFrom f w (s ∷ [])
   more =
       rw (add-one, take-suc l i noSlot h, keep-append f (take i l) (getD l i noSlot ∷ []), there) (map-append (rowAt w) (keep f (take i l)) (keep f (s ∷ [])))

@@ -72,7 +72,8 @@ module _ (os : List ℕ) (j a b c d : ℕ) where
 
   who-below : (k : ℕ) → k < j → whoIn (four os (4 * j) a b c d) k ≡ whoIn os k
   who-below k h =
-      sym (who-of (four os (4 * j) a b c d) k (byte-below (4 * k) (omega arith)) (byte-below (4 * k + 1) (omega arith)) (byte-below (4 * k + 2) (omega arith)) (byte-below (4 * k + 3) (omega arith)))
+      sym (who-of (four os (4 * j) a b c d) k (byte-below (4 * k) (omega arith)) (byte-below (4 * k + 1) (omega arith))
+      (byte-below (4 * k + 2) (omega arith)) (byte-below (4 * k + 3) (omega arith)))
       ∙ who-of os k refl refl refl refl
 
 -- ---- a row, written as number j

@@ -88,7 +88,8 @@ module _ (code starts : List ℕ) (es : Table) (few : length es ≤ 32) where
     unfolding stepIn
     row-step x j h el ea ed ew = rw (duration-back (x .duration)) (Given.row-step code starts es few rows objects j none-such h el ea ed ew)
 
-    row-point : (s : Slot) (j : ℕ) → getD rows (4 * j + 2) 0 ≡ pointWhen s → Code.stepIn code (placedIn starts rows objects j) ≡ stepFor actions (stepIn (s .step))
+    row-point : (s : Slot) (j : ℕ) → getD rows (4 * j + 2) 0 ≡ pointWhen s
+        → Code.stepIn code (placedIn starts rows objects j) ≡ stepFor actions (stepIn (s .step))
         → Code.pointIn code (placedIn starts rows objects j) ≡ pointFor actions (pointIn s)
     unfolding pointIn
     row-point s j et ex = go (s .ends) refl
@@ -104,7 +105,8 @@ module _ (code starts : List ℕ) (es : Table) (few : length es ≤ 32) where
       unfolding soundAll
       rest-sound = and-right (soundStep (length es) (s .step)) (soundAll (length es) ss) h
 
-      first-step : (w : Slot → ℕ) (j : ℕ) → Laid rows objects j (map (rowAt w) (s ∷ ss)) → Code.stepIn code (placedIn starts rows objects j) ≡ stepFor actions (stepOf s)
+      first-step : (w : Slot → ℕ) (j : ℕ) → Laid rows objects j (map (rowAt w) (s ∷ ss))
+          → Code.stepIn code (placedIn starts rows objects j) ≡ stepFor actions (stepOf s)
       unfolding soundAll Laid
       first-step w j r =
           let a = sound-action (length es) (s .step) (and-left (soundStep (length es) (s .step)) (soundAll (length es) ss) h) in
@@ -117,7 +119,8 @@ module _ (code starts : List ℕ) (es : Table) (few : length es ≤ 32) where
         let b : j + suc n - (j + 1) ≡ n = omega arith in
         rw (a, b) at (points-step code starts rows objects (j + suc n) j (omega arith) refl)
 
-    first-steps : (n j : ℕ) → stepsIn code starts rows objects (suc n) j ≡ Code.stepIn code (placedIn starts rows objects j) ∷ stepsIn code starts rows objects n (j + 1)
+    first-steps : (n j : ℕ) → stepsIn code starts rows objects (suc n) j ≡ Code.stepIn code (placedIn starts rows objects j)
+        ∷ stepsIn code starts rows objects n (j + 1)
     first-steps n j =
         let a : j + suc n - j ≡ suc n = omega arith in
         let b : j + suc n - (j + 1) ≡ n = omega arith in
@@ -141,13 +144,15 @@ module _ (code starts : List ℕ) (es : Table) (few : length es ≤ 32) where
   -- ---- when all slots are gone through
 
   module _ (t : ℕ) {l : List Slot} {rows objects : List ℕ} {n j : ℕ} (sound : soundAll (length es) (take n l) ≡ true) where
-    pub points-laid : Laying (isAt t) pointWhen l rows objects n j → pointsIn code starts rows objects j 0 ≡ map (pointFor actions) (at t (map pointIn (take n l)))
+    pub points-laid : Laying (isAt t) pointWhen l rows objects n j
+        → pointsIn code starts rows objects j 0 ≡ map (pointFor actions) (at t (map pointIn (take n l)))
     points-laid k =
         let kept = keep (isAt t) (take n l) in
         let count : length kept ≡ j = sym (length-map kept (rowAt pointWhen)) ∙ k .counted in
         rw (← count, ← points-at t (take n l)) (laid-points rows objects kept 0 (sound-keep (length es) (isAt t) (take n l) sound) (k .laid))
 
-    pub steps-laid : Laying (isOpen t) endWhen l rows objects n j → stepsIn code starts rows objects j 0 ≡ map (stepFor actions) (underWay t (map pointIn (take n l)))
+    pub steps-laid : Laying (isOpen t) endWhen l rows objects n j
+        → stepsIn code starts rows objects j 0 ≡ map (stepFor actions) (underWay t (map pointIn (take n l)))
     steps-laid k =
         let kept = keep (isOpen t) (take n l) in
         let count : length kept ≡ j = sym (length-map kept (rowAt endWhen)) ∙ k .counted in

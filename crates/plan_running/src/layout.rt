@@ -15,10 +15,12 @@ ghost use Rattle.plan_waiting.specs.Waiting.{waiting, Sound, Timed};
 ghost use Rattle.plan_waiting.specs.Lent.{queueIn};
 ghost use Rattle.plan_running.specs.Laid.{Row, Laid};
 
-// Row j: the step x at a time of its action, 1 for its start, 3 for its end. The arrays come as slices: where an array is lent as a slice its length is known to the proof.
+// Row j: the step x at a time of its action, 1 for its start, 3 for its end. The arrays come as slices: where an array is lent as a slice its length
+// is known to the proof.
 fn lay(rows: &mut [usize], whos: &mut [u8], j: usize, x: Step, when: usize)
     requires { ⌜ (j < 64) × (length (now rows) ≡ 256) × (length (now whos) ≡ 256) ⌝ }
-    ensures { λ _. ⌜ ((l : List Row) → length l ≡ j → Laid (now (rows .entry)) (now (whos .entry)) 0 l → Laid (now (rows .exit)) (now (whos .exit)) 0 (l ++ record { step = x; when = when } ∷ [])) ⌝ }
+    ensures { λ _. ⌜ ((l : List Row) → length l ≡ j → Laid (now (rows .entry)) (now (whos .entry)) 0 l
+        → Laid (now (rows .exit)) (now (whos .exit)) 0 (l ++ record { step = x; when = when } ∷ [])) ⌝ }
 {
     let i = 4 * j;
     rows[i] = x.line;
@@ -41,7 +43,9 @@ pub fn lay_points<'a>(
     whos: &mut [u8; 256],
 ) -> usize
     requires { ⌜ Timed (queueIn (now words) (now objects) n) ⌝ }
-    ensures { λ r. ⌜ (r ≤ 64) × ((code starts : List ℕ) (es : Table) → Sound (length es) (queueIn (now (words .entry)) (now (objects .entry)) n) → length es ≤ 32 → pointsIn code starts (now (rows .exit)) (now (whos .exit)) r 0 ≡ map (pointFor (actionsAt code starts 0 es)) (at t (waiting (queueIn (now (words .entry)) (now (objects .entry)) n)))) ⌝ }
+    ensures { λ r. ⌜ (r ≤ 64) × ((code starts : List ℕ) (es : Table) → Sound (length es) (queueIn (now (words .entry)) (now (objects .entry)) n)
+        → length es ≤ 32 → pointsIn code starts (now (rows .exit)) (now (whos .exit)) r 0 ≡ map (pointFor (actionsAt code starts 0 es))
+        (at t (waiting (queueIn (now (words .entry)) (now (objects .entry)) n)))) ⌝ }
 {
     let mut i = 0;
     let mut j = 0;
@@ -66,7 +70,9 @@ pub fn lay_lines<'a>(
     whos: &mut [u8; 256],
 ) -> usize
     requires { ⌜ Timed (queueIn (now words) (now objects) n) ⌝ }
-    ensures { λ r. ⌜ (r ≤ 64) × ((code starts : List ℕ) (es : Table) → Sound (length es) (queueIn (now (words .entry)) (now (objects .entry)) n) → length es ≤ 32 → stepsIn code starts (now (rows .exit)) (now (whos .exit)) r 0 ≡ map (stepFor (actionsAt code starts 0 es)) (underWay t (waiting (queueIn (now (words .entry)) (now (objects .entry)) n)))) ⌝ }
+    ensures { λ r. ⌜ (r ≤ 64) × ((code starts : List ℕ) (es : Table) → Sound (length es) (queueIn (now (words .entry)) (now (objects .entry)) n)
+        → length es ≤ 32 → stepsIn code starts (now (rows .exit)) (now (whos .exit)) r 0 ≡ map (stepFor (actionsAt code starts 0 es))
+        (underWay t (waiting (queueIn (now (words .entry)) (now (objects .entry)) n)))) ⌝ }
 {
     let mut i = 0;
     let mut j = 0;

@@ -30,7 +30,8 @@ pub struct Drained {
     pub past: Past,
 }
 
-// The happening at t, at which a point waits, and what spans it; after a failure nothing happens any more. The last four arrays are lent to be written in: the rows of points and of lines under way.
+// The happening at t, at which a point waits, and what spans it; after a failure nothing happens any more. The last four arrays are lent to be
+// written in: the rows of points and of lines under way.
 fn happen_at<'a>(
     code: &'a [u8],
     starts: &'a [usize],
@@ -48,8 +49,14 @@ fn happen_at<'a>(
     lines: &mut [usize; 256],
     others: &mut [u8; 256],
 ) -> Past
-    requires { ⌜ Timed (queueIn (now words) (now objects) count) × (0 < length (at t (waiting (queueIn (now words) (now objects) count)))) × (length (now code) ≤ 32768) × (now fresh ≡ now numbers) ⌝ }
-    ensures { λ r. ⌜ ((c : Cond) (es : Table) (s : State) → Sound (length es) (queueIn (now (words .entry)) (now (objects .entry)) count) → length es ≤ 32 → runIn r (stateIn (now (facts .exit)) (now (numbers .exit))) ≡ instant (rulesIn (now (code .entry)) (now (starts .entry)) (now (firsts .entry)) c es s) t (at t (waiting (queueIn (now (words .entry)) (now (objects .entry)) count))) (underWay t (waiting (queueIn (now (words .entry)) (now (objects .entry)) count))) (runIn past (stateIn (now (facts .entry)) (now (numbers .entry))))) × (now (fresh .exit) ≡ now (numbers .exit)) ⌝ }
+    requires { ⌜ Timed (queueIn (now words) (now objects) count) × (0 < length (at t (waiting (queueIn (now words) (now objects) count))))
+        × (length (now code) ≤ 32768) × (now fresh ≡ now numbers) ⌝ }
+    ensures { λ r. ⌜ ((c : Cond) (es : Table) (s : State) → Sound (length es) (queueIn (now (words .entry)) (now (objects .entry)) count)
+        → length es ≤ 32 → runIn r (stateIn (now (facts .exit)) (now (numbers .exit))) ≡ instant
+        (rulesIn (now (code .entry)) (now (starts .entry)) (now (firsts .entry)) c es s) t
+        (at t (waiting (queueIn (now (words .entry)) (now (objects .entry)) count)))
+        (underWay t (waiting (queueIn (now (words .entry)) (now (objects .entry)) count)))
+        (runIn past (stateIn (now (facts .entry)) (now (numbers .entry))))) × (now (fresh .exit) ≡ now (numbers .exit)) ⌝ }
 {
     let before = past.outcome;
     let Outcome::Done = before else {
@@ -93,7 +100,16 @@ pub fn drain_below<'a>(
     others: &mut [u8; 256],
 ) -> Drained
     requires { ⌜ Timed (queueIn (now words) (now objects) count) × (length (now code) ≤ 32768) × (now fresh ≡ now numbers) ⌝ }
-    ensures { λ r. ⌜ ((c : Cond) (es : Table) (s : State) → Sound (length es) (queueIn (now (words .entry)) (now (objects .entry)) count) → length es ≤ 32 → (runIn (r .past) (stateIn (now (facts .exit)) (now (numbers .exit))), waiting (queueIn (now (words .exit)) (now (objects .exit)) (r .count))) ≡ drain (rulesIn (now (code .entry)) (now (starts .entry)) (now (firsts .entry)) c es s) (length (waiting (queueIn (now (words .entry)) (now (objects .entry)) count))) b (runIn past (stateIn (now (facts .entry)) (now (numbers .entry)))) (waiting (queueIn (now (words .entry)) (now (objects .entry)) count))) × ((n : ℕ) → Sound n (queueIn (now (words .entry)) (now (objects .entry)) count) → Sound n (queueIn (now (words .exit)) (now (objects .exit)) (r .count))) × (now (fresh .exit) ≡ now (numbers .exit)) ⌝ }
+    ensures { λ r. ⌜ ((c : Cond) (es : Table) (s : State) → Sound (length es) (queueIn (now (words .entry)) (now (objects .entry)) count)
+        → length es ≤ 32 → (
+          runIn (r .past) (stateIn (now (facts .exit)) (now (numbers .exit))),
+          waiting (queueIn (now (words .exit)) (now (objects .exit)) (r .count)),
+        ) ≡ drain
+        (rulesIn (now (code .entry)) (now (starts .entry)) (now (firsts .entry)) c es s)
+        (length (waiting (queueIn (now (words .entry)) (now (objects .entry)) count))) b
+        (runIn past (stateIn (now (facts .entry)) (now (numbers .entry)))) (waiting (queueIn (now (words .entry)) (now (objects .entry)) count)))
+        × ((n : ℕ) → Sound n (queueIn (now (words .entry)) (now (objects .entry)) count)
+        → Sound n (queueIn (now (words .exit)) (now (objects .exit)) (r .count))) × (now (fresh .exit) ≡ now (numbers .exit)) ⌝ }
 {
     let mut n = count;
     let mut p = past;
@@ -130,7 +146,10 @@ pub fn judge<'a>(
     numbers: &'a [i64],
     past: Past,
 ) -> Past
-    ensures { λ r. ⌜ ((code starts : List ℕ) (es : Table) (s : State) → runIn r (stateIn (now (facts .entry)) (now (numbers .entry))) ≡ judged (rulesIn code starts (now (firsts .entry)) (conditionAt (now (goal .entry)) 0 .tree) es s) (runIn past (stateIn (now (facts .entry)) (now (numbers .entry))))) ⌝ }
+    ensures { λ r. ⌜ ((code starts : List ℕ) (es : Table) (s : State)
+        → runIn r (stateIn (now (facts .entry)) (now (numbers .entry))) ≡ judged
+        (rulesIn code starts (now (firsts .entry)) (conditionAt (now (goal .entry)) 0 .tree) es s)
+        (runIn past (stateIn (now (facts .entry)) (now (numbers .entry))))) ⌝ }
 {
     let before = past.outcome;
     let Outcome::Done = before else {

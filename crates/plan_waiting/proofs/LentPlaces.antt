@@ -151,7 +151,8 @@ module _ (words objects : List ℕ) (i : ℕ) (s : Slot) where
     where
       at : (j : ℕ) → j < 64 → (b : Bool) → eqb j i ≡ b → slotIn wordsWith objectsWith j ≡ getD (set (slotsFrom words objects 64 0) i s) j noSlot
       at j few true e =
-          rw (eqb-true j i e) (put-same (sized .0) (sized .1) h ∙ sym (getD-set-same (slotsFrom words objects 64 0) i s noSlot (omega (arith, slots-long words objects))))
+          rw (eqb-true j i e) (put-same (sized .0) (sized .1) h
+          ∙ sym (getD-set-same (slotsFrom words objects 64 0) i s noSlot (omega (arith, slots-long words objects))))
       at j few false e =
           put-other j (eqb-false j i e) ∙ sym (getD-set-other (slotsFrom words objects 64 0) i j s noSlot (eqb-false j i e) ∙ slot-there words objects j few)
 
@@ -198,7 +199,8 @@ timed-place words n i t h =
 
 -- as long as they are sifted, the next is as it was
 module _ (q : Queue) (words objects : List ℕ) where
-  pub sifted-timed : {f : Slot → Bool} {i j : ℕ} → Sifted f (q .slots) (slotsFrom words objects 64 0) i j → length (q .slots) ≡ 64 → Timed q → i < q .count → TimedWord words i
+  pub sifted-timed : {f : Slot → Bool} {i j : ℕ} → Sifted f (q .slots) (slotsFrom words objects 64 0) i j → length (q .slots) ≡ 64 → Timed q
+      → i < q .count → TimedWord words i
   sifted-timed {f} {i} k long t h =
       let few = t .1 .0 in
       (objects, rw (← slot-there words objects i (omega arith), same-at k) (timed-at q i long t h))

@@ -34,7 +34,8 @@ pub push-place : (l : List Slot) (n : ℕ) (s : Slot) → n < length l → take 
 push-place l n s h = rw add-one (take-suc-set l n s h)
 
 -- a place filled from another list, with which it agrees before it
-pub push-same : (l k : List Slot) (i : ℕ) {m : List Slot} → i < length l → i < length k → m ≡ set l i (getD k i noSlot) → take i l ≡ take i k → take (i + 1) m ≡ take (i + 1) k
+pub push-same : (l k : List Slot) (i : ℕ) {m : List Slot} → i < length l → i < length k → m ≡ set l i (getD k i noSlot) → take i l ≡ take i k
+    → take (i + 1) m ≡ take (i + 1) k
 push-same l k i hl hk there same = rw (there, push-place l i (getD k i noSlot) hl, same, add-one, take-suc k i noSlot hk)
 
 -- the first i places of l, and zeros behind
@@ -44,7 +45,13 @@ cleaned l i = take i l ++ replicate (64 - i) noSlot
 pub clean-more : (l : List Slot) (i : ℕ) → i < length l → i < 64 → set (cleaned l i) i (getD l i noSlot) ≡ cleaned l (i + 1)
 clean-more l i h k =
     let r : 64 - i ≡ suc (64 - (i + 1)) = omega arith in
-    rw (r, set-at (take i l) noSlot (replicate (64 - (i + 1)) noSlot) (getD l i noSlot) i (length-take-le i l (omega arith)), add-one i, take-suc l i noSlot h, append-snoc)
+    rw (
+      r,
+      set-at (take i l) noSlot (replicate (64 - (i + 1)) noSlot) (getD l i noSlot) i (length-take-le i l (omega arith)),
+      add-one i,
+      take-suc l i noSlot h,
+      append-snoc,
+    )
 
 pub cleaned-is : (l : List Slot) (n : ℕ) → n ≤ length l → _≡_ {A = Queue} (record { slots = cleaned l n; count = n }) (queueOf (take n l))
 unfolding queueOf

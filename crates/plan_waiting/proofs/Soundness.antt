@@ -48,7 +48,10 @@ module _ (n : ℕ) where
   pub sound-append : (l m : List Slot) → soundAll n l ≡ true → soundAll n m ≡ true → soundAll n (l ++ m) ≡ true
   unfolding soundAll
   sound-append [] m h k = k
-  sound-append (s ∷ ss) m h k = rw (and-left (soundStep n (s .step)) (soundAll n ss) h, sound-append ss m (and-right (soundStep n (s .step)) (soundAll n ss) h) k)
+  sound-append (s ∷ ss) m h k = rw (
+    and-left (soundStep n (s .step)) (soundAll n ss) h,
+    sound-append ss m (and-right (soundStep n (s .step)) (soundAll n ss) h) k,
+  )
 
   pub sound-snoc : (l : List Slot) (s : Slot) → soundAll n l ≡ true → soundStep n (s .step) ≡ true → soundAll n (l ++ s ∷ []) ≡ true
   unfolding soundAll

@@ -1,4 +1,5 @@
--- The points that wait, as they lie in lent numbers: six for each (line, action, time in the action, duration, start, width) and four objects. Any numbers say some points.
+-- The points that wait, as they lie in lent numbers: six for each (line, action, time in the action, duration, start, width) and four objects. Any
+-- numbers say some points.
 use Prim.Native.Nat.{ℕ, zero, suc, _+_, _*_}
 use mathlib.Core.Bool.{Bool, cond}
 use mathlib.Core.List.{List, [], _∷_}

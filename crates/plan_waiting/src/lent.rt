@@ -1,4 +1,5 @@
-// The points that wait, as numbers in lent arrays: within a call they change in place. Six numbers each (line, action, time in the action, duration, start, width) and four objects.
+// The points that wait, as numbers in lent arrays: within a call they change in place. Six numbers each (line, action, time in the action, duration,
+// start, width) and four objects.
 use crate::Queue;
 use plan_meaning::Slot;
 use plan_meaning::Step;
@@ -116,7 +117,8 @@ fn put(words: &mut [usize], objects: &mut [u8], i: usize, s: Slot)
 // What stands at place i, to place j.
 fn copy_to(words: &mut [usize; 384], objects: &mut [u8; 256], i: usize, j: usize)
     requires { ⌜ (i < 64) × (j < 64) ⌝ }
-    ensures { λ _. ⌜ (slotsFrom (now (words .exit)) (now (objects .exit)) 64 0 ≡ set (slotsFrom (now (words .entry)) (now (objects .entry)) 64 0) j (slotIn (now (words .entry)) (now (objects .entry)) i)) ⌝ }
+    ensures { λ _. ⌜ (slotsFrom (now (words .exit)) (now (objects .exit)) 64 0 ≡ set (slotsFrom (now (words .entry)) (now (objects .entry)) 64 0) j
+        (slotIn (now (words .entry)) (now (objects .entry)) i)) ⌝ }
 {
     if i == j {
         return;
@@ -128,7 +130,9 @@ fn copy_to(words: &mut [usize; 384], objects: &mut [u8; 256], i: usize, j: usize
 // Those of the first n points that are after the time t, in order: how many. The others are taken out.
 pub fn later(words: &mut [usize; 384], objects: &mut [u8; 256], n: usize, t: usize) -> usize
     requires { ⌜ Timed (queueIn (now words) (now objects) n) ⌝ }
-    ensures { λ r. ⌜ (waiting (queueIn (now (words .exit)) (now (objects .exit)) r) ≡ from (suc t) (waiting (queueIn (now (words .entry)) (now (objects .entry)) n))) × ((m : ℕ) → Sound m (queueIn (now (words .entry)) (now (objects .entry)) n) → Sound m (queueIn (now (words .exit)) (now (objects .exit)) r)) ⌝ }
+    ensures { λ r. ⌜ (waiting (queueIn (now (words .exit)) (now (objects .exit)) r) ≡ from (suc t)
+        (waiting (queueIn (now (words .entry)) (now (objects .entry)) n)))
+        × ((m : ℕ) → Sound m (queueIn (now (words .entry)) (now (objects .entry)) n) → Sound m (queueIn (now (words .exit)) (now (objects .exit)) r)) ⌝ }
 {
     let mut i = 0;
     let mut j = 0;
@@ -145,7 +149,9 @@ pub fn later(words: &mut [usize; 384], objects: &mut [u8; 256], n: usize, t: usi
 // The points of a step more: how many there are then.
 pub fn enter(words: &mut [usize; 384], objects: &mut [u8; 256], n: usize, x: Step) -> usize
     requires { ⌜ (n + length (pointsOf (stepIn x)) ≤ 64) ⌝ }
-    ensures { λ r. ⌜ (waiting (queueIn (now (words .exit)) (now (objects .exit)) r) ≡ waiting (queueIn (now (words .entry)) (now (objects .entry)) n) ++ pointsOf (stepIn x)) × ((m : ℕ) → Sound m (queueIn (now (words .entry)) (now (objects .entry)) n) → soundStep m x ≡ true → Sound m (queueIn (now (words .exit)) (now (objects .exit)) r)) ⌝ }
+    ensures { λ r. ⌜ (waiting (queueIn (now (words .exit)) (now (objects .exit)) r) ≡ waiting (queueIn (now (words .entry)) (now (objects .entry)) n)
+        ++ pointsOf (stepIn x)) × ((m : ℕ) → Sound m (queueIn (now (words .entry)) (now (objects .entry)) n) → soundStep m x ≡ true
+        → Sound m (queueIn (now (words .exit)) (now (objects .exit)) r)) ⌝ }
 {
     put(
         words,

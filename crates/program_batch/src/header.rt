@@ -3,7 +3,7 @@ use program_records::input;
 use text_words::bytes;
 ghost use Prim.Native.Nat.{_≤_};
 
-pub struct Head {
+pub struct RecordHead {
     pub domain: usize,
     pub problem: usize,
     pub plan: usize,
@@ -69,7 +69,7 @@ fn is_field(line: &[u8; 96], from: usize, end: usize, byte: u8) -> bool {
 }
 
 // The header on a line; one without a size of parts has 4,096, and one that is none has no bytes in a part.
-pub fn head_of(line: &[u8; 96]) -> Head {
+pub fn head_of(line: &[u8; 96]) -> RecordHead {
     let a = digits_end(line, 0);
     let b = digits_end(line, after(a));
     let c = digits_end(line, after(b));
@@ -83,7 +83,7 @@ pub fn head_of(line: &[u8; 96]) -> Head {
             part = input::decimal(line, after(c), d);
         }
     }
-    Head {
+    RecordHead {
         domain: input::decimal(line, 0, a),
         problem: input::decimal(line, after(a), b),
         plan: input::decimal(line, after(b), c),

@@ -5,11 +5,11 @@ mod plan;
 mod reading;
 mod replies;
 
-use header::Head;
+use header::RecordHead;
 use text_tokens::runs;
 
 // Reads the three texts of a record and answers it: whether its header is one and they were there.
-fn texts(head: Head) -> bool {
+fn texts(head: RecordHead) -> bool {
     let part = head.part;
     if part == 0 {
         return false;

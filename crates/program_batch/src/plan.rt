@@ -5,14 +5,14 @@ use program_records::input;
 use text_tokens::runs;
 ghost use Prim.Native.Nat.{_<_};
 
-pub struct Fed {
+pub struct FedPlan {
     pub check: Check,
     // whether the input has as many bytes as the record says
     pub whole: bool,
 }
 
 // Feeds a plan of so many bytes, `part` at a time but no more than 65,536.
-pub fn feed(fresh: Check, total: usize, part: usize) -> Fed
+pub fn feed(fresh: Check, total: usize, part: usize) -> FedPlan
     requires { ⌜ 0 < part ⌝ }
 {
     let mut block = [0u8; 65536];
@@ -27,5 +27,5 @@ pub fn feed(fresh: Check, total: usize, part: usize) -> Fed
         check = fed.check;
         left -= n;
     }
-    Fed { check, whole }
+    FedPlan { check, whole }
 }

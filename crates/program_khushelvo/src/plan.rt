@@ -4,7 +4,7 @@ use program_arguments::files;
 use program_quotes::quotes;
 use text_tokens::runs;
 
-pub struct Fed {
+pub struct FedPart {
     pub check: Check,
     // whether more may come: neither is the plan at its end, nor is it refused, since then nothing changes its answer
     pub goes_on: bool,
@@ -21,7 +21,7 @@ fn feed_part(
     numbers: &mut [usize; 65],
     lengths: &mut [usize; 65],
     kept: &mut [u8; 16705],
-) -> Fed {
+) -> FedPart {
     let got = files::fill(fd, block, size);
     let part = runs::part_of(block, 0, got.used);
     let fed = check.feed(part);
@@ -31,7 +31,7 @@ fn feed_part(
     quotes::keep(numbers, lengths, kept, &wanted, part);
     let failed = got.failed;
     let refused = after.progress.refused;
-    Fed {
+    FedPart {
         check: after,
         goes_on: got.used == size && !refused && !failed,
         failed,
@@ -46,9 +46,9 @@ pub fn feed(
     numbers: &mut [usize; 65],
     lengths: &mut [usize; 65],
     kept: &mut [u8; 16705],
-) -> Fed {
+) -> FedPart {
     let mut block = [0u8; 65536];
-    let mut fed = Fed {
+    let mut fed = FedPart {
         check: fresh,
         goes_on: true,
         failed: false,
@@ -62,7 +62,7 @@ pub fn feed(
     let failed = fed.failed;
     let finished = fed.check.finish();
     let check = finished.check;
-    Fed {
+    FedPart {
         check,
         goes_on: false,
         failed,

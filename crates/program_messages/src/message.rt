@@ -1,7 +1,7 @@
 // What an answer means for a person: a sentence, and the lines that it is about.
 use crate::meanings;
 use happening_meaning::Outcome;
-use plan_feeding::Progress;
+use plan_feeding::PlanProgress;
 use program_arguments::files;
 use program_quotes::location;
 use program_quotes::quotes;
@@ -93,7 +93,7 @@ fn quote_line(numbers: &[usize; 65], lengths: &[usize; 65], kept: &[u8; 16705], 
 // What came of a plan, which argument `name` names.
 pub fn of_plan(
     name: usize,
-    p: Progress,
+    p: PlanProgress,
     numbers: &[usize; 65],
     lengths: &[usize; 65],
     kept: &[u8; 16705],
@@ -129,7 +129,7 @@ fn quoted_length(number: u8, length: usize) -> usize {
 // A plan refusal. Its column counts from 1.
 fn of_refused(
     name: usize,
-    p: Progress,
+    p: PlanProgress,
     numbers: &[usize; 65],
     lengths: &[usize; 65],
     kept: &[u8; 16705],

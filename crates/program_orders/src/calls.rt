@@ -2,7 +2,7 @@
 // Outputs are lent as the first places of a block that is filled with a mark.
 use check_calls::Answer;
 use check_calls::Check;
-use check_calls::Fed;
+use check_calls::Reply;
 use domain_load::LoadAnswer;
 use program_script::compare;
 use program_script::report;
@@ -35,7 +35,7 @@ pub fn feed(check: Check, part: &[u8]) -> Check {
 }
 
 // A part in parts of one byte each: the last one's answer.
-fn feed_each(check: Check, part: &[u8]) -> Fed {
+fn feed_each(check: Check, part: &[u8]) -> Reply {
     let mut after = check;
     let mut answer = Answer::Done(0);
     let mut i = 0;
@@ -45,7 +45,7 @@ fn feed_each(check: Check, part: &[u8]) -> Fed {
         answer = fed.answer;
         i += 1;
     }
-    Fed {
+    Reply {
         check: after,
         answer,
     }
@@ -70,21 +70,21 @@ pub fn finish(check: Check) -> Check {
 }
 
 // Each call on the first n places of a block, or on all of it if it has no more.
-fn ask_line(check: Check, out: &mut [u8], n: usize) -> Fed {
+fn ask_line(check: Check, out: &mut [u8], n: usize) -> Reply {
     if n <= out.len() {
         return check.result(&mut out[..n]);
     }
     check.result(out)
 }
 
-fn ask_facts(check: Check, out: &mut [u8], n: usize) -> Fed {
+fn ask_facts(check: Check, out: &mut [u8], n: usize) -> Reply {
     if n <= out.len() {
         return check.facts(&mut out[..n]);
     }
     check.facts(out)
 }
 
-fn ask_numbers(check: Check, out: &mut [i64], n: usize) -> Fed {
+fn ask_numbers(check: Check, out: &mut [i64], n: usize) -> Reply {
     if n <= out.len() {
         return check.numbers(&mut out[..n]);
     }

@@ -2,7 +2,7 @@
 // when it fell, and at most 64 points wait. So there is room for 64 lines, and for the one that is being read at place 64; of each its number (0 where
 // there is none), its length and its first 257 bytes.
 use happening_meaning::Outcome;
-use plan_feeding::Progress;
+use plan_feeding::PlanProgress;
 use plan_waiting::Queue;
 use text_tokens::runs;
 ghost use Prim.Native.Nat.{_<_};
@@ -63,7 +63,7 @@ fn want_nothing(wanted: &mut [usize; 64]) {
 }
 
 // The lines that are to be kept after a part: that of a refusal, those of the first failure, or else those that wait.
-pub fn want(progress: Progress, queue: Queue, wanted: &mut [usize; 64]) {
+pub fn want(progress: PlanProgress, queue: Queue, wanted: &mut [usize; 64]) {
     want_nothing(wanted);
     let refused = progress.refused;
     if refused {

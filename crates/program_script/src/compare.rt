@@ -4,7 +4,7 @@ use domain_load::Model;
 use domain_load::Sizes;
 use domain_terms::scope::Counts;
 use happening_meaning::Outcome;
-use plan_feeding::Progress;
+use plan_feeding::PlanProgress;
 use plan_meaning::Step;
 use plan_running::Past;
 use plan_waiting::Queue;
@@ -172,7 +172,7 @@ fn same_past(a: Past, b: Past) -> bool {
         && a.time == b.time
 }
 
-fn same_progress(a: Progress, b: Progress) -> bool {
+fn same_progress(a: PlanProgress, b: PlanProgress) -> bool {
     a.used == b.used
         && a.number == b.number
         && a.start == b.start

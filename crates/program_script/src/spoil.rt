@@ -4,7 +4,7 @@ use domain_load::Model;
 use domain_load::Sizes;
 use domain_terms::scope::Counts;
 use happening_meaning::Outcome;
-use plan_feeding::Progress;
+use plan_feeding::PlanProgress;
 use plan_meaning::Slot;
 use plan_meaning::Step;
 use plan_running::Past;
@@ -39,7 +39,7 @@ fn spoil_past(before: Past, i: usize, v: usize) -> Past {
 }
 
 // The plan refusal that stands.
-fn spoil_refusal(before: Progress, i: usize, v: usize) -> Progress {
+fn spoil_refusal(before: PlanProgress, i: usize, v: usize) -> PlanProgress {
     let mut p = before;
     if i == 14 {
         if v < 256 {
@@ -55,7 +55,7 @@ fn spoil_refusal(before: Progress, i: usize, v: usize) -> Progress {
     p
 }
 
-fn spoil_progress(before: Progress, i: usize, v: usize) -> Progress {
+fn spoil_progress(before: PlanProgress, i: usize, v: usize) -> PlanProgress {
     let mut p = spoil_refusal(before, i, v);
     if i == 0 {
         p.number = v;

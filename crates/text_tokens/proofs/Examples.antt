@@ -12,7 +12,8 @@ use Rattle.text_words.specs.Fixed.{isListed, isOperator}
 use Rattle.text_tokens.specs.Runs.{gapStep, gap, gapEnd, run, runEnd}
 use Rattle.text_tokens.specs.Numbers.{leading, decimal, scaleOf, fractionOf, numberFrom, numberOf}
 use Rattle.text_tokens.specs.Classes.{beginsNumber, classOf}
-use Rattle.text_tokens.specs.Tokens.{sizedOf, numberToken, domainWord, isPast, bracketOf, tokenAt, spotAt, judgedOf, strangeOf, planNumber, planWord, squareOf, planTokenAt}
+use Rattle.text_tokens.specs.Tokens.{sizedOf, numberToken, domainWord, isPast, bracketOf, tokenAt, spotAt, judgedOf, strangeOf, planNumber, planWord}
+use Rattle.text_tokens.specs.Tokens.{squareOf, planTokenAt}
 use Rattle.text_tokens.specs.declared.tokens.Token.{Token}
 use Rattle.text_tokens.specs.declared.tokens.Token.the-variants as T
 use Rattle.text_tokens.specs.declared.tokens.Word.the-variants as W
@@ -20,7 +21,9 @@ use Rattle.text_tokens.specs.declared.tokens.Spot.the-variants as P
 
 -- on an `unfolding` line this opens all that reading a token goes through
 unfoldable pub open-tokens : Unit {0}
-unfolding bytes kindOf lowerOf inRun sameWord nameByte nameBytes isName placeFrom wordsOf wordIn isListed isOperator gapStep gap gapEnd run runEnd leading decimal scaleOf fractionOf numberFrom numberOf beginsNumber classOf sizedOf numberToken domainWord isPast bracketOf tokenAt spotAt judgedOf strangeOf planNumber planWord squareOf planTokenAt
+unfolding bytes kindOf lowerOf inRun sameWord nameByte nameBytes isName placeFrom wordsOf wordIn isListed isOperator gapStep gap gapEnd run runEnd
+    leading decimal scaleOf fractionOf numberFrom numberOf beginsNumber classOf sizedOf numberToken domainWord isPast bracketOf tokenAt spotAt
+    judgedOf strangeOf planNumber planWord squareOf planTokenAt
 open-tokens = tt
 
 pub data Row : Type 0 where

@@ -17,7 +17,8 @@ use Rattle.text_words.specs.declared.bytes.Kind.the-variants as K
 use Rattle.text_tokens.specs.Runs.{part, gap, gapEnd}
 use Rattle.text_tokens.specs.Numbers.{Small, numberFrom, withSign, numberOf}
 use Rattle.text_tokens.specs.Classes.{begunBy, classOf}
-use Rattle.text_tokens.specs.Tokens.{sizedOf, asToken, numberToken, judgedOf, strangeOf, planNumber, planClass, planWord, squareOf, planRun, endOf, planFrom, planTokenAt}
+use Rattle.text_tokens.specs.Tokens.{sizedOf, asToken, numberToken, judgedOf, strangeOf, planNumber, planClass, planWord, squareOf, planRun, endOf}
+use Rattle.text_tokens.specs.Tokens.{planFrom, planTokenAt}
 use Rattle.text_tokens.specs.declared.numbers.Numeral.{Numeral}
 use Rattle.text_tokens.specs.declared.numbers.Numeral.the-variants as N
 use Rattle.text_tokens.specs.declared.classes.Class.{Class}
@@ -123,7 +124,8 @@ module _ (s : List ℕ) (m p : ℕ) (room : min (length s) 256 ≤ m) (h : p < l
       let lo = run-within s 58 (p + 1) (omega arith) .0 in
       let hi = run-within s 58 (p + 1) (omega arith) .1 in
       let w = part s p (endOf s 58 p) in
-      judged-in m (endOf s 58 p) _ (λ l. omega (arith, hi, l)) (λ l. class-in m p (endOf s 58 p) (omega (arith, lo, hi, l)) (omega (arith, hi, l)) (classOf w) w)
+      judged-in m (endOf s 58 p) _ (λ l. omega (arith, hi, l))
+      (λ l. class-in m p (endOf s 58 p) (omega (arith, lo, hi, l)) (omega (arith, hi, l)) (classOf w) w)
 
   start-in : (k : Kind) → InPlan m (startOf s p k)
   start-in K.Digit = run-in

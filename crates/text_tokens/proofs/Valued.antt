@@ -97,7 +97,8 @@ unfolding Valued
 from-valued s p = go (isPast (length s) p) (leb (length s) p)
   where
     go : (t u : Bool)
-        → Valued s (cond t (T.Refusal 1 32768) (cond u (T.End p) (onStart (kindOf (getD s p 0)) (domainRun s p (endOf s 59 p)) (bracketOf (getD s p 0) p) (T.Refusal 2 p))))
+        → Valued s (cond t (T.Refusal 1 32768) (cond u (T.End p)
+        (onStart (kindOf (getD s p 0)) (domainRun s p (endOf s 59 p)) (bracketOf (getD s p 0) p) (T.Refusal 2 p))))
     go true u = tt
     go false true = tt
     go false false = start-valued s p (kindOf (getD s p 0))

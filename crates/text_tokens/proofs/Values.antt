@@ -90,9 +90,11 @@ digit-most b h = elim (decLe b 57) [
   | no k ↦ absurd (clash (rw (le-leb 48 b (omega arith), lt-leb b 57 (omega arith)) at h))
 ]
   where
-    clash : isDigit (cond (between 65 b 90 || between 97 b 122) K.Letter (cond (isOneOf b (bytes "()[]")) K.Bracket (cond (isOneOf b (9 ∷ 10 ∷ 13 ∷ 32 ∷ [])) K.White (cond (between 33 b 126) K.Mark K.Refused)))) ≡ true → ⊥
+    clash : isDigit (cond (between 65 b 90 || between 97 b 122) K.Letter
+        (cond (isOneOf b (bytes "()[]")) K.Bracket (cond (isOneOf b (9 ∷ 10 ∷ 13 ∷ 32 ∷ [])) K.White (cond (between 33 b 126) K.Mark K.Refused)))) ≡ true → ⊥
     clash e =
-        let z : _≡_ {A = Bool} false true = sym (never-digit (between 65 b 90 || between 97 b 122) (isOneOf b (bytes "()[]")) (isOneOf b (9 ∷ 10 ∷ 13 ∷ 32 ∷ [])) (between 33 b 126)) ∙ e in
+        let z : _≡_ {A = Bool} false true = sym (never-digit (between 65 b 90 || between 97 b 122) (isOneOf b (bytes "()[]"))
+        (isOneOf b (9 ∷ 10 ∷ 13 ∷ 32 ∷ [])) (between 33 b 126)) ∙ e in
         let y : _≡_ {A = ℕ} 0 1 = cc in omega arith
 
 -- digits all through

@@ -100,7 +100,8 @@ start-in s at p k lo hi = go k
     bounds = run-within s 59 (p + 1) (omega arith)
 
     wordly : Within s at (domainRun s p (endOf s 59 p))
-    wordly = word-in s at p (runEnd s 59 (p + 1)) lo (omega (arith, bounds)) (bounds .1) (part s p (runEnd s 59 (p + 1))) (part-length s p (runEnd s 59 (p + 1)) (bounds .1))
+    wordly = word-in s at p (runEnd s 59 (p + 1)) lo (omega (arith, bounds)) (bounds .1) (part s p (runEnd s 59 (p + 1)))
+        (part-length s p (runEnd s 59 (p + 1)) (bounds .1))
 
     go : (k : Kind) → Within s at (onStart k (domainRun s p (endOf s 59 p)) (bracketOf (getD s p 0) p) (T.Refusal 2 p))
     go K.Digit = wordly
@@ -115,7 +116,8 @@ unfolding Within
 from-in s at p lo = go (isPast (length s) p) (leb (length s) p) refl
   where
     go : (t u : Bool) → leb (length s) p ≡ u
-        → Within s at (cond t (T.Refusal 1 32768) (cond u (T.End p) (onStart (kindOf (getD s p 0)) (domainRun s p (endOf s 59 p)) (bracketOf (getD s p 0) p) (T.Refusal 2 p))))
+        → Within s at (cond t (T.Refusal 1 32768) (cond u (T.End p)
+        (onStart (kindOf (getD s p 0)) (domainRun s p (endOf s 59 p)) (bracketOf (getD s p 0) p) (T.Refusal 2 p))))
     go true u h = tt
     go false true h = tt
     go false false h = start-in s at p (kindOf (getD s p 0)) lo (leb-false (length s) p h)
@@ -130,12 +132,14 @@ token-within s at h = token-in s at
 
 pub spot-within : (s : List ℕ) (at : ℕ) (w : List ℕ) (p e : ℕ) → at ≤ length s → spotAt s at w ≡ P.At p e → (at < e) × (e ≤ length s)
 unfolding spotAt
-spot-within s at w p e h = go (isPast (length s) (gapEnd s at)) (leb (length s) (gapEnd s at)) refl (sameWord (part s (gapEnd s at) (endOf s 59 (gapEnd s at))) w)
+spot-within s at w p e h = go (isPast (length s) (gapEnd s at)) (leb (length s) (gapEnd s at)) refl
+    (sameWord (part s (gapEnd s at) (endOf s 59 (gapEnd s at))) w)
   where
     never : P.Other ≡ P.At p e → (at < e) × (e ≤ length s)
     never q = absurd (let z : _≡_ {A = ℕ} 0 1 = cc in let y : ⊥ = omega arith in y)
 
-    go : (t u : Bool) → leb (length s) (gapEnd s at) ≡ u → (v : Bool) → cond (t || u) P.Other (cond v (P.At (gapEnd s at) (endOf s 59 (gapEnd s at))) P.Other) ≡ P.At p e → (at < e) × (e ≤ length s)
+    go : (t u : Bool) → leb (length s) (gapEnd s at) ≡ u → (v : Bool)
+        → cond (t || u) P.Other (cond v (P.At (gapEnd s at) (endOf s 59 (gapEnd s at))) P.Other) ≡ P.At p e → (at < e) × (e ≤ length s)
     go true u i v q = never q
     go false true i v q = never q
     go false false i false q = never q

@@ -50,7 +50,8 @@ module _ (a b : List ℕ) (i : ℕ) (some : 0 < i) (h : i ≤ length a) (k : i �
   before : sameWord (drop (i - 1) a) (drop (i - 1) b) ≡ (eqb (lowerOf (getD a (i - 1) 0)) (lowerOf (getD b (i - 1) 0)) && sameWord (drop i a) (drop i b))
   before = let e : i - 1 + 1 ≡ i = omega arith in rw e at (same-both a b (i - 1) (omega arith) (omega arith))
 
-  pub same-before : lowerOf (getD a (i - 1) 0) ≡ lowerOf (getD b (i - 1) 0) → sameWord (drop i a) (drop i b) ≡ true → sameWord (drop (i - 1) a) (drop (i - 1) b) ≡ true
+  pub same-before : lowerOf (getD a (i - 1) 0) ≡ lowerOf (getD b (i - 1) 0) → sameWord (drop i a) (drop i b) ≡ true
+      → sameWord (drop (i - 1) a) (drop (i - 1) b) ≡ true
   same-before q t = before ∙ simp (eq-eqb _ _ q, t)
 
   pub other-before : (lowerOf (getD a (i - 1) 0) ≡ lowerOf (getD b (i - 1) 0) → ⊥) → sameWord a b ≡ false
@@ -163,7 +164,16 @@ pub names-at : (rows : List ℕ) (at n m : ℕ) → n ≡ suc m → at + 38 ≤ 
 unfolding namesOf nameOf
 names-at rows at n m e h =
     let k : 38 ≤ length rows - at = omega arith in
-    rw (e, length-drop at rows, le-ltb (length rows - at) 38 k, getD-drop at rows 0 0, add-zero at, take-min (getD rows at 0) 32, drop-drop 6 at rows, drop-drop 38 at rows)
+    rw (
+      e,
+      length-drop at rows,
+      le-ltb (length rows - at) 38 k,
+      getD-drop at rows 0 0,
+      add-zero at,
+      take-min (getD rows at 0) 32,
+      drop-drop 6 at rows,
+      drop-drop 38 at rows,
+    )
 
 -- ---- the loops of `word_in` and `find`: what is said of the words that are left is said of all
 
@@ -206,7 +216,8 @@ module _ (rows w : List ℕ) (n i at : ℕ) where
     find-other t = rw rows-at (word-other i _ w _ t)
 
     -- a name of another length is another name
-    pub find-other-length : (k ≡ length w → ⊥) → placeFrom i (namesOf (n - i) (drop at rows)) w ≡ placeFrom (i + 1) (namesOf (n - (i + 1)) (drop (at + 38) rows)) w
+    pub find-other-length : (k ≡ length w → ⊥) → placeFrom i (namesOf (n - i) (drop at rows)) w ≡ placeFrom (i + 1)
+        (namesOf (n - (i + 1)) (drop (at + 38) rows)) w
     find-other-length d =
         let v = take (at + 6 + k - (at + 6)) (drop (at + 6) rows) in
         let size : length v ≡ k = simp (length-take, length-drop) (omega arith) in

@@ -59,7 +59,7 @@ put-number-returns : (t : ℕ) → put-number-lts.Need-returns (
   put-number-below t,
   put-number.Post,
 ) (put-number-at t) put-number.Post
-put-number-returns t c = let e = decimal-few (c .before .before .before .before .before .before .args .n) (c .before .before .before .before .if1 .taken) in rw e (c .before .before .put-byte .ensures)
+put-number-returns t c = let e = decimal-few _ (c .before .before .before .before .if1 .taken) in rw e (c .before .before .put-byte .ensures)
 
 put-number-put-number-requires : (t : ℕ) → put-number-lts.Need-put-number-requires (
   put-byte-reads.Asked,
@@ -83,7 +83,7 @@ put-number-put-byte-requires-2 : (t : ℕ) → put-number-lts.Need-put-byte-requ
   put-number-below t,
   put-number.Post,
 ) (put-number-at t) put-number.Post
-put-number-put-byte-requires-2 t c κs = (omega arith, let h = decimal-rest (c .before .before .before .before .before .before .before .args .n) (c .before .before .before .before .before .if1 .left) (omega arith) in omega (arith, h, c .before .before .before .put-number .ensures .1, c .before .before .before .before .before .before .before .pre .1))
+put-number-put-byte-requires-2 t c κs = let c3 = c .before .before .before in (omega arith, let h = decimal-rest _ (c3 .before .before .if1 .left) (omega arith) in omega (arith, h, c3 .put-number .ensures .1, c3 .before .before .before .before .pre .1))
 
 put-number-same-length-2 : (t : ℕ) → put-number-lts.Need-same-length-2 (
   put-byte-reads.Asked,
@@ -99,7 +99,7 @@ put-number-returns-2 : (t : ℕ) → put-number-lts.Need-returns-2 (
   put-number-below t,
   put-number.Post,
 ) (put-number-at t) put-number.Post
-put-number-returns-2 t c = let e = decimal-more (c .before .before .before .before .before .before .before .before .before .before .args .n) (c .before .before .before .before .before .before .before .before .if1 .left) (omega arith) in rw e (behind (now (c .before .before .before .before .before .before .before .before .before .before .args .out)) (c .before .before .before .before .before .before .before .before .before .before .args .at) (decimal (c .before .before .before .before .before .before .before .before .before .before .args .n / 10)) _ (c .before .before .before .before .before .before .put-number .ensures) (c .before .before .put-byte2 .ensures))
+put-number-returns-2 t c = let c2 = c .before .before in let c6 = c2 .before .before .before .before in let e = decimal-more _ (c6 .before .before .if1 .left) (omega arith) in rw e (behind _ _ (decimal (c6 .before .before .before .before .args .n / 10)) _ (c6 .put-number .ensures) (c2 .put-byte2 .ensures))
 
 pub +put-number-spec : {M : Type 1} → statement M
 +put-number-spec = close μ-put-number λ t. put-number-lts.spec (

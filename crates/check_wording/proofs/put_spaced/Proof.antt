@@ -17,7 +17,7 @@ same-length : tie.Need-same-length
 same-length c = search needs
 
 returns : tie.Need-returns
-returns c = behind (now (c .before .before .before .before .before .before .before .before .before .args .out)) (c .before .before .before .before .before .before .before .before .before .args .at) (32 ∷ []) (decimal (c .before .before .before .before .before .before .before .before .before .args .n)) (c .before .before .before .before .before .before .put-byte .ensures) (c .before .before .put-number .ensures)
+returns c = let c6 = c .before .before .before .before .before .before in behind (now (c6 .before .before .before .args .out)) _ (32 ∷ []) (decimal _) (c6 .put-byte .ensures) (c .before .before .put-number .ensures)
 
 pub put-spaced-spec : {M : Type 1} → statement M
 put-spaced-spec = tie.close (tie.spec put-byte-requires put-number-requires same-length returns)

@@ -18,7 +18,7 @@ abbrev μ-loop : tie.MeasureT-loop
 μ-loop out₀ at w i₀ out i = length w - i
 
 loop-holds : tie.Need-loop-holds Inv-loop μ-loop
-loop-holds c = (omega arith, refl, rw (add-zero (c .before .before .args .at)))
+loop-holds c = (omega arith, refl, rw (add-zero _))
 
 add-put : tie.Need-add-put Inv-loop μ-loop
 add-put c = omega arith
@@ -39,7 +39,7 @@ loop-less : tie.Need-loop-less Inv-loop μ-loop
 loop-less c = omega arith
 
 loop-again : tie.Need-loop-again Inv-loop μ-loop
-loop-again c = (omega arith, ap length (c .before .before .put .ensures) ∙ simp length-set (c .before .before .before .before .before .before .loop .inv .1), rw (c .before .before .put .ensures) (sets-step (c .before .before .before .before .before .before .loop .out) (now (c .before .before .before .before .before .before .before .before .before .args .w)) (c .before .before .before .before .before .before .before .before .before .args .at) (c .before .before .before .before .before .before .loop .i) (c .before .before .before .before .before .loop-test .taken) ∙ c .before .before .before .before .before .before .loop .inv .2))
+loop-again c = let c2 = c .before .before in let c5 = c2 .before .before .before in (omega arith, ap length (c2 .put .ensures) ∙ simp length-set (c5 .before .loop .inv .1), rw (c2 .put .ensures) (sets-step _ _ _ _ (c5 .loop-test .taken) ∙ c5 .before .loop .inv .2))
 
 add-result : tie.Need-add-result Inv-loop μ-loop
 add-result c = omega arith
@@ -48,7 +48,7 @@ same-length : tie.Need-same-length Inv-loop μ-loop
 same-length c = search needs
 
 returns : tie.Need-returns Inv-loop μ-loop
-returns c = (sym (sets-end (c .before .loop .out) (now (c .before .before .before .before .args .w)) (c .before .before .before .before .args .at) (c .before .loop .i) (c .loop-test .left)) ∙ c .before .loop .inv .2, omega arith)
+returns c = (sym (sets-end _ _ _ _ (c .loop-test .left)) ∙ c .before .loop .inv .2, omega arith)
 
 pub put-word-spec : {M : Type 1} → statement M
 put-word-spec =

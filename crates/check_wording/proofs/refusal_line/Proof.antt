@@ -21,14 +21,14 @@ put-spaced-requires : tie.Need-put-spaced-requires
 put-spaced-requires c κs = search needs
 
 put-end-requires : tie.Need-put-end-requires
-put-end-requires c κs = omega (arith, c .before .before .before .before .before .before .before .before .before .before .before .put-word .ensures .1, c .before .before .before .before .before .before .before .put-word2 .ensures .1, c .before .before .before .put-spaced .ensures .1, c .before .before .before .before .before .before .before .before .before .before .before .before .before .before .before .before .pre, decimal-short (c .before .before .before .before .before .before .before .before .before .before .before .before .before .before .before .before .args .k))
+put-end-requires c κs = let c3 = c .before .before .before in let c7 = c3 .before .before .before .before in let c11 = c7 .before .before .before .before in omega (arith, c11 .put-word .ensures .1, c7 .put-word2 .ensures .1, c3 .put-spaced .ensures .1, c11 .before .before .before .before .before .pre, decimal-short (c11 .before .before .before .before .before .args .k))
 
 same-length : tie.Need-same-length
 same-length c = search needs
 
 returns : tie.Need-returns
 unfolding bytes
-returns c = refusal-put (now (c .before .before .before .before .before .before .before .before .before .before .before .before .before .before .before .before .before .before .before .args .out)) (now (c .before .before .before .before .before .before .before .before .before .before .before .before .before .before .before .before .before .before .before .args .w)) (c .before .before .before .before .before .before .before .before .before .before .before .before .before .before .before .before .before .before .before .args .k) (c .before .before .before .before .before .before .before .before .before .before .before .before .before .before .before .before .before .before .before .args .p) (c .before .before .before .before .before .before .before .before .before .before .before .before .before .before .before .before .before .before .before .args .q) (c .before .before .before .before .before .before .before .before .before .before .before .before .before .before .put-word .ensures) (c .before .before .before .before .before .before .before .before .before .before .put-word2 .ensures) (c .before .before .before .before .before .before .put-spaced .ensures) (c .before .before .put-end .ensures)
+returns c = let c2 = c .before .before in let c6 = c2 .before .before .before .before in refusal-put _ _ _ _ _ (c6 .before .before .before .before .before .before .before .before .put-word .ensures) (c6 .before .before .before .before .put-word2 .ensures) (c6 .put-spaced .ensures) (c2 .put-end .ensures)
 
 pub refusal-line-spec : {M : Type 1} → statement M
 refusal-line-spec =

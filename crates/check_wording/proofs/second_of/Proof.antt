@@ -13,7 +13,7 @@ unfolding secondOf
 returns c = rw (c .before .o .given .1)
 
 returns-2 : tie.Need-returns-2
-returns-2 c = second-none (c .before .args .o) (c .match .keys2)
+returns-2 c = second-none _ (c .match .keys2)
 
 pub second-of-spec : {M : Type 1} → statement M
 second-of-spec = tie.close (tie.spec enum-known-o returns returns-2)

@@ -37,7 +37,7 @@ same-length-3 : tie.Need-same-length-3
 same-length-3 c = search needs
 
 returns : tie.Need-returns
-returns c = λ v b. no-actions (now (c .before .before .before .before .before .before .before .before .before .before .before .before .before .before .before .before .before .before .args .text)) (now (c .before .before .before .before .before .before .before .before .before .before .before .before .before .before .before .before .before .before .args .code)) (now (c .before .before .before .before .before .before .before .before .before .before .before .before .before .before .before .before .before .before .args .starts)) (c .before .before .before .before .before .before .before .before .before .before .before .before .before .before .before .before .before .before .args .at) (c .before .before .before .before .before .before .before .before .before .before .before .before .before .before .before .before .before .before .args .p) (c .before .before .before .before .before .before .before .before .before .before .before .before .before .before .before .before .before .before .args .e) (c .before .before .before .before .before .before .before .before .before .before .before .before .before .before .before .before .before .before .args .counts) (now (c .before .before .before .before .before .before .before .before .before .before .before .before .before .before .before .before .before .before .args .tables)) v b (c .before .before .before .before .before .before .before .before .before .actions-to .result) _ _ _ (c .before .before .before .before .before .before .before .before .before .actions-to .ensures .0 (scopeIn v) (length (now (c .before .before .before .before .before .before .before .before .before .before .before .before .before .before .before .before .before .before .args .text)) + 1) (b .scope) (omega arith)) _ _ (c .before .a .given .1)
+returns c = λ v b. no-actions _ _ _ _ _ _ _ _ v b _ _ _ _ (c .before .before .before .before .before .before .before .before .before .actions-to .ensures .0 (scopeIn v) _ (b .scope) (omega arith)) _ _ (c .before .a .given .1)
 
 same-length-4 : tie.Need-same-length-4
 same-length-4 c = search needs
@@ -49,7 +49,7 @@ same-length-6 : tie.Need-same-length-6
 same-length-6 c = search needs
 
 returns-2 : tie.Need-returns-2
-returns-2 c = λ v b. no-end (now (c .before .before .before .before .before .before .before .before .before .before .before .before .before .before .before .before .before .before .before .before .before .before .args .text)) (now (c .before .before .before .before .before .before .before .before .before .before .before .before .before .before .before .before .before .before .before .before .before .before .args .code)) (now (c .before .before .before .before .before .before .before .before .before .before .before .before .before .before .before .before .before .before .before .before .before .before .args .starts)) (c .before .before .before .before .before .before .before .before .before .before .before .before .before .before .before .before .before .before .before .before .before .before .args .at) (c .before .before .before .before .before .before .before .before .before .before .before .before .before .before .before .before .before .before .before .before .before .before .args .p) (c .before .before .before .before .before .before .before .before .before .before .before .before .before .before .before .before .before .before .before .before .before .before .args .e) (c .before .before .before .before .before .before .before .before .before .before .before .before .before .before .before .before .before .before .before .before .before .before .args .counts) (now (c .before .before .before .before .before .before .before .before .before .before .before .before .before .before .before .before .before .before .before .before .before .before .args .tables)) v b (c .before .before .before .before .before .before .before .before .before .before .before .before .before .actions-to .result) _ _ _ (c .before .before .before .before .before .before .before .before .before .before .before .before .before .actions-to .ensures .0 (scopeIn v) (length (now (c .before .before .before .before .before .before .before .before .before .before .before .before .before .before .before .before .before .before .before .before .before .before .args .text)) + 1) (b .scope) (omega arith)) _ _ (c .before .before .before .before .before .a2 .given .1) (c .before .before .before .ending-at .result) (c .before .before .before .ending-at .ensures) _ _ (c .before .end .given .1)
+returns-2 c = let c3 = c .before .before .before in λ v b. no-end _ _ _ _ _ _ _ _ v b _ _ _ _ (c3 .before .before .before .before .before .before .before .before .before .before .actions-to .ensures .0 (scopeIn v) _ (b .scope) (omega arith)) _ _ (c3 .before .before .a2 .given .1) _ (c3 .ending-at .ensures) _ _ (c .before .end .given .1)
 
 same-length-7 : tie.Need-same-length-7
 same-length-7 c = search needs
@@ -61,7 +61,7 @@ same-length-9 : tie.Need-same-length-9
 same-length-9 c = search needs
 
 returns-3 : tie.Need-returns-3
-returns-3 c = λ v b. known (now (c .before .before .before .before .before .before .before .before .before .before .before .before .before .before .before .before .before .before .before .before .before .args .text)) (now (c .before .before .before .before .before .before .before .before .before .before .before .before .before .before .before .before .before .before .before .before .before .args .code)) (now (c .before .before .before .before .before .before .before .before .before .before .before .before .before .before .before .before .before .before .before .before .before .args .starts)) (c .before .before .before .before .before .before .before .before .before .before .before .before .before .before .before .before .before .before .before .before .before .args .at) (c .before .before .before .before .before .before .before .before .before .before .before .before .before .before .before .before .before .before .before .before .before .args .p) (c .before .before .before .before .before .before .before .before .before .before .before .before .before .before .before .before .before .before .before .before .before .args .e) (c .before .before .before .before .before .before .before .before .before .before .before .before .before .before .before .before .before .before .before .before .before .args .counts) (now (c .before .before .before .before .before .before .before .before .before .before .before .before .before .before .before .before .before .before .before .before .before .args .tables)) v b (c .before .before .before .before .before .before .before .before .before .before .before .before .actions-to .result) _ _ _ (c .before .before .before .before .before .before .before .before .before .before .before .before .actions-to .ensures .0 (scopeIn v) (length (now (c .before .before .before .before .before .before .before .before .before .before .before .before .before .before .before .before .before .before .before .before .before .args .text)) + 1) (b .scope) (omega arith)) _ _ (c .before .before .before .before .a2 .given .1) (c .before .before .ending-at .result) (c .before .before .ending-at .ensures) _ _ (c .enum-told .given .1)
+returns-3 c = λ v b. known _ _ _ _ _ _ _ _ v b _ _ _ _ (c .before .before .before .before .before .before .before .before .before .before .before .before .actions-to .ensures .0 (scopeIn v) _ (b .scope) (omega arith)) _ _ (c .before .before .before .before .a2 .given .1) _ (c .before .before .ending-at .ensures) _ _ (c .enum-told .given .1)
 
 pub acting-at-spec : {M : Type 1} → statement M
 acting-at-spec =

@@ -19,13 +19,13 @@ enum-known-b-2 : tie.Need-enum-known-b-2
 enum-known-b-2 c = search needs
 
 acting-at-requires : tie.Need-acting-at-requires
-acting-at-requires c κs = let q = preceded (vocabulary (now (c .before .before .before .before .before .before .before .before .before .before .before .before .before .before .before .before .args .text)) 0) (now (c .before .before .before .before .before .before .before .before .before .before .before .before .before .before .before .before .args .text)) _ (c .before .before .before .before .before .before .before .before .before .preamble-at .result) _ _ _ _ refl (c .before .before .before .before .before .before .before .before .before .preamble-at .ensures) (c .before .before .before .before .before .b2 .given .1) in (q .3, omega (arith, q .2), (scopeIn (q .0), q .1 .scope), q .1 .long, c .before .before .before .before .before .before .before .before .before .before .before .before .before .before .before .before .pre .1)
+acting-at-requires c κs = let c5 = c .before .before .before .before .before in let q = preceded (vocabulary _ 0) _ _ _ _ _ _ _ refl (c5 .before .before .before .before .preamble-at .ensures) (c5 .b2 .given .1) in (q .3, omega (arith, q .2), (scopeIn (q .0), q .1 .scope), q .1 .long, c5 .before .before .before .before .before .before .before .before .before .before .before .pre .1)
 
 same-length : tie.Need-same-length
 same-length c = search needs
 
 returns : tie.Need-returns
-returns c = no-preamble (now (c .before .before .before .before .before .before .before .before .before .before .before .before .args .text)) (now (c .before .before .before .before .before .before .before .before .before .before .before .before .args .code)) (now (c .before .before .before .before .before .before .before .before .before .before .before .before .args .starts)) _ _ _ _ (c .before .before .before .before .before .preamble-at .result) _ _ (c .before .before .before .before .before .preamble-at .ensures) (c .before .b .given .1)
+returns c = no-preamble _ _ _ _ _ _ _ _ _ _ (c .before .before .before .before .before .preamble-at .ensures) (c .before .b .given .1)
 
 same-length-2 : tie.Need-same-length-2
 same-length-2 c = search needs
@@ -40,7 +40,7 @@ same-length-5 : tie.Need-same-length-5
 same-length-5 c = search needs
 
 returns-2 : tie.Need-returns-2
-returns-2 c = let q = preceded (vocabulary (now (c .before .before .before .before .before .before .before .before .before .before .before .before .before .before .before .before .before .before .before .before .before .before .before .args .text)) 0) (now (c .before .before .before .before .before .before .before .before .before .before .before .before .before .before .before .before .before .before .before .before .before .before .before .args .text)) _ (c .before .before .before .before .before .before .before .before .before .before .before .before .before .before .before .before .preamble-at .result) _ _ _ _ refl (c .before .before .before .before .before .before .before .before .before .before .before .before .before .before .before .before .preamble-at .ensures) (c .before .before .before .before .before .before .before .before .before .before .before .before .b2 .given .1) in c .before .before .before .before .before .before .acting-at .ensures (q .0) (q .1)
+returns-2 c = let c6 = c .before .before .before .before .before .before in let c12 = c6 .before .before .before .before .before .before in let q = preceded (vocabulary _ 0) _ _ _ _ _ _ _ refl (c12 .before .before .before .before .preamble-at .ensures) (c12 .b2 .given .1) in c6 .acting-at .ensures (q .0) (q .1)
 
 pub domain-at-spec : {M : Type 1} → statement M
 domain-at-spec =

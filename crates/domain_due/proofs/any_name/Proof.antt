@@ -16,16 +16,16 @@ refusal-requires : tie.Need-refusal-requires
 refusal-requires c κs = search needs
 
 returns : tie.Need-returns
-returns c = any-else (now (c .before .before .before .before .args .text)) (c .before .before .before .before .args .d) (c .before .before .before .before .args .from) (c .before .before .token-at .result) (c .refusal .result) (c .before .before .token-at .ensures) (c .before .match .keys2) (c .refusal .ensures)
+returns c = any-else _ _ _ _ _ (c .before .before .token-at .ensures) (c .before .match .keys2) (c .refusal .ensures)
 
 enum-told : tie.Need-enum-told
 enum-told c = search needs
 
 returns-2 : tie.Need-returns-2
-returns-2 c = any-other (now (c .before .before .before .before .before .before .args .text)) (c .before .before .before .before .before .before .args .d) (c .before .before .before .before .before .before .args .from) _ _ _ (sym (c .before .before .before .before .token-at .ensures) ∙ c .before .before .t .given .1) (not-name (c .before .before .t .given .0 .0) (c .match2 .keys2))
+returns-2 c = any-other _ _ _ _ _ _ (sym (c .before .before .before .before .token-at .ensures) ∙ c .before .before .t .given .1) (not-name (c .before .before .t .given .0 .0) (c .match2 .keys2))
 
 returns-3 : tie.Need-returns-3
-returns-3 c = any-read (now (c .before .before .before .before .before .before .before .args .text)) (c .before .before .before .before .before .before .before .args .d) (c .before .before .before .before .before .before .before .args .from) _ _ (c .before .before .before .before .before .before .before .pre) (word-as _ _ _ _ _ (sym (c .before .before .before .before .before .token-at .ensures) ∙ c .before .before .before .t .given .1) (c .enum-told .given .1))
+returns-3 c = let c3 = c .before .before .before in any-read _ _ _ _ _ (c3 .before .before .before .before .pre) (word-as _ _ _ _ _ (sym (c3 .before .before .token-at .ensures) ∙ c3 .t .given .1) (c .enum-told .given .1))
 
 pub any-name-spec : {M : Type 1} → statement M
 any-name-spec =

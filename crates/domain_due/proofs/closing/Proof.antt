@@ -16,10 +16,10 @@ refusal-requires : tie.Need-refusal-requires
 refusal-requires c κs = search needs
 
 returns : tie.Need-returns
-returns c = closing-else (now (c .before .before .before .before .args .text)) (c .before .before .before .before .args .d) (c .before .before .before .before .args .from) (c .before .before .token-at .result) (c .refusal .result) (c .before .before .token-at .ensures) (c .before .match .keys2) (c .refusal .ensures)
+returns c = closing-else _ _ _ _ _ (c .before .before .token-at .ensures) (c .before .match .keys2) (c .refusal .ensures)
 
 returns-2 : tie.Need-returns-2
-returns-2 c = closing-read (now (c .before .before .before .before .before .args .text)) (c .before .before .before .before .before .args .d) (c .before .before .before .before .before .args .from) _ _ (c .before .before .before .before .before .pre) (sym (c .before .before .before .token-at .ensures) ∙ c .before .t .given .1)
+returns-2 c = closing-read _ _ _ _ _ (c .before .before .before .before .before .pre) (sym (c .before .before .before .token-at .ensures) ∙ c .before .t .given .1)
 
 pub closing-spec : {M : Type 1} → statement M
 closing-spec =

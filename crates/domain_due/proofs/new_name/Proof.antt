@@ -16,7 +16,7 @@ enum-told : tie.Need-enum-told
 enum-told c = search needs
 
 returns : tie.Need-returns
-returns c = new-refused (now (c .before .before .before .before .args .text)) (c .before .before .before .before .args .d) (c .before .before .before .before .args .from) (c .before .before .any-name .result) (c .before .before .any-name .ensures .0) _ _ (c .enum-told .given .1)
+returns c = new-refused _ _ _ _ (c .before .before .any-name .ensures .0) _ _ (c .enum-told .given .1)
 
 part-of-requires : tie.Need-part-of-requires
 part-of-requires c κs = search needs
@@ -25,10 +25,10 @@ is-reserved-requires : tie.Need-is-reserved-requires
 is-reserved-requires c κs = search needs
 
 returns-2 : tie.Need-returns-2
-returns-2 c = new-reserved (now (c .before .before .before .before .before .before .before .before .args .text)) (c .before .before .before .before .before .before .before .before .args .d) (c .before .before .before .before .before .before .before .before .args .from) (c .before .before .before .before .before .before .any-name .result) (c .before .before .before .before .before .before .any-name .ensures .0) _ _ (c .before .before .before .before .a .given .1) (rw (c .before .before .part-of .ensures) at (sym (c .before .is-reserved .ensures) ∙ c .if1 .taken))
+returns-2 c = new-reserved _ _ _ _ (c .before .before .before .before .before .before .any-name .ensures .0) _ _ (c .before .before .before .before .a .given .1) (rw (c .before .before .part-of .ensures) at (sym (c .before .is-reserved .ensures) ∙ c .if1 .taken))
 
 returns-3 : tie.Need-returns-3
-returns-3 c = new-read (now (c .before .before .before .before .before .before .before .before .args .text)) (c .before .before .before .before .before .before .before .before .args .d) (c .before .before .before .before .before .before .before .before .args .from) (c .before .before .before .before .before .before .any-name .result) (c .before .before .before .before .before .before .any-name .ensures .0) _ _ (c .before .before .before .before .a .given .1) (rw (c .before .before .part-of .ensures) at (sym (c .before .is-reserved .ensures) ∙ c .if1 .left)) (c .before .before .before .before .before .before .any-name .ensures .1)
+returns-3 c = let c2 = c .before .before in new-read _ _ _ _ (c2 .before .before .before .before .any-name .ensures .0) _ _ (c2 .before .before .a .given .1) (rw (c2 .part-of .ensures) at (sym (c .before .is-reserved .ensures) ∙ c .if1 .left)) (c2 .before .before .before .before .any-name .ensures .1)
 
 pub new-name-spec : {M : Type 1} → statement M
 new-name-spec =

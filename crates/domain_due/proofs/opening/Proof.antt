@@ -16,13 +16,13 @@ refusal-requires : tie.Need-refusal-requires
 refusal-requires c κs = search needs
 
 returns : tie.Need-returns
-returns c = opening-else (now (c .before .before .before .before .args .text)) (c .before .before .before .before .args .d) (c .before .before .before .before .args .from) (c .before .before .token-at .result) (c .refusal .result) (c .before .before .token-at .ensures) (c .before .match .keys2) (c .refusal .ensures)
+returns c = opening-else _ _ _ _ _ (c .before .before .token-at .ensures) (c .before .match .keys2) (c .refusal .ensures)
 
 returns-2 : tie.Need-returns-2
-returns-2 c = opening-deep (now (c .before .before .before .before .before .before .args .text)) (c .before .before .before .before .before .before .args .d) (c .before .before .before .before .before .before .args .from) _ _ (sym (c .before .before .before .before .token-at .ensures) ∙ c .before .before .t .given .1) (c .if1 .taken)
+returns-2 c = opening-deep _ _ _ _ _ (sym (c .before .before .before .before .token-at .ensures) ∙ c .before .before .t .given .1) (c .if1 .taken)
 
 returns-3 : tie.Need-returns-3
-returns-3 c = opening-read (now (c .before .before .before .before .before .before .args .text)) (c .before .before .before .before .before .before .args .d) (c .before .before .before .before .before .before .args .from) _ _ (c .before .before .before .before .before .before .pre) (sym (c .before .before .before .before .token-at .ensures) ∙ c .before .before .t .given .1) (c .if1 .left)
+returns-3 c = opening-read _ _ _ _ _ (c .before .before .before .before .before .before .pre) (sym (c .before .before .before .before .token-at .ensures) ∙ c .before .before .t .given .1) (c .if1 .left)
 
 pub opening-spec : {M : Type 1} → statement M
 opening-spec =

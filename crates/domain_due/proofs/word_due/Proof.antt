@@ -17,7 +17,7 @@ refusal-requires : tie.Need-refusal-requires
 refusal-requires c κs = search needs
 
 returns : tie.Need-returns
-returns c = word-else (now (c .before .before .before .before .before .args .text)) (c .before .before .before .before .before .args .d) (c .before .before .before .before .before .args .from) (now (c .before .before .before .before .before .args .w)) (c .before .before .token-at .result) (c .refusal .result) (c .before .before .token-at .ensures) (c .before .match .keys2) (c .refusal .ensures)
+returns c = word-else _ _ _ _ _ _ (c .before .before .token-at .ensures) (c .before .match .keys2) (c .refusal .ensures)
 
 word-of-requires : tie.Need-word-of-requires
 word-of-requires c κs = search needs
@@ -26,10 +26,10 @@ same-word-requires : tie.Need-same-word-requires
 same-word-requires c κs = search needs
 
 returns-2 : tie.Need-returns-2
-returns-2 c = word-read (now (c .before .before .before .before .before .before .before .before .before .args .text)) (c .before .before .before .before .before .before .before .before .before .args .d) (c .before .before .before .before .before .before .before .before .before .args .from) (now (c .before .before .before .before .before .before .before .before .before .args .w)) _ _ _ (c .before .before .before .before .before .before .before .before .before .pre) (sym (c .before .before .before .before .before .before .token-at .ensures) ∙ c .before .before .before .before .t .given .1) (rw (c .before .before .word-of .ensures ∙ word-is _ _ _ _ _ refl) at (sym (c .before .same-word .ensures) ∙ c .if1 .taken))
+returns-2 c = let c2 = c .before .before in word-read _ _ _ _ _ _ _ (c2 .before .before .before .before .before .before .before .pre) (sym (c2 .before .before .before .before .token-at .ensures) ∙ c2 .before .before .t .given .1) (rw (c2 .word-of .ensures ∙ word-is _ _ _ _ _ refl) at (sym (c .before .same-word .ensures) ∙ c .if1 .taken))
 
 returns-3 : tie.Need-returns-3
-returns-3 c = word-other (now (c .before .before .before .before .before .before .before .before .before .args .text)) (c .before .before .before .before .before .before .before .before .before .args .d) (c .before .before .before .before .before .before .before .before .before .args .from) (now (c .before .before .before .before .before .before .before .before .before .args .w)) _ _ _ (sym (c .before .before .before .before .before .before .token-at .ensures) ∙ c .before .before .before .before .t .given .1) (rw (c .before .before .word-of .ensures ∙ word-is _ _ _ _ _ refl) at (sym (c .before .same-word .ensures) ∙ c .if1 .left))
+returns-3 c = word-other _ _ _ _ _ _ _ (sym (c .before .before .before .before .before .before .token-at .ensures) ∙ c .before .before .before .before .t .given .1) (rw (c .before .before .word-of .ensures ∙ word-is _ _ _ _ _ refl) at (sym (c .before .same-word .ensures) ∙ c .if1 .left))
 
 pub word-due-spec : {M : Type 1} → statement M
 word-due-spec =

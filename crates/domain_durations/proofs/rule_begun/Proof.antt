@@ -20,7 +20,7 @@ enum-told : tie.Need-enum-told
 enum-told c = search needs
 
 returns : tie.Need-returns
-returns c = begun-closed (now (c .before .before .before .before .args .text)) (c .before .before .before .before .args .from) (c .before .before .opening .result) (c .before .before .opening .ensures .0) _ _ (c .enum-told .given .1)
+returns c = begun-closed _ _ _ (c .before .before .opening .ensures .0) _ _ (c .enum-told .given .1)
 
 token-at-requires : tie.Need-token-at-requires
 token-at-requires c κs = search needs
@@ -35,7 +35,7 @@ enum-told-2 : tie.Need-enum-told-2
 enum-told-2 c = search needs
 
 returns-2 : tie.Need-returns-2
-returns-2 c = begun-headless (now (c .before .before .before .before .before .before .before .before .before .args .text)) (c .before .before .before .before .before .before .before .before .before .args .from) (c .before .before .before .before .before .before .before .opening .result) (c .before .before .before .before .before .before .before .opening .ensures .0) _ _ (c .before .before .before .before .before .first .given .1) (c .before .before .rule-head .result) (rw (c .before .before .before .token-at .ensures) at (c .before .before .rule-head .ensures)) _ _ (c .enum-told2 .given .1)
+returns-2 c = let c2 = c .before .before in begun-headless _ _ _ (c2 .before .before .before .before .before .opening .ensures .0) _ _ (c2 .before .before .before .first .given .1) _ (rw (c2 .before .token-at .ensures) at (c2 .rule-head .ensures)) _ _ (c .enum-told2 .given .1)
 
 slice-aggregate-spot-at : tie.Need-slice-aggregate-spot-at
 slice-aggregate-spot-at c = search needs
@@ -57,11 +57,11 @@ refusal-requires c κs = search needs
 
 returns-3 : tie.Need-returns-3
 unfolding bytes
-returns-3 c = begun-other (now (c .before .before .before .before .before .before .before .before .before .before .before .before .before .before .before .before .args .text)) (c .before .before .before .before .before .before .before .before .before .before .before .before .before .before .before .before .args .from) (c .before .before .before .before .before .before .before .before .before .before .before .before .before .before .opening .result) (c .before .before .before .before .before .before .before .before .before .before .before .before .before .before .opening .ensures .0) _ _ (c .before .before .before .before .before .before .before .before .before .before .before .before .first .given .1) (c .before .before .before .before .before .before .before .before .before .rule-head .result) (rw (c .before .before .before .before .before .before .before .before .before .before .token-at .ensures) at (c .before .before .before .before .before .before .before .before .before .rule-head .ensures)) _ _ (c .before .before .before .before .before .before .before .head .given .1) (c .before .token-at2 .result) (c .refusal .result) (sym (c .before .before .before .before .spot-at .ensures) ∙ c .before .before .enum-told3 .given .1) (c .before .token-at2 .ensures) (c .refusal .ensures)
+returns-3 c = let c1 = c .before in let c4 = c1 .before .before .before in let c7 = c4 .before .before .before in let c9 = c7 .before .before in begun-other _ _ _ (c9 .before .before .before .before .before .opening .ensures .0) _ _ (c9 .before .before .before .first .given .1) _ (rw (c9 .before .token-at .ensures) at (c9 .rule-head .ensures)) _ _ (c7 .head .given .1) _ _ (sym (c4 .spot-at .ensures) ∙ c1 .before .enum-told3 .given .1) (c1 .token-at2 .ensures) (c .refusal .ensures)
 
 returns-4 : tie.Need-returns-4
 unfolding bytes
-returns-4 c = let x = ahead-done _ _ _ _ _ (c .before .before .before .before .before .before .before .before .before .before .before .first .given .1) (c .before .before .before .before .before .before .before .before .before .before .before .before .before .opening .ensures .1) in let y = head-ahead (now (c .before .before .before .before .before .before .before .before .before .before .before .before .before .before .before .args .text)) _ _ _ (c .before .before .before .before .before .before .before .before .rule-head .result) (x .1) (rw (c .before .before .before .before .before .before .before .before .before .token-at .ensures) at (c .before .before .before .before .before .before .before .before .rule-head .ensures)) (c .before .before .before .before .before .before .head .given .1) in let z = spot-within (now (c .before .before .before .before .before .before .before .before .before .before .before .before .before .before .before .args .text)) _ (bytes "?duration") _ _ (y .1) (sym (c .before .before .before .spot-at .ensures) ∙ c .before .spot .given .1) in begun-read (now (c .before .before .before .before .before .before .before .before .before .before .before .before .before .before .before .args .text)) (c .before .before .before .before .before .before .before .before .before .before .before .before .before .before .before .args .from) (c .before .before .before .before .before .before .before .before .before .before .before .before .before .opening .result) (c .before .before .before .before .before .before .before .before .before .before .before .before .before .opening .ensures .0) _ _ (c .before .before .before .before .before .before .before .before .before .before .before .first .given .1) (c .before .before .before .before .before .before .before .before .rule-head .result) (rw (c .before .before .before .before .before .before .before .before .before .token-at .ensures) at (c .before .before .before .before .before .before .before .before .rule-head .ensures)) _ _ (c .before .before .before .before .before .before .head .given .1) _ _ (sym (c .before .before .before .spot-at .ensures) ∙ c .before .spot .given .1) (omega (arith, x .0, y .0, z .0)) (z .1)
+returns-4 c = let c1 = c .before in let c3 = c1 .before .before in let c6 = c3 .before .before .before in let c8 = c6 .before .before in let c11 = c8 .before .before .before in let x = ahead-done _ _ _ _ _ (c11 .first .given .1) (c11 .before .before .opening .ensures .1) in let y = head-ahead _ _ _ _ _ (x .1) (rw (c8 .before .token-at .ensures) at (c8 .rule-head .ensures)) (c6 .head .given .1) in let z = spot-within _ _ (bytes "?duration") _ _ (y .1) (sym (c3 .spot-at .ensures) ∙ c1 .spot .given .1) in begun-read _ _ _ (c11 .before .before .opening .ensures .0) _ _ (c11 .first .given .1) _ (rw (c8 .before .token-at .ensures) at (c8 .rule-head .ensures)) _ _ (c6 .head .given .1) _ _ (sym (c3 .spot-at .ensures) ∙ c1 .spot .given .1) (omega (arith, x .0, y .0, z .0)) (z .1)
 
 pub rule-begun-spec : {M : Type 1} → statement M
 rule-begun-spec =

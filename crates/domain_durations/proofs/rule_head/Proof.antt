@@ -12,10 +12,10 @@ enum-known-t : tie.Need-enum-known-t
 enum-known-t c = search needs
 
 returns : tie.Need-returns
-returns c = head-long (now (c .before .before .before .before .before .args .text)) (c .before .before .before .before .before .args .t) _ _ (c .before .before .t .given .1) (c .if1 .taken)
+returns c = head-long _ _ _ _ (c .before .before .t .given .1) (c .if1 .taken)
 
 returns-2 : tie.Need-returns-2
-returns-2 c = head-refused (now (c .before .before .before .before .before .args .text)) (c .before .before .before .before .before .args .t) _ _ (c .before .before .t .given .1) (c .if1 .left)
+returns-2 c = head-refused _ _ _ _ (c .before .before .t .given .1) (c .if1 .left)
 
 enum-known-t-2 : tie.Need-enum-known-t-2
 enum-known-t-2 c = search needs
@@ -37,11 +37,11 @@ same-word-requires c κs = search needs
 
 returns-4 : tie.Need-returns-4
 unfolding bytes
-returns-4 c = head-equals (now (c .before .before .before .before .before .before .before .before .before .args .text)) (c .before .before .before .before .before .before .before .before .before .args .t) _ _ _ (c .before .before .before .before .before .t2 .given .1) (rw (c .before .before .before .word-of .ensures ∙ word-is _ _ _ _ _ refl) at (sym (c .before .same-word .ensures) ∙ c .if2 .taken))
+returns-4 c = head-equals _ _ _ _ _ (c .before .before .before .before .before .t2 .given .1) (rw (c .before .before .before .word-of .ensures ∙ word-is _ _ _ _ _ refl) at (sym (c .before .same-word .ensures) ∙ c .if2 .taken))
 
 returns-5 : tie.Need-returns-5
 unfolding bytes
-returns-5 c = head-other (now (c .before .before .before .before .before .before .before .before .before .args .text)) (c .before .before .before .before .before .before .before .before .before .args .t) _ _ _ (c .before .before .before .before .before .t2 .given .1) (rw (c .before .before .before .word-of .ensures ∙ word-is _ _ _ _ _ refl) at (sym (c .before .same-word .ensures) ∙ c .if2 .left))
+returns-5 c = head-other _ _ _ _ _ (c .before .before .before .before .before .t2 .given .1) (rw (c .before .before .before .word-of .ensures ∙ word-is _ _ _ _ _ refl) at (sym (c .before .same-word .ensures) ∙ c .if2 .left))
 
 pub rule-head-spec : {M : Type 1} → statement M
 rule-head-spec =

@@ -12,7 +12,7 @@ is-name-requires : tie.Need-is-name-requires
 is-name-requires c κs = search needs
 
 returns : tie.Need-returns
-returns c = c .is-name .ensures ∙ name-of-two (c .before .before .args .b)
+returns c = c .is-name .ensures ∙ name-of-two _
 
 pub is-name-byte-spec : {M : Type 1} → statement M
 is-name-byte-spec = tie.close (tie.spec slice-aggregate-is-name is-name-requires returns)

@@ -22,7 +22,7 @@ returns : tie.Need-returns
 returns c = search needs
 
 returns-2 : tie.Need-returns-2
-returns-2 c = sym (set-out (now (c .before .args .block)) (length (now (c .before .args .block)) - 1) (c .before .args .b) (omega arith))
+returns-2 c = sym (set-out _ _ _ (omega arith))
 
 pub put-last-spec : {M : Type 1} → statement M
 put-last-spec = tie.close (tie.spec sub-last slice-write-block same-length returns returns-2)

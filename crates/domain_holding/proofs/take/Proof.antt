@@ -30,7 +30,7 @@ loop-less : tie.Need-loop-less Inv-loop μ-loop
 loop-less c = search needs
 
 loop-again : tie.Need-loop-again Inv-loop μ-loop
-loop-again c = (search needs, rw (c .before .before .take-byte .ensures, c .before .before .before .before .before .before .loop .inv .0) (sym (on-byte _ _ _ _ (c .before .before .before .before .before .loop-test .taken)) ∙ c .before .before .before .before .before .before .loop .inv .1))
+loop-again c = let c2 = c .before .before in let c5 = c2 .before .before .before in (search needs, rw (c2 .take-byte .ensures, c5 .before .loop .inv .0) (sym (on-byte _ _ _ _ (c5 .loop-test .taken)) ∙ c5 .before .loop .inv .1))
 
 same-length : tie.Need-same-length Inv-loop μ-loop
 same-length c = c .before .loop .inv .0

@@ -25,7 +25,7 @@ kept-in-requires : tie.Need-kept-in-requires Inv-loop μ-loop
 kept-in-requires c κs = ((c .before .before .before .pre .0) .few, (c .before .before .before .pre .0) .near, omega arith)
 
 power-requires : tie.Need-power-requires Inv-loop μ-loop
-power-requires c κs = (c .before .before .before .before .pre .1, omega (arith, (c .kept-in .ensures .0 ((c .before .before .before .before .pre .0) .rows) ((c .before .before .before .before .pre .0) .to) ((c .before .before .before .before .pre .0) .table) ((c .before .before .before .before .pre .0) .holds) ∙ wanted-count ((c .before .before .before .before .pre .0) .table) (c .before .before .loop .j) ((c .before .before .before .before .pre .0) .signed) (omega (arith, (c .before .before .before .before .pre .0) .holds .count))), wanted-few ((c .before .before .before .before .pre .0) .table) (c .before .before .loop .j) ((c .before .before .before .before .pre .0) .signed) (omega (arith, (c .before .before .before .before .pre .0) .holds .count))))
+power-requires c κs = let c2 = c .before .before in let c4 = c2 .before .before in (c4 .pre .1, omega (arith, (c .kept-in .ensures .0 ((c4 .pre .0) .rows) ((c4 .pre .0) .to) ((c4 .pre .0) .table) ((c4 .pre .0) .holds) ∙ wanted-count ((c4 .pre .0) .table) (c2 .loop .j) ((c4 .pre .0) .signed) (omega (arith, (c4 .pre .0) .holds .count))), wanted-few ((c4 .pre .0) .table) (c2 .loop .j) ((c4 .pre .0) .signed) (omega (arith, (c4 .pre .0) .holds .count))))
 
 add-sum : tie.Need-add-sum Inv-loop μ-loop
 add-sum c = omega (arith, c .before .before .before .loop .inv .1, c .power .ensures .1, (c .before .before .before .before .before .pre .0) .few)
@@ -37,7 +37,7 @@ loop-less : tie.Need-loop-less Inv-loop μ-loop
 loop-less c = omega arith
 
 loop-again : tie.Need-loop-again Inv-loop μ-loop
-loop-again c = (omega arith, omega (arith, c .before .before .before .loop .inv .1, c .power .ensures .1), λ m to t h g. rw (c .before .before .before .loop .inv .2 m to t h g, c .power .ensures .0, c .before .kept-in .ensures .0 m to t h) (sym (first-next (c .before .before .before .before .before .args .n) t (c .before .before .before .loop .j) (omega (arith, h .count)))))
+loop-again c = (omega arith, omega (arith, c .before .before .before .loop .inv .1, c .power .ensures .1), λ m to t h g. rw (c .before .before .before .loop .inv .2 m to t h g, c .power .ensures .0, c .before .kept-in .ensures .0 m to t h) (sym (first-next _ t _ (omega (arith, h .count)))))
 
 returns : tie.Need-returns Inv-loop μ-loop
 returns c = let e : c .before .loop .j ≡ c .before .before .before .args .i = omega arith in (λ m to t h g. c .before .loop .inv .2 m to t h g ∙ rw e, omega (arith, c .before .loop .inv .1, (c .before .before .before .pre .0) .few))

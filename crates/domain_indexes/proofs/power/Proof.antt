@@ -15,10 +15,10 @@ abbrev μ-loop : tie.MeasureT-loop
 μ-loop n k p₀ i₀ p i = k - i
 
 loop-holds : tie.Need-loop-holds Inv-loop μ-loop
-loop-holds c = (omega arith, sym (pow-zero (c .args .n)))
+loop-holds c = (omega arith, sym (pow-zero _))
 
 mul-p : tie.Need-mul-p Inv-loop μ-loop
-mul-p c = omega (arith, product-most (c .before .loop .p) (c .before .before .args .n) (power-most (c .before .before .args .n) (c .before .loop .i) (c .before .loop .p) 3 (c .before .before .pre .0) (omega arith) (c .before .loop .inv .1)) (c .before .before .pre .0))
+mul-p c = omega (arith, product-most _ _ (power-most _ _ _ 3 (c .before .before .pre .0) (omega arith) (c .before .loop .inv .1)) (c .before .before .pre .0))
 
 add-i : tie.Need-add-i Inv-loop μ-loop
 add-i c = omega arith
@@ -27,10 +27,10 @@ loop-less : tie.Need-loop-less Inv-loop μ-loop
 loop-less c = omega arith
 
 loop-again : tie.Need-loop-again Inv-loop μ-loop
-loop-again c = (omega arith, power-next (c .before .before .args .n) (c .before .loop .i) (c .before .loop .p) (c .before .loop .inv .1))
+loop-again c = (omega arith, power-next _ _ _ (c .before .loop .inv .1))
 
 returns : tie.Need-returns Inv-loop μ-loop
-returns c = let e : c .before .loop .i ≡ c .before .before .args .k = omega arith in (rw e at (c .before .loop .inv .1), power-most (c .before .before .args .n) (c .before .loop .i) (c .before .loop .p) 4 (c .before .before .pre .0) (omega arith) (c .before .loop .inv .1))
+returns c = let e : c .before .loop .i ≡ c .before .before .args .k = omega arith in (rw e at (c .before .loop .inv .1), power-most _ _ _ 4 (c .before .before .pre .0) (omega arith) (c .before .loop .inv .1))
 
 pub power-spec : {M : Type 1} → statement M
 power-spec =

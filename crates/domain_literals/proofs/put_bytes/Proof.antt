@@ -18,7 +18,7 @@ abbrev μ-loop : tie.MeasureT-loop
 μ-loop code₀ at k v i₀ rest₀ code i rest = k - i
 
 loop-holds : tie.Need-loop-holds Inv-loop μ-loop
-loop-holds c = (omega arith, refl, rw (add-zero (c .before .args .at), sub-zero (c .before .args .k)))
+loop-holds c = (omega arith, refl, rw (add-zero _, sub-zero _))
 
 add-put : tie.Need-add-put Inv-loop μ-loop
 add-put c = omega arith
@@ -33,13 +33,13 @@ loop-less : tie.Need-loop-less Inv-loop μ-loop
 loop-less c = omega arith
 
 loop-again : tie.Need-loop-again Inv-loop μ-loop
-loop-again c = (omega arith, ap length (c .before .before .put .ensures) ∙ simp length-set (c .before .before .before .before .before .loop .inv .1), rw (c .before .before .put .ensures) (bytes-step (c .before .before .before .before .before .loop .code) (c .before .before .before .before .before .before .before .args .at) (c .before .before .before .before .before .loop .i) (c .before .before .before .before .before .before .before .args .k) (c .before .before .before .before .before .loop .rest) (c .before .before .before .before .loop-test .taken) ∙ c .before .before .before .before .before .loop .inv .2))
+loop-again c = let c2 = c .before .before in (omega arith, ap length (c2 .put .ensures) ∙ simp length-set (c2 .before .before .before .loop .inv .1), rw (c2 .put .ensures) (bytes-step _ _ _ _ _ (c2 .before .before .loop-test .taken) ∙ c2 .before .before .before .loop .inv .2))
 
 same-length : tie.Need-same-length Inv-loop μ-loop
 same-length c = search needs
 
 returns : tie.Need-returns Inv-loop μ-loop
-returns c = sym (bytes-end (c .before .loop .code) (c .before .before .before .args .at) (c .before .loop .i) (c .before .before .before .args .k) (c .before .loop .rest) (c .loop-test .left)) ∙ c .before .loop .inv .2
+returns c = sym (bytes-end _ _ _ _ _ (c .loop-test .left)) ∙ c .before .loop .inv .2
 
 pub put-bytes-spec : {M : Type 1} → statement M
 put-bytes-spec =

@@ -30,7 +30,7 @@ same-length : tie.Need-same-length
 same-length c = search needs
 
 returns : tie.Need-returns
-returns c = (c .before .before .put-bytes .ensures ∙ rw (c .before .before .before .before .before .before .put .ensures, c .before .before .before .before .before .before .before .before .size-of .ensures .0, add-one (c .before .before .before .before .before .before .before .before .before .before .args .at)), rw (c .before .before .before .before .before .before .before .before .size-of .ensures .0))
+returns c = let c2 = c .before .before in let c6 = c2 .before .before .before .before in (c2 .put-bytes .ensures ∙ rw (c6 .put .ensures, c6 .before .before .size-of .ensures .0, add-one _), rw (c6 .before .before .size-of .ensures .0))
 
 pub put-literal-spec : {M : Type 1} → statement M
 put-literal-spec =

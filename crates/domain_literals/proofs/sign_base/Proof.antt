@@ -14,11 +14,11 @@ is-negative-requires c κs = search needs
 
 returns : tie.Need-returns
 unfolding signBase
-returns c = (rw (rw (toZ-ofZ w64 (c .before .before .args .z) (c .before .before .fits .z)) at (sym (c .before .is-negative .ensures) ∙ c .if1 .taken)), omega arith)
+returns c = (rw (rw (toZ-ofZ w64 _ (c .before .before .fits .z)) at (sym (c .before .is-negative .ensures) ∙ c .if1 .taken)), omega arith)
 
 returns-2 : tie.Need-returns-2
 unfolding signBase
-returns-2 c = (rw (rw (toZ-ofZ w64 (c .before .before .args .z) (c .before .before .fits .z)) at (sym (c .before .is-negative .ensures) ∙ c .if1 .left)), omega arith)
+returns-2 c = (rw (rw (toZ-ofZ w64 _ (c .before .before .fits .z)) at (sym (c .before .is-negative .ensures) ∙ c .if1 .left)), omega arith)
 
 pub sign-base-spec : {M : Type 1} → statement M
 sign-base-spec = tie.close (tie.spec is-negative-requires returns returns-2)

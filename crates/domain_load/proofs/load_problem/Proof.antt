@@ -5,7 +5,7 @@ use native.Mathlib.Omega.{arith}
 use Rattle.domain_meaning.specs.Problem.{scopeOf}
 use Rattle.domain_meaning.specs.First.{noFacts, noNumbers}
 use Rattle.domain_terms.specs.declared.scope.Counts.{Counts}
-use Rattle.domain_problem_text.proofs.Judging.{predicates-signed, functions-signed}
+use Rattle.domain_terms.proofs.Signatures.{predicates-signed, functions-signed}
 use Rattle.domain_load.proofs.Loading.{no-problem, understands, both-read}
 use borrow.Author.Needs.{needs}
 use Rattle.domain_load.proofs.load_problem.Statement.{statement}

@@ -37,7 +37,7 @@ enum-known-k-2 c = search needs
 
 returns : tie.Need-returns
 unfolding bytes
-returns c = flags-refused (now (c .before .before .before .before .before .before .before .before .before .before .before .args .text)) _ (c .before .before .before .before .before .before .before .heading-at .result) _ _ _ _ _ _ (c .before .before .before .before .before .before .before .heading-at .ensures .0) (c .before .before .before .before .before .behind .given .1) (c .before .before .before .flags-section .ensures .0) (c .before .k2 .given .1)
+returns c = let c3 = c .before .before .before in flags-refused _ _ _ _ _ _ _ _ _ (c3 .before .before .before .before .heading-at .ensures .0) (c3 .before .before .behind .given .1) (c3 .flags-section .ensures .0) (c .before .k2 .given .1)
 
 slice-aggregate-tables-at : tie.Need-slice-aggregate-tables-at
 slice-aggregate-tables-at c = search needs
@@ -68,18 +68,18 @@ slice-aggregate-store-4 : tie.Need-slice-aggregate-store-4
 slice-aggregate-store-4 c = search needs
 
 store-requires : tie.Need-store-requires
-store-requires c κs = (ap length (c .before .before .before .before .before .before .before .before .before .before .before .before .before .before .before .before .before .before .before .before .before .before .before .before .before .pre) ∙ length-rows 133 [], c .before .before .before .before .before .before .before .before .types2 .given, c .before .before .before .before .before .before .before .objects2 .given, c .before .before .before .before .before .before .predicates2 .given, c .before .before .before .before .before .functions2 .given)
+store-requires c κs = let c5 = c .before .before .before .before .before in (ap length (c5 .before .before .before .before .before .before .before .before .before .before .before .before .before .before .before .before .before .before .before .before .pre) ∙ length-rows 133 [], c5 .before .before .before .types2 .given, c5 .before .before .objects2 .given, c5 .before .predicates2 .given, c5 .functions2 .given)
 
 returns-2 : tie.Need-returns-2
 unfolding bytes
-returns-2 c = untitled (now (c .before .before .before .before .before .before .before .args .text)) _ (c .before .before .before .heading-at .result) _ _ (c .before .before .before .heading-at .ensures .0) (c .before .k .given .1)
+returns-2 c = untitled _ _ _ _ _ (c .before .before .before .heading-at .ensures .0) (c .before .k .given .1)
 
 same-length : tie.Need-same-length
 same-length c = search needs
 
 returns-3 : tie.Need-returns-3
 unfolding bytes
-returns-3 c = let b = onwards-done _ _ _ _ _ (c .before .before .before .before .before .before .before .before .before .before .before .before .before .before .before .before .before .before .from .given .1) (c .before .before .before .before .before .before .before .before .before .before .before .before .before .before .before .before .before .before .before .before .flags-section .ensures .1) in declares (now (c .before .before .before .before .before .before .before .before .before .before .before .before .before .before .before .before .before .before .before .before .before .before .before .before .before .before .before .before .args .text)) _ _ _ _ _ _ _ _ _ _ (now (c .before .before .before .before .before .before .before .before .before .before .before .before .before .before .before .before .before .before .before .before .before .before .before .before .before .before .before .before .args .tables)) _ (c .before .before .before .before .before .before .before .before .before .before .before .before .before .before .before .before .before .before .before .before .before .before .before .before .before .before .before .before .pre) (c .before .before .store .ensures) (c .before .before .before .before .before .before .before .before .before .before .before .before .before .before .before .before .before .before .before .before .before .before .before .before .heading-at .result) (c .before .before .before .before .before .before .before .before .before .before .before .before .before .before .before .before .before .before .before .before .before .before .before .before .heading-at .ensures .0) (c .before .before .before .before .before .before .before .before .before .before .before .before .before .before .before .before .before .before .before .before .before .before .behind .given .1) (answer-done _ _ _ (sym (c .before .before .before .before .before .before .before .before .before .before .before .before .before .before .before .before .before .before .before .before .flags-section .ensures .0) ∙ c .before .before .before .before .before .before .before .before .before .before .before .before .before .before .before .before .before .before .from .given .1)) (b .0) (c .before .before .before .before .before .before .before .before .before .before .before .before .tables-at .ensures)
+returns-3 c = let c2 = c .before .before in let c12 = c2 .before .before .before .before .before .before .before .before .before .before in let c18 = c12 .before .before .before .before .before .before in let c20 = c18 .before .before in let b = onwards-done _ _ _ _ _ (c18 .from .given .1) (c20 .flags-section .ensures .1) in declares _ _ _ _ _ _ _ _ _ _ _ _ _ (c20 .before .before .before .before .before .before .before .before .pre) (c2 .store .ensures) _ (c20 .before .before .before .before .heading-at .ensures .0) (c20 .before .before .behind .given .1) (answer-done _ _ _ (sym (c20 .flags-section .ensures .0) ∙ c18 .from .given .1)) (b .0) (c12 .tables-at .ensures)
 
 pub preamble-at-spec : {M : Type 1} → statement M
 preamble-at-spec =

@@ -19,7 +19,7 @@ same-length : tie.Need-same-length
 same-length c = search needs
 
 returns : tie.Need-returns
-returns c = rw (c .before .before .copy4 .ensures, c .before .before .before .before .before .before .copy3 .ensures, c .before .before .before .before .before .before .before .before .before .before .copy2 .ensures, c .before .before .before .before .before .before .before .before .before .before .before .before .before .before .copy .ensures)
+returns c = let c2 = c .before .before in let c6 = c2 .before .before .before .before in rw (c2 .copy4 .ensures, c6 .copy3 .ensures, c6 .before .before .before .before .copy2 .ensures, c6 .before .before .before .before .before .before .before .before .copy .ensures)
 
 pub store-spec : {M : Type 1} → statement M
 store-spec =

@@ -24,17 +24,17 @@ enum-told c = search needs
 
 returns : tie.Need-returns
 unfolding bytes
-returns c = λ x h. aimed-undue (now (c .before .before .before .before .before .before .before .args .text)) x (c .before .before .before .before .before .before .before .args .from) _ _ _ _ _ _ (answer-refused _ _ _ (sym (c .before .before .section-due .ensures .0) ∙ c .enum-told .given .1)) (c .enum-told .given .1)
+returns c = λ x h. aimed-undue _ x _ _ _ _ _ _ _ (answer-refused _ _ _ (sym (c .before .before .section-due .ensures .0) ∙ c .enum-told .given .1)) (c .enum-told .given .1)
 
 goal-to-requires : tie.Need-goal-to-requires
-goal-to-requires c κs = let w = ahead-done _ _ _ _ _ (c .before .before .before .s .given .1) (c .before .before .before .before .before .section-due .ensures .1) in (omega (arith, w .0, c .before .before .before .before .before .before .before .before .before .before .pre .0), w .1, c .before .before .before .before .before .before .before .before .before .before .pre .2)
+goal-to-requires c κs = let c3 = c .before .before .before in let c10 = c3 .before .before .before .before .before .before .before in let w = ahead-done _ _ _ _ _ (c3 .s .given .1) (c3 .before .before .section-due .ensures .1) in (omega (arith, w .0, c10 .pre .0), w .1, c10 .pre .2)
 
 same-length : tie.Need-same-length
 same-length c = search needs
 
 returns-2 : tie.Need-returns-2
 unfolding bytes
-returns-2 c = λ x h. aimed-judged (now (c .before .before .before .before .before .before .before .before .before .before .before .before .before .args .text)) x (c .before .before .before .before .before .before .before .before .before .before .before .before .before .args .from) _ _ _ _ _ _ (answer-done _ _ _ (sym (c .before .before .before .before .before .before .before .before .section-due .ensures .0) ∙ c .before .before .before .before .before .before .s .given .1)) (c .before .before .before .before .if1 .taken) (c .before .before .goal-to .ensures x h)
+returns-2 c = let c2 = c .before .before in λ x h. aimed-judged _ x _ _ _ _ _ _ _ (answer-done _ _ _ (sym (c2 .before .before .before .before .before .before .section-due .ensures .0) ∙ c2 .before .before .before .before .s .given .1)) (c2 .before .before .if1 .taken) (c2 .goal-to .ensures x h)
 
 sums-at-requires : tie.Need-sums-at-requires
 sums-at-requires c κs = search needs
@@ -47,17 +47,17 @@ enum-told-3 c = search needs
 
 returns-3 : tie.Need-returns-3
 unfolding bytes
-returns-3 c = λ x h. aimed-unfit (now (c .before .before .before .before .before .before .before .before .before .before .before .before .args .text)) x (c .before .before .before .before .before .before .before .before .before .before .before .before .args .from) _ _ _ _ _ _ (answer-done _ _ _ (sym (c .before .before .before .before .before .before .before .section-due .ensures .0) ∙ c .before .before .before .before .before .s .given .1)) _ _ (c .before .before .before .if1 .left) (c .before .before .sums-at .ensures x h) (c .enum-told3 .given .1)
+returns-3 c = let c2 = c .before .before in λ x h. aimed-unfit _ x _ _ _ _ _ _ _ (answer-done _ _ _ (sym (c2 .before .before .before .before .before .section-due .ensures .0) ∙ c2 .before .before .before .s .given .1)) _ _ (c2 .before .if1 .left) (c2 .sums-at .ensures x h) (c .enum-told3 .given .1)
 
 goal-to-requires-2 : tie.Need-goal-to-requires-2
-goal-to-requires-2 c κs = let w = ahead-done _ _ _ _ _ (c .before .before .before .before .before .before .s .given .1) (c .before .before .before .before .before .before .before .before .section-due .ensures .1) in (omega (arith, w .0, c .before .before .before .before .before .before .before .before .before .before .before .before .before .pre .0), w .1, c .before .before .before .before .before .before .before .before .before .before .before .before .before .pre .2)
+goal-to-requires-2 c κs = let c6 = c .before .before .before .before .before .before in let c13 = c6 .before .before .before .before .before .before .before in let w = ahead-done _ _ _ _ _ (c6 .s .given .1) (c6 .before .before .section-due .ensures .1) in (omega (arith, w .0, c13 .pre .0), w .1, c13 .pre .2)
 
 same-length-2 : tie.Need-same-length-2
 same-length-2 c = search needs
 
 returns-4 : tie.Need-returns-4
 unfolding bytes
-returns-4 c = λ x h. aimed-fits (now (c .before .before .before .before .before .before .before .before .before .before .before .before .before .before .before .before .args .text)) x (c .before .before .before .before .before .before .before .before .before .before .before .before .before .before .before .before .args .from) _ _ _ _ _ _ (answer-done _ _ _ (sym (c .before .before .before .before .before .before .before .before .before .before .before .section-due .ensures .0) ∙ c .before .before .before .before .before .before .before .before .before .s .given .1)) (c .before .before .before .before .before .before .before .if1 .left) (sums-fit x _ _ (c .before .before .before .before .before .before .sums-at .result) _ _ (c .before .before .before .before .before .before .sums-at .ensures x h) (c .before .before .before .before .enum-told2 .given .1)) (c .before .before .goal-to2 .ensures x h)
+returns-4 c = let c2 = c .before .before in let c4 = c2 .before .before in let c6 = c4 .before .before in λ x h. aimed-fits _ x _ _ _ _ _ _ _ (answer-done _ _ _ (sym (c6 .before .before .before .before .before .section-due .ensures .0) ∙ c6 .before .before .before .s .given .1)) (c6 .before .if1 .left) (sums-fit x _ _ _ _ _ (c6 .sums-at .ensures x h) (c4 .enum-told2 .given .1)) (c2 .goal-to2 .ensures x h)
 
 pub goal-at-spec : {M : Type 1} → statement M
 goal-at-spec =

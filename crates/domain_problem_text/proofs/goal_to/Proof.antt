@@ -27,19 +27,19 @@ same-length : tie.Need-same-length
 same-length c = search needs
 
 returns : tie.Need-returns
-returns c = λ x h. reached-open (now (c .before .before .before .before .before .before .before .before .before .before .before .before .before .args .text)) x (c .before .before .before .before .before .before .before .before .before .before .before .before .before .args .from) _ _ _ (c .before .before .before .before .before .before .before .before .condition-at .ensures .0 x h) _ _ _ (c .before .before .before .before .g2 .given .1) (c .before .before .closing .result) (c .before .before .closing .ensures .0) _ _ (c .enum-told .given .1)
+returns c = λ x h. reached-open _ x _ _ _ _ (c .before .before .before .before .before .before .before .before .condition-at .ensures .0 x h) _ _ _ (c .before .before .before .before .g2 .given .1) _ (c .before .before .closing .ensures .0) _ _ (c .enum-told .given .1)
 
 same-length-2 : tie.Need-same-length-2
 same-length-2 c = search needs
 
 returns-2 : tie.Need-returns-2
-returns-2 c = λ x h. reached-not (now (c .before .before .before .before .before .before .before .before .before .before .args .text)) x (c .before .before .before .before .before .before .before .before .before .before .args .from) _ _ _ (c .before .before .before .before .before .condition-at .ensures .0 x h) _ _ (c .before .g .given .1)
+returns-2 c = λ x h. reached-not _ x _ _ _ _ (c .before .before .before .before .before .condition-at .ensures .0 x h) _ _ (c .before .g .given .1)
 
 same-length-3 : tie.Need-same-length-3
 same-length-3 c = search needs
 
 returns-3 : tie.Need-returns-3
-returns-3 c = λ x h. reached (now (c .before .before .before .before .before .before .before .before .before .before .before .before .before .before .args .text)) x (c .before .before .before .before .before .before .before .before .before .before .before .before .before .before .args .from) _ _ _ (c .before .before .before .before .before .before .before .before .before .condition-at .ensures .0 x h) _ _ _ (c .before .before .before .before .before .g2 .given .1) (c .before .before .before .closing .result) (c .before .before .before .closing .ensures .0) _ _ (c .before .z .given .1) ((spent-at _ _ _ _ _ _ (c .before .before .before .before .before .g2 .given .1) (c .before .before .before .before .before .before .before .before .before .condition-at .ensures .1)) .2)
+returns-3 c = let c3 = c .before .before .before in let c5 = c3 .before .before in λ x h. reached _ x _ _ _ _ (c5 .before .before .before .before .condition-at .ensures .0 x h) _ _ _ (c5 .g2 .given .1) _ (c3 .closing .ensures .0) _ _ (c .before .z .given .1) ((spent-at _ _ _ _ _ _ (c5 .g2 .given .1) (c5 .before .before .before .before .condition-at .ensures .1)) .2)
 
 pub goal-to-spec : {M : Type 1} → statement M
 goal-to-spec =

@@ -26,7 +26,7 @@ enum-told c = search needs
 
 returns : tie.Need-returns
 unfolding bytes
-returns c = (λ x h f. start-none (now (c .before .before .before .before .before .before .before .args .text)) x (c .before .before .before .before .before .before .before .args .from) _ _ (is-missing (now (c .before .before .before .before .before .before .before .args .text)) (bytes ":init") (c .before .before .before .before .before .before .before .args .from) (c .before .before .begins-at .result) (c .before .before .begins-at .ensures .0) (c .enum-told .given .1)) (c .before .before .before .before .before .before .before .pre .2) (c .before .before .before .before .before .before .before .pre .3), onwards-here _ _ _ (c .before .before .before .before .before .before .before .pre .0))
+returns c = let c2 = c .before .before in let c7 = c2 .before .before .before .before .before in (λ x h f. start-none _ x _ _ _ (is-missing _ (bytes ":init") _ _ (c2 .begins-at .ensures .0) (c .enum-told .given .1)) (c7 .pre .2) (c7 .pre .3), onwards-here _ _ _ (c7 .pre .0))
 
 sums-at-requires : tie.Need-sums-at-requires
 sums-at-requires c κs = search needs
@@ -39,10 +39,10 @@ enum-told-3 c = search needs
 
 returns-2 : tie.Need-returns-2
 unfolding bytes
-returns-2 c = (λ x h f. start-unfit (now (c .before .before .before .before .before .before .before .before .before .before .before .args .text)) x (c .before .before .before .before .before .before .before .before .before .before .before .args .from) _ _ (is-there (now (c .before .before .before .before .before .before .before .before .before .before .before .args .text)) (bytes ":init") (c .before .before .before .before .before .before .before .before .before .before .before .args .from) (c .before .before .before .before .before .before .begins-at .result) (c .before .before .before .before .before .before .begins-at .ensures .0) _ _ (c .before .before .before .before .o .given .1)) _ _ _ _ _ (c .before .before .sums-at .ensures x h) (c .enum-told3 .given .1), onwards-refused _ _ _ _ _ (c .enum-told3 .given .1))
+returns-2 c = (λ x h f. start-unfit _ x _ _ _ (is-there _ (bytes ":init") _ _ (c .before .before .before .before .before .before .begins-at .ensures .0) _ _ (c .before .before .before .before .o .given .1)) _ _ _ _ _ (c .before .before .sums-at .ensures x h) (c .enum-told3 .given .1), onwards-refused _ _ _ _ _ (c .enum-told3 .given .1))
 
 init-to-requires : tie.Need-init-to-requires
-init-to-requires c κs = ((further-at _ _ _ _ _ (c .before .before .before .before .before .before .o .given .1) (c .before .before .before .before .before .before .before .before .begins-at .ensures .1)) .1, c .before .before .before .before .before .before .before .before .before .before .before .before .before .pre .1, c .before .before .before .before .before .before .before .before .before .before .before .before .before .pre .2, c .before .before .before .before .before .before .before .before .before .before .before .before .before .pre .3)
+init-to-requires c κs = let c6 = c .before .before .before .before .before .before in let c8 = c6 .before .before in let c13 = c8 .before .before .before .before .before in ((further-at _ _ _ _ _ (c6 .o .given .1) (c8 .begins-at .ensures .1)) .1, c13 .pre .1, c13 .pre .2, c13 .pre .3)
 
 enum-known-b : tie.Need-enum-known-b
 enum-known-b c = search needs
@@ -58,7 +58,7 @@ same-length-2 c = search needs
 
 returns-3 : tie.Need-returns-3
 unfolding bytes
-returns-3 c = (λ x h f. let y = sums-fit x _ _ (c .before .before .before .before .before .before .before .before .before .before .sums-at .result) _ _ (c .before .before .before .before .before .before .before .before .before .before .sums-at .ensures x h) (c .before .before .before .before .before .before .before .before .enum-told2 .given .1) in start-refused (now (c .before .before .before .before .before .before .before .before .before .before .before .before .before .before .before .before .before .before .before .args .text)) x (c .before .before .before .before .before .before .before .before .before .before .before .before .before .before .before .before .before .before .before .args .from) _ _ (is-there (now (c .before .before .before .before .before .before .before .before .before .before .before .before .before .before .before .before .before .before .before .args .text)) (bytes ":init") (c .before .before .before .before .before .before .before .before .before .before .before .before .before .before .before .before .before .before .before .args .from) (c .before .before .before .before .before .before .before .before .before .before .before .before .before .before .begins-at .result) (c .before .before .before .before .before .before .before .before .before .before .before .before .before .before .begins-at .ensures .0) _ _ (c .before .before .before .before .before .before .before .before .before .before .before .before .o .given .1)) _ _ _ y (c .before .before .before .before .before .init-to .ensures .0 x (length (now (c .before .before .before .before .before .before .before .before .before .before .before .before .before .before .before .before .before .before .before .args .text)) + 1) h f y (omega arith)) _ _ (c .enum-told4 .given .1), onwards-refused _ _ _ _ _ (c .enum-told4 .given .1))
+returns-3 c = let c5 = c .before .before .before .before .before in let c8 = c5 .before .before .before in (λ x h f. let y = sums-fit x _ _ _ _ _ (c8 .before .before .sums-at .ensures x h) (c8 .enum-told2 .given .1) in start-refused _ x _ _ _ (is-there _ (bytes ":init") _ _ (c8 .before .before .before .before .before .before .begins-at .ensures .0) _ _ (c8 .before .before .before .before .o .given .1)) _ _ _ y (c5 .init-to .ensures .0 x _ h f y (omega arith)) _ _ (c .enum-told4 .given .1), onwards-refused _ _ _ _ _ (c .enum-told4 .given .1))
 
 same-length-3 : tie.Need-same-length-3
 same-length-3 c = search needs
@@ -68,7 +68,7 @@ same-length-4 c = search needs
 
 returns-4 : tie.Need-returns-4
 unfolding bytes
-returns-4 c = (λ x h f. let y = sums-fit x _ _ (c .before .before .before .before .before .before .before .before .before .before .before .sums-at .result) _ _ (c .before .before .before .before .before .before .before .before .before .before .before .sums-at .ensures x h) (c .before .before .before .before .before .before .before .before .before .enum-told2 .given .1) in start-done (now (c .before .before .before .before .before .before .before .before .before .before .before .before .before .before .before .before .before .before .before .before .args .text)) x (c .before .before .before .before .before .before .before .before .before .before .before .before .before .before .before .before .before .before .before .before .args .from) _ _ (is-there (now (c .before .before .before .before .before .before .before .before .before .before .before .before .before .before .before .before .before .before .before .before .args .text)) (bytes ":init") (c .before .before .before .before .before .before .before .before .before .before .before .before .before .before .before .before .before .before .before .before .args .from) (c .before .before .before .before .before .before .before .before .before .before .before .before .before .before .before .begins-at .result) (c .before .before .before .before .before .before .before .before .before .before .before .before .before .before .before .begins-at .ensures .0) _ _ (c .before .before .before .before .before .before .before .before .before .before .before .before .before .o .given .1)) _ _ _ y (c .before .before .before .before .before .before .init-to .ensures .0 x (length (now (c .before .before .before .before .before .before .before .before .before .before .before .before .before .before .before .before .before .before .before .before .args .text)) + 1) h f y (omega arith)) _ _ (c .before .b .given .1), let w = ahead-done _ _ _ _ _ (c .before .b .given .1) (c .before .before .before .before .before .before .init-to .ensures .1) in onwards-by _ _ _ _ (omega (arith, (further-at _ _ _ _ _ (c .before .before .before .before .before .before .before .before .before .before .before .before .before .o .given .1) (c .before .before .before .before .before .before .before .before .before .before .before .before .before .before .before .begins-at .ensures .1)) .0)) (ahead-by _ _ _ _ (w .0) (w .1)))
+returns-4 c = let c1 = c .before in let c6 = c1 .before .before .before .before .before in let c9 = c6 .before .before .before in let c11 = c9 .before .before in let c13 = c11 .before .before in (λ x h f. let y = sums-fit x _ _ _ _ _ (c11 .sums-at .ensures x h) (c9 .enum-told2 .given .1) in start-done _ x _ _ _ (is-there _ (bytes ":init") _ _ (c13 .before .before .begins-at .ensures .0) _ _ (c13 .o .given .1)) _ _ _ y (c6 .init-to .ensures .0 x _ h f y (omega arith)) _ _ (c1 .b .given .1), let w = ahead-done _ _ _ _ _ (c1 .b .given .1) (c6 .init-to .ensures .1) in onwards-by _ _ _ _ (omega (arith, (further-at _ _ _ _ _ (c13 .o .given .1) (c13 .before .before .begins-at .ensures .1)) .0)) (ahead-by _ _ _ _ (w .0) (w .1)))
 
 pub init-at-spec : {M : Type 1} → statement M
 init-at-spec =

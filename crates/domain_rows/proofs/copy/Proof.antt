@@ -35,13 +35,13 @@ loop-less : tie.Need-loop-less Inv-loop μ-loop
 loop-less c = omega arith
 
 loop-again : tie.Need-loop-again Inv-loop μ-loop
-loop-again c = let l = c .before .before .loop in (omega arith, simp length-set (l .inv .1), sets-step (l .rows) (now (c .before .before .before .args .w)) (c .before .before .before .args .at) (l .i) (c .before .loop-test .taken) ∙ l .inv .2)
+loop-again c = let l = c .before .before .loop in (omega arith, simp length-set (l .inv .1), sets-step (l .rows) _ _ (l .i) (c .before .loop-test .taken) ∙ l .inv .2)
 
 same-length : tie.Need-same-length Inv-loop μ-loop
 same-length c = c .before .loop .inv .1
 
 returns : tie.Need-returns Inv-loop μ-loop
-returns c = let l = c .before .loop in sym (sets-end (l .rows) (now (c .before .before .args .w)) (c .before .before .args .at) (l .i) (c .loop-test .left)) ∙ l .inv .2
+returns c = let l = c .before .loop in sym (sets-end (l .rows) _ _ (l .i) (c .loop-test .left)) ∙ l .inv .2
 
 pub copy-spec : {M : Type 1} → statement M
 copy-spec =

@@ -11,31 +11,31 @@ use Rattle.domain_rows.proofs.enter.Statement.{statement}
 use Rattle.domain_rows.proofs.enter.Tie as tie
 
 mul-at : tie.Need-mul-at
-mul-at c = omega (arith, rows-long (c .before .before .before .args .max) (now (c .before .before .before .args .rows)) (c .before .before .before .args .n) (c .before .before .before .pre .0 .0) (c .before .before .before .pre .0 .1), c .before .before .before .pre .1)
+mul-at c = let c3 = c .before .before .before in omega (arith, rows-long _ _ _ (c3 .pre .0 .0) (c3 .pre .0 .1), c3 .pre .1)
 
 cast-rows : tie.Need-cast-rows
 cast-rows c = search needs
 
 slice-write-rows : tie.Need-slice-write-rows
-slice-write-rows c = omega (arith, rows-long (c .before .before .before .args .max) (now (c .before .before .before .args .rows)) (c .before .before .before .args .n) (c .before .before .before .pre .0 .0) (c .before .before .before .pre .0 .1), c .before .before .before .pre .1)
+slice-write-rows c = let c3 = c .before .before .before in omega (arith, rows-long _ _ _ (c3 .pre .0 .0) (c3 .pre .0 .1), c3 .pre .1)
 
 add-copy : tie.Need-add-copy
-add-copy c = omega (arith, rows-long (c .before .before .before .before .args .max) (now (c .before .before .before .before .args .rows)) (c .before .before .before .before .args .n) (c .before .before .before .before .pre .0 .0) (c .before .before .before .before .pre .0 .1), c .before .before .before .before .pre .1)
+add-copy c = let c4 = c .before .before .before .before in omega (arith, rows-long _ _ _ (c4 .pre .0 .0) (c4 .pre .0 .1), c4 .pre .1)
 
 copy-requires : tie.Need-copy-requires
-copy-requires c κs = simp length-set (omega (arith, rows-long (c .before .before .before .before .args .max) (now (c .before .before .before .before .args .rows)) (c .before .before .before .before .args .n) (c .before .before .before .before .pre .0 .0) (c .before .before .before .before .pre .0 .1), c .before .before .before .before .pre .1, c .before .before .before .before .pre .3))
+copy-requires c κs = let c4 = c .before .before .before .before in simp length-set (omega (arith, rows-long _ _ _ (c4 .pre .0 .0) (c4 .pre .0 .1), c4 .pre .1, c4 .pre .3))
 
 add-copy-2 : tie.Need-add-copy-2
-add-copy-2 c = omega (arith, rows-long (c .before .before .before .before .before .before .before .before .args .max) (now (c .before .before .before .before .before .before .before .before .args .rows)) (c .before .before .before .before .before .before .before .before .args .n) (c .before .before .before .before .before .before .before .before .pre .0 .0) (c .before .before .before .before .before .before .before .before .pre .0 .1), c .before .before .before .before .before .before .before .before .pre .1)
+add-copy-2 c = let c8 = c .before .before .before .before .before .before .before .before in omega (arith, rows-long _ _ _ (c8 .pre .0 .0) (c8 .pre .0 .1), c8 .pre .1)
 
 copy-requires-2 : tie.Need-copy-requires-2
-copy-requires-2 c κs = rw (c .before .before .before .copy .ensures) (simp (length-sets, length-set) (omega (arith, rows-long (c .before .before .before .before .before .before .before .before .args .max) (now (c .before .before .before .before .before .before .before .before .args .rows)) (c .before .before .before .before .before .before .before .before .args .n) (c .before .before .before .before .before .before .before .before .pre .0 .0) (c .before .before .before .before .before .before .before .before .pre .0 .1), c .before .before .before .before .before .before .before .before .pre .1, c .before .before .before .before .before .before .before .before .pre .2)))
+copy-requires-2 c κs = let c3 = c .before .before .before in let c8 = c3 .before .before .before .before .before in rw (c3 .copy .ensures) (simp (length-sets, length-set) (omega (arith, rows-long _ _ _ (c8 .pre .0 .0) (c8 .pre .0 .1), c8 .pre .1, c8 .pre .2)))
 
 same-length : tie.Need-same-length
 same-length c = ap length (c .before .before .copy2 .ensures) ∙ simp (length-sets) (ap length (c .before .before .before .before .before .before .copy .ensures) ∙ simp (length-sets, length-set))
 
 returns : tie.Need-returns
-returns c = λ t h. rw (c .before .before .copy2 .ensures, c .before .before .before .before .before .before .copy .ensures) (row-entered _ _ _ t _ _ h (c .before .before .before .before .before .before .before .before .before .before .before .pre .1) (c .before .before .before .before .before .before .before .before .before .before .before .pre .2) (c .before .before .before .before .before .before .before .before .before .before .before .pre .3))
+returns c = let c2 = c .before .before in let c6 = c2 .before .before .before .before in let c11 = c6 .before .before .before .before .before in λ t h. rw (c2 .copy2 .ensures, c6 .copy .ensures) (row-entered _ _ _ t _ _ h (c11 .pre .1) (c11 .pre .2) (c11 .pre .3))
 
 pub enter-spec : {M : Type 1} → statement M
 enter-spec =

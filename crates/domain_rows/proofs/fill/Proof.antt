@@ -20,13 +20,13 @@ loop-holds : tie.Need-loop-holds Inv-loop μ-loop
 loop-holds c = (omega arith, omega arith, refl, λ t h. record { now = t; holds = h; same = refl })
 
 mul-rows : tie.Need-mul-rows Inv-loop μ-loop
-mul-rows c = omega (arith, rows-long (c .before .before .args .max) (now (c .before .before .args .rows)) (c .before .before .args .n) (c .before .before .pre .0 .0) (c .before .before .pre .0 .1), c .before .before .pre .0 .1 .fits, c .before .loop .inv .2)
+mul-rows c = omega (arith, rows-long _ _ _ (c .before .before .pre .0 .0) (c .before .before .pre .0 .1), c .before .before .pre .0 .1 .fits, c .before .loop .inv .2)
 
 add-rows : tie.Need-add-rows Inv-loop μ-loop
-add-rows c = omega (arith, rows-long (c .before .before .args .max) (now (c .before .before .args .rows)) (c .before .before .args .n) (c .before .before .pre .0 .0) (c .before .before .pre .0 .1), c .before .before .pre .0 .1 .fits, c .before .loop .inv .2)
+add-rows c = omega (arith, rows-long _ _ _ (c .before .before .pre .0 .0) (c .before .before .pre .0 .1), c .before .before .pre .0 .1 .fits, c .before .loop .inv .2)
 
 slice-write-rows : tie.Need-slice-write-rows Inv-loop μ-loop
-slice-write-rows c = omega (arith, rows-long (c .before .before .args .max) (now (c .before .before .args .rows)) (c .before .before .args .n) (c .before .before .pre .0 .0) (c .before .before .pre .0 .1), c .before .before .pre .0 .1 .fits, c .before .loop .inv .2)
+slice-write-rows c = omega (arith, rows-long _ _ _ (c .before .before .pre .0 .0) (c .before .before .pre .0 .1), c .before .before .pre .0 .1 .fits, c .before .loop .inv .2)
 
 add-i : tie.Need-add-i Inv-loop μ-loop
 add-i c = omega arith

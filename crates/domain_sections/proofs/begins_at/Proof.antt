@@ -14,7 +14,7 @@ enum-known-t : tie.Need-enum-known-t
 enum-known-t c = search needs
 
 returns : tie.Need-returns
-returns c = begins-else (now (c .before .before .before .before .args .text)) (now (c .before .before .before .before .args .w)) (c .before .before .before .before .args .from) (c .before .token-at .result) (c .before .token-at .ensures) (c .match .keys2)
+returns c = begins-else _ _ _ _ (c .before .token-at .ensures) (c .match .keys2)
 
 token-at-requires-2 : tie.Need-token-at-requires-2
 token-at-requires-2 c κs = search needs
@@ -23,7 +23,7 @@ enum-known-u : tie.Need-enum-known-u
 enum-known-u c = search needs
 
 returns-2 : tie.Need-returns-2
-returns-2 c = begins-none (now (c .before .before .before .before .before .before .before .before .args .text)) (now (c .before .before .before .before .before .before .before .before .args .w)) (c .before .before .before .before .before .before .before .before .args .from) (c .before .before .before .before .before .before .before .before .pre) _ _ (sym (c .before .before .before .before .before .token-at .ensures) ∙ c .before .before .before .t .given .1) (c .before .token-at2 .result) (c .before .token-at2 .ensures) (c .match2 .keys2)
+returns-2 c = let c3 = c .before .before .before in begins-none _ _ _ (c3 .before .before .before .before .before .pre) _ _ (sym (c3 .before .before .token-at .ensures) ∙ c3 .t .given .1) _ (c .before .token-at2 .ensures) (c .match2 .keys2)
 
 word-of-requires : tie.Need-word-of-requires
 word-of-requires c κs = search needs
@@ -32,10 +32,10 @@ same-word-requires : tie.Need-same-word-requires
 same-word-requires c κs = search needs
 
 returns-3 : tie.Need-returns-3
-returns-3 c = begins-here (now (c .before .before .before .before .before .before .before .before .before .before .before .before .before .args .text)) (now (c .before .before .before .before .before .before .before .before .before .before .before .before .before .args .w)) (c .before .before .before .before .before .before .before .before .before .before .before .before .before .args .from) (c .before .before .before .before .before .before .before .before .before .before .before .before .before .pre) _ _ (sym (c .before .before .before .before .before .before .before .before .before .before .token-at .ensures) ∙ c .before .before .before .before .before .before .before .before .t .given .1) _ _ _ (sym (c .before .before .before .before .before .before .token-at2 .ensures) ∙ c .before .before .before .before .u .given .1) (rw (c .before .before .word-of .ensures ∙ word-is _ _ _ _ _ refl) at (sym (c .before .same-word .ensures) ∙ c .if1 .taken))
+returns-3 c = let c2 = c .before .before in let c4 = c2 .before .before in let c6 = c4 .before .before in begins-here _ _ _ (c6 .before .before .before .before .before .before .before .pre) _ _ (sym (c6 .before .before .before .before .token-at .ensures) ∙ c6 .before .before .t .given .1) _ _ _ (sym (c6 .token-at2 .ensures) ∙ c4 .u .given .1) (rw (c2 .word-of .ensures ∙ word-is _ _ _ _ _ refl) at (sym (c .before .same-word .ensures) ∙ c .if1 .taken))
 
 returns-4 : tie.Need-returns-4
-returns-4 c = begins-other (now (c .before .before .before .before .before .before .before .before .before .before .before .before .before .args .text)) (now (c .before .before .before .before .before .before .before .before .before .before .before .before .before .args .w)) (c .before .before .before .before .before .before .before .before .before .before .before .before .before .args .from) (c .before .before .before .before .before .before .before .before .before .before .before .before .before .pre) _ _ (sym (c .before .before .before .before .before .before .before .before .before .before .token-at .ensures) ∙ c .before .before .before .before .before .before .before .before .t .given .1) _ _ _ (sym (c .before .before .before .before .before .before .token-at2 .ensures) ∙ c .before .before .before .before .u .given .1) (rw (c .before .before .word-of .ensures ∙ word-is _ _ _ _ _ refl) at (sym (c .before .same-word .ensures) ∙ c .if1 .left))
+returns-4 c = let c2 = c .before .before in let c4 = c2 .before .before in let c6 = c4 .before .before in begins-other _ _ _ (c6 .before .before .before .before .before .before .before .pre) _ _ (sym (c6 .before .before .before .before .token-at .ensures) ∙ c6 .before .before .t .given .1) _ _ _ (sym (c6 .token-at2 .ensures) ∙ c4 .u .given .1) (rw (c2 .word-of .ensures ∙ word-is _ _ _ _ _ refl) at (sym (c .before .same-word .ensures) ∙ c .if1 .left))
 
 pub begins-at-spec : {M : Type 1} → statement M
 begins-at-spec =

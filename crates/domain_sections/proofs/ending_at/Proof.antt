@@ -19,7 +19,7 @@ refusal-requires : tie.Need-refusal-requires
 refusal-requires c κs = search needs
 
 returns : tie.Need-returns
-returns c = ending-section (now (c .before .before .before .before .before .before .before .args .text)) (c .before .before .before .before .before .before .before .args .from) (c .refusal .result) _ _ (c .before .token-at2 .result) (sym (c .before .before .before .before .before .token-at .ensures) ∙ c .before .before .before .t .given .1) (c .before .token-at2 .ensures) (c .refusal .ensures)
+returns c = ending-section _ _ _ _ _ _ (sym (c .before .before .before .before .before .token-at .ensures) ∙ c .before .before .before .t .given .1) (c .before .token-at2 .ensures) (c .refusal .ensures)
 
 enum-known-t-2 : tie.Need-enum-known-t-2
 enum-known-t-2 c = search needs
@@ -28,7 +28,7 @@ refusal-requires-2 : tie.Need-refusal-requires-2
 refusal-requires-2 c κs = search needs
 
 returns-2 : tie.Need-returns-2
-returns-2 c = ending-else (now (c .before .before .before .before .before .args .text)) (c .before .before .before .before .before .args .from) (c .refusal2 .result) (c .before .before .before .token-at .result) (c .before .before .before .token-at .ensures) (c .before .before .match .keys2) (c .before .match2 .keys2) (c .refusal2 .ensures)
+returns-2 c = ending-else _ _ _ _ (c .before .before .before .token-at .ensures) (c .before .before .match .keys2) (c .before .match2 .keys2) (c .refusal2 .ensures)
 
 token-at-requires-3 : tie.Need-token-at-requires-3
 token-at-requires-3 c κs = search needs
@@ -40,10 +40,10 @@ refusal-requires-3 : tie.Need-refusal-requires-3
 refusal-requires-3 c κs = search needs
 
 returns-3 : tie.Need-returns-3
-returns-3 c = ending-behind (now (c .before .before .before .before .before .before .before .before .before .args .text)) (c .before .before .before .before .before .before .before .before .before .args .from) (c .refusal3 .result) _ _ (c .before .before .token-at3 .result) (sym (c .before .before .before .before .before .before .before .token-at .ensures) ∙ c .before .before .before .before .t2 .given .1) (c .before .before .token-at3 .ensures) (c .before .match3 .keys2) (c .refusal3 .ensures)
+returns-3 c = ending-behind _ _ _ _ _ _ (sym (c .before .before .before .before .before .before .before .token-at .ensures) ∙ c .before .before .before .before .t2 .given .1) (c .before .before .token-at3 .ensures) (c .before .match3 .keys2) (c .refusal3 .ensures)
 
 returns-4 : tie.Need-returns-4
-returns-4 c = ending-read (now (c .before .before .before .before .before .before .before .before .before .before .args .text)) (c .before .before .before .before .before .before .before .before .before .before .args .from) _ _ _ (sym (c .before .before .before .before .before .before .before .before .token-at .ensures) ∙ c .before .before .before .before .before .t2 .given .1) (sym (c .before .before .before .token-at3 .ensures) ∙ c .before .u .given .1)
+returns-4 c = let c3 = c .before .before .before in ending-read _ _ _ _ _ (sym (c3 .before .before .before .before .before .token-at .ensures) ∙ c3 .before .before .t2 .given .1) (sym (c3 .token-at3 .ensures) ∙ c .before .u .given .1)
 
 pub ending-at-spec : {M : Type 1} → statement M
 ending-at-spec =

@@ -14,13 +14,13 @@ is-colon-requires : tie.Need-is-colon-requires
 is-colon-requires c κs = search needs
 
 returns : tie.Need-returns
-returns c = flag-long (now (c .before .before .before .before .before .before .before .args .text)) (c .before .before .before .before .before .before .before .args .t) _ _ (c .before .before .before .before .t .given .1) (c .before .before .if1 .taken) (sym (c .before .is-colon .ensures) ∙ c .if2 .taken)
+returns c = flag-long _ _ _ _ (c .before .before .before .before .t .given .1) (c .before .before .if1 .taken) (sym (c .before .is-colon .ensures) ∙ c .if2 .taken)
 
 returns-2 : tie.Need-returns-2
-returns-2 c = flag-name (now (c .before .before .before .before .before .before .before .args .text)) (c .before .before .before .before .before .before .before .args .t) _ _ (c .before .before .before .before .t .given .1) (c .before .before .if1 .taken) (sym (c .before .is-colon .ensures) ∙ c .if2 .left)
+returns-2 c = flag-name _ _ _ _ (c .before .before .before .before .t .given .1) (c .before .before .if1 .taken) (sym (c .before .is-colon .ensures) ∙ c .if2 .left)
 
 returns-3 : tie.Need-returns-3
-returns-3 c = flag-refused (now (c .before .before .before .before .before .args .text)) (c .before .before .before .before .before .args .t) _ _ (c .before .before .t .given .1) (c .if1 .left)
+returns-3 c = flag-refused _ _ _ _ (c .before .before .t .given .1) (c .if1 .left)
 
 enum-known-t-2 : tie.Need-enum-known-t-2
 enum-known-t-2 c = search needs
@@ -35,7 +35,7 @@ enum-told : tie.Need-enum-told
 enum-told c = search needs
 
 returns-5 : tie.Need-returns-5
-returns-5 c = flag-other (now (c .before .before .before .before .before .before .args .text)) (c .before .before .before .before .before .before .args .t) _ _ _ (c .before .before .t2 .given .1) (c .match3 .keys2)
+returns-5 c = flag-other _ _ _ _ _ (c .before .before .t2 .given .1) (c .match3 .keys2)
 
 word-of-requires : tie.Need-word-of-requires
 word-of-requires c κs = search needs
@@ -44,10 +44,10 @@ is-flag-requires : tie.Need-is-flag-requires
 is-flag-requires c κs = search needs
 
 returns-6 : tie.Need-returns-6
-returns-6 c = flag-carried (now (c .before .before .before .before .before .before .before .before .before .before .args .text)) (c .before .before .before .before .before .before .before .before .before .before .args .t) _ _ _ (c .before .before .before .before .before .before .t2 .given .1) (c .before .before .before .enum-told .given .1) (rw (c .before .before .word-of .ensures ∙ word-is _ _ _ _ _ refl) at (sym (c .before .is-flag .ensures) ∙ c .if3 .taken))
+returns-6 c = flag-carried _ _ _ _ _ (c .before .before .before .before .before .before .t2 .given .1) (c .before .before .before .enum-told .given .1) (rw (c .before .before .word-of .ensures ∙ word-is _ _ _ _ _ refl) at (sym (c .before .is-flag .ensures) ∙ c .if3 .taken))
 
 returns-7 : tie.Need-returns-7
-returns-7 c = flag-missing (now (c .before .before .before .before .before .before .before .before .before .before .args .text)) (c .before .before .before .before .before .before .before .before .before .before .args .t) _ _ _ (c .before .before .before .before .before .before .t2 .given .1) (c .before .before .before .enum-told .given .1) (rw (c .before .before .word-of .ensures ∙ word-is _ _ _ _ _ refl) at (sym (c .before .is-flag .ensures) ∙ c .if3 .left))
+returns-7 c = flag-missing _ _ _ _ _ (c .before .before .before .before .before .before .t2 .given .1) (c .before .before .before .enum-told .given .1) (rw (c .before .before .word-of .ensures ∙ word-is _ _ _ _ _ refl) at (sym (c .before .is-flag .ensures) ∙ c .if3 .left))
 
 pub flag-of-spec : {M : Type 1} → statement M
 flag-of-spec =

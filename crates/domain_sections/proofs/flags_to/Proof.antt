@@ -25,7 +25,7 @@ enum-known-t : tie.Need-enum-known-t Inv-loop μ-loop
 enum-known-t c = c .match .keys1
 
 returns : tie.Need-returns Inv-loop μ-loop
-returns c = let w = close-in (now (c .before .before .before .before .before .before .args .text)) (c .before .before .before .before .loop .at) (c .before .before .before .before .loop .inv .1) _ _ (sym (c .before .before .before .token-at .ensures) ∙ c .before .t .given .1) in (λ k h. going-close (now (c .before .before .before .before .before .before .args .text)) (c .before .before .before .before .before .before .args .from) (c .before .before .before .before .loop .at) (c .before .before .before .before .loop .inv .2) _ _ (sym (c .before .before .before .token-at .ensures) ∙ c .before .t .given .1) k h, ahead-by _ _ _ _ (omega arith) (w .1))
+returns c = let c3 = c .before .before .before in let w = close-in _ _ (c3 .before .loop .inv .1) _ _ (sym (c3 .token-at .ensures) ∙ c .before .t .given .1) in (λ k h. going-close _ _ _ (c3 .before .loop .inv .2) _ _ (sym (c3 .token-at .ensures) ∙ c .before .t .given .1) k h, ahead-by _ _ _ _ (omega arith) (w .1))
 
 flag-of-requires : tie.Need-flag-of-requires Inv-loop μ-loop
 flag-of-requires c κs = tt
@@ -37,13 +37,13 @@ enum-told : tie.Need-enum-told Inv-loop μ-loop
 enum-told c = c .match2 .keys2
 
 returns-2 : tie.Need-returns-2 Inv-loop μ-loop
-returns-2 c = (λ k h. going-refused (now (c .before .before .before .before .before .before .before .args .text)) (c .before .before .before .before .before .before .before .args .from) (c .before .before .before .before .before .loop .at) (c .before .before .before .before .before .loop .inv .2) (rw (c .before .before .before .before .token-at .ensures) at (c .before .before .before .match .keys2)) (c .before .before .flag-of .result) (rw (c .before .before .before .before .token-at .ensures) at (c .before .before .flag-of .ensures)) _ _ (c .enum-told .given .1) k h, ahead-refused _ _ _ _ _ (c .enum-told .given .1))
+returns-2 c = let c2 = c .before .before in (λ k h. going-refused _ _ _ (c2 .before .before .before .loop .inv .2) (rw (c2 .before .before .token-at .ensures) at (c2 .before .match .keys2)) _ (rw (c2 .before .before .token-at .ensures) at (c2 .flag-of .ensures)) _ _ (c .enum-told .given .1) k h, ahead-refused _ _ _ _ _ (c .enum-told .given .1))
 
 loop-less : tie.Need-loop-less Inv-loop μ-loop
-loop-less c = let w = flag-ahead (now (c .before .before .before .before .before .before .before .before .args .text)) (c .before .before .before .before .before .before .loop .at) _ _ (c .before .before .before .before .before .before .loop .inv .1) (sym (rw (c .before .before .before .before .before .token-at .ensures) at (c .before .before .before .flag-of .ensures)) ∙ c .before .f .given .1) in omega arith
+loop-less c = let c3 = c .before .before .before in let w = flag-ahead _ _ _ _ (c3 .before .before .before .loop .inv .1) (sym (rw (c3 .before .before .token-at .ensures) at (c3 .flag-of .ensures)) ∙ c .before .f .given .1) in omega arith
 
 loop-again : tie.Need-loop-again Inv-loop μ-loop
-loop-again c = let w = flag-ahead (now (c .before .before .before .before .before .before .before .before .args .text)) (c .before .before .before .before .before .before .loop .at) _ _ (c .before .before .before .before .before .before .loop .inv .1) (sym (rw (c .before .before .before .before .before .token-at .ensures) at (c .before .before .before .flag-of .ensures)) ∙ c .before .f .given .1) in (omega arith, w .1, going-on (now (c .before .before .before .before .before .before .before .before .args .text)) (c .before .before .before .before .before .before .before .before .args .from) (c .before .before .before .before .before .before .loop .at) (c .before .before .before .before .before .before .loop .inv .2) (rw (c .before .before .before .before .before .token-at .ensures) at (c .before .before .before .before .match .keys2)) (c .before .before .before .flag-of .result) (rw (c .before .before .before .before .before .token-at .ensures) at (c .before .before .before .flag-of .ensures)) _ _ (c .before .f .given .1) (w .0) (w .1))
+loop-again c = let c1 = c .before in let c3 = c1 .before .before in let c5 = c3 .before .before in let w = flag-ahead _ _ _ _ (c5 .before .loop .inv .1) (sym (rw (c5 .token-at .ensures) at (c3 .flag-of .ensures)) ∙ c1 .f .given .1) in (omega arith, w .1, going-on _ _ _ (c5 .before .loop .inv .2) (rw (c5 .token-at .ensures) at (c3 .before .match .keys2)) _ (rw (c5 .token-at .ensures) at (c3 .flag-of .ensures)) _ _ (c1 .f .given .1) (w .0) (w .1))
 
 pub flags-to-spec : {M : Type 1} → statement M
 flags-to-spec =

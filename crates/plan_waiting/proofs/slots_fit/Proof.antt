@@ -22,7 +22,7 @@ slots-long : (c : tie.Start Inv-loop μ-loop) → length (c .args .t1 .slots) �
 slots-long c = search (needs, length-mapped)
 
 loop-holds : tie.Need-loop-holds Inv-loop μ-loop
-loop-holds c = (omega arith, fit-none (c .args .n))
+loop-holds c = (omega arith, fit-none _)
 
 mul-s : tie.Need-mul-s Inv-loop μ-loop
 mul-s c = omega arith

@@ -18,7 +18,7 @@ returns-2 c =
 
 returns-3 : tie.Need-returns-3
 unfolding soundStep
-returns-3 c = rw (le-ltb (c .before .before .args .x .action) (c .before .before .args .n) (c .if1 .left))
+returns-3 c = rw (le-ltb _ _ (c .if1 .left))
 
 pub sound-step-spec : {M : Type 1} → statement M
 sound-step-spec = tie.close (tie.spec returns returns-2 returns-3)

@@ -20,7 +20,7 @@ abbrev μ-loop : tie.MeasureT-loop
 μ-loop text from tables counts rows₀ code₀ starts₀ at₀ n₀ used₀ rows code starts at n used = length text - at
 
 loop-holds : tie.Need-loop-holds Inv-loop μ-loop
-loop-holds c = (omega arith, c .before .before .before .before .before .pre .0, c .before .before .before .before .before .pre .1, λ x k h e. onward-start (now (c .before .before .before .before .before .args .text)) x k (c .before .before .before .before .before .args .from) (now (c .before .before .before .before .before .args .code)) (now (c .before .before .before .before .before .args .starts)) _ e (c .before .before .before .before .before .pre .4), refl, refl, refl)
+loop-holds c = let c5 = c .before .before .before .before .before in (omega arith, c5 .pre .0, c5 .pre .1, λ x k h e. onward-start _ x k _ _ _ _ e (c5 .pre .4), refl, refl, refl)
 
 begun-at-requires : tie.Need-begun-at-requires Inv-loop μ-loop
 begun-at-requires c κs = c .loop .inv .1
@@ -41,10 +41,10 @@ same-length-3 : tie.Need-same-length-3 Inv-loop μ-loop
 same-length-3 c = c .before .before .before .loop .inv .6
 
 returns : tie.Need-returns Inv-loop μ-loop
-returns c = (λ x k h e. onward-last (now (c .before .before .before .before .before .before .before .before .before .args .text)) x k (c .before .before .before .before .before .before .before .before .before .args .from) (now (c .before .before .before .before .before .before .before .before .before .args .code)) (now (c .before .before .before .before .before .before .before .before .before .args .starts)) (c .before .before .before .loop .at) (c .before .before .before .loop .n) (c .before .before .before .loop .used) (c .before .before .before .loop .rows) (c .before .before .before .loop .code) (c .before .before .before .loop .starts) (c .before .before .before .loop .inv .3 x k h e) (c .before .before .begun-at .result) (c .enum-told .given .1) (c .before .before .begun-at .ensures .0 ((c .before .before .before .loop .inv .3 x k h e) .fuel - 1) x ((c .before .before .before .loop .inv .3 x k h e) .before)) (omega (arith, c .before .before .before .loop .inv .1, c .before .before .before .loop .inv .2)), later-by _ _ _ _ (c .before .before .before .loop .inv .0) (c .before .before .before .loop .inv .1))
+returns c = let c2 = c .before .before in (λ x k h e. onward-last _ x k _ _ _ _ _ _ _ _ _ (c2 .before .loop .inv .3 x k h e) _ (c .enum-told .given .1) (c2 .begun-at .ensures .0 ((c2 .before .loop .inv .3 x k h e) .fuel - 1) x ((c2 .before .loop .inv .3 x k h e) .before)) (omega (arith, c2 .before .loop .inv .1, c2 .before .loop .inv .2)), later-by _ _ _ _ (c2 .before .loop .inv .0) (c2 .before .loop .inv .1))
 
 action-at-requires : tie.Need-action-at-requires Inv-loop μ-loop
-action-at-requires c κs = let f = further-at _ _ _ _ _ (c .before .before .before .before .b .given .1) (c .before .before .before .before .before .before .begun-at .ensures .1) in let o = c .before .before .before .before .before .before .before .loop .inv .3 (c .before .before .before .before .before .before .before .before .before .before .before .before .before .pre .2 .0) (length (now (c .before .before .before .before .before .before .before .before .before .before .before .before .before .args .text)) + 1) (c .before .before .before .before .before .before .before .before .before .before .before .before .before .pre .2 .1) (omega arith) in (f .1, c .before .before .before .before .before .before .before .before .before .before .before .before .before .pre .2, c .before .before .before .before .before .before .before .before .before .before .before .before .before .pre .3, (declarations (o .before), o .rowed), omega (arith, f .0, f .1, c .before .before .before .before .before .before .before .loop .inv .2))
+action-at-requires c κs = let c4 = c .before .before .before .before in let c6 = c4 .before .before in let c13 = c6 .before .before .before .before .before .before .before in let f = further-at _ _ _ _ _ (c4 .b .given .1) (c6 .begun-at .ensures .1) in let o = c6 .before .loop .inv .3 (c13 .pre .2 .0) (length (now (c13 .args .text)) + 1) (c13 .pre .2 .1) (omega arith) in (f .1, c13 .pre .2, c13 .pre .3, (declarations (o .before), o .rowed), omega (arith, f .0, f .1, c6 .before .loop .inv .2))
 
 enum-known-a : tie.Need-enum-known-a Inv-loop μ-loop
 enum-known-a c = c .match2 .keys1
@@ -53,7 +53,7 @@ enum-told-2 : tie.Need-enum-told-2 Inv-loop μ-loop
 enum-told-2 c = c .match2 .keys2
 
 same-length-4 : tie.Need-same-length-4 Inv-loop μ-loop
-same-length-4 c = c .before .before .before .before .before .before .before .rows .given ∙ c .before .before .before .before .before .before .before .before .before .before .before .before .before .before .before .before .loop .inv .4
+same-length-4 c = let c7 = c .before .before .before .before .before .before .before in c7 .rows .given ∙ c7 .before .before .before .before .before .before .before .before .before .loop .inv .4
 
 same-length-5 : tie.Need-same-length-5 Inv-loop μ-loop
 same-length-5 c = c .before .before .before .before .before .code .given ∙ c .before .before .before .before .before .before .before .before .before .before .before .before .before .before .before .before .loop .inv .5
@@ -62,16 +62,16 @@ same-length-6 : tie.Need-same-length-6 Inv-loop μ-loop
 same-length-6 c = c .before .before .before .starts .given ∙ c .before .before .before .before .before .before .before .before .before .before .before .before .before .before .before .before .loop .inv .6
 
 returns-2 : tie.Need-returns-2 Inv-loop μ-loop
-returns-2 c = (λ x k h e. onward-refused (now (c .before .before .before .before .before .before .before .before .before .before .before .before .before .before .before .before .before .before .before .before .before .before .args .text)) x k (c .before .before .before .before .before .before .before .before .before .before .before .before .before .before .before .before .before .before .before .before .before .before .args .from) (now (c .before .before .before .before .before .before .before .before .before .before .before .before .before .before .before .before .before .before .before .before .before .before .args .code)) (now (c .before .before .before .before .before .before .before .before .before .before .before .before .before .before .before .before .before .before .before .before .before .before .args .starts)) (c .before .before .before .before .before .before .before .before .before .before .before .before .before .before .before .before .loop .at) (c .before .before .before .before .before .before .before .before .before .before .before .before .before .before .before .before .loop .n) (c .before .before .before .before .before .before .before .before .before .before .before .before .before .before .before .before .loop .used) (c .before .before .before .before .before .before .before .before .before .before .before .before .before .before .before .before .loop .rows) (c .before .before .before .before .before .before .before .before .before .before .before .before .before .before .before .before .loop .code) (c .before .before .before .before .before .before .before .before .before .before .before .before .before .before .before .before .loop .starts) (c .before .before .before .before .before .before .before .before .before .before .before .before .before .before .before .before .loop .inv .3 x k h e) (c .before .before .before .before .before .before .before .before .before .before .before .before .before .before .before .begun-at .result) _ _ (c .before .before .before .before .before .before .before .before .before .before .before .before .before .b .given .1) (c .before .before .before .before .before .before .before .before .before .before .before .before .before .before .before .begun-at .ensures .0 ((c .before .before .before .before .before .before .before .before .before .before .before .before .before .before .before .before .loop .inv .3 x k h e) .fuel - 1) x ((c .before .before .before .before .before .before .before .before .before .before .before .before .before .before .before .before .loop .inv .3 x k h e) .before)) (c .before .before .before .before .before .before .before .before .action-at .result) _ _ _ (c .before .before .before .before .before .before .before .before .action-at .ensures .0 x ((c .before .before .before .before .before .before .before .before .before .before .before .before .before .before .before .before .loop .inv .3 x k h e) .before) h ((c .before .before .before .before .before .before .before .before .before .before .before .before .before .before .before .before .loop .inv .3 x k h e) .rowed)) _ _ (c .enum-told2 .given .1), later-refused _ _ _ _ _ (c .enum-told2 .given .1))
+returns-2 c = let c8 = c .before .before .before .before .before .before .before .before in let c13 = c8 .before .before .before .before .before in let c15 = c13 .before .before in (λ x k h e. onward-refused _ x k _ _ _ _ _ _ _ _ _ (c15 .before .loop .inv .3 x k h e) _ _ _ (c13 .b .given .1) (c15 .begun-at .ensures .0 ((c15 .before .loop .inv .3 x k h e) .fuel - 1) x ((c15 .before .loop .inv .3 x k h e) .before)) _ _ _ _ (c8 .action-at .ensures .0 x ((c15 .before .loop .inv .3 x k h e) .before) h ((c15 .before .loop .inv .3 x k h e) .rowed)) _ _ (c .enum-told2 .given .1), later-refused _ _ _ _ _ (c .enum-told2 .given .1))
 
 add-n : tie.Need-add-n Inv-loop μ-loop
-add-n c = let o = c .before .before .before .before .before .before .before .before .before .before .before .before .before .before .before .before .before .loop .inv .3 (c .before .before .before .before .before .before .before .before .before .before .before .before .before .before .before .before .before .before .before .before .before .before .before .pre .2 .0) (length (now (c .before .before .before .before .before .before .before .before .before .before .before .before .before .before .before .before .before .before .before .before .before .before .before .args .text)) + 1) (c .before .before .before .before .before .before .before .before .before .before .before .before .before .before .before .before .before .before .before .before .before .before .before .pre .2 .1) (omega arith) in omega (arith, o .rowed .fits)
+add-n c = let c17 = c .before .before .before .before .before .before .before .before .before .before .before .before .before .before .before .before .before in let c23 = c17 .before .before .before .before .before .before in let o = c17 .loop .inv .3 (c23 .pre .2 .0) (length (now (c23 .args .text)) + 1) (c23 .pre .2 .1) (omega arith) in omega (arith, o .rowed .fits)
 
 loop-less : tie.Need-loop-less Inv-loop μ-loop
-loop-less c = let f = further-at _ _ _ _ _ (c .before .before .before .before .before .before .before .before .before .before .before .before .before .before .b .given .1) (c .before .before .before .before .before .before .before .before .before .before .before .before .before .before .before .before .begun-at .ensures .1) in let z = ended-at 0 _ _ _ _ _ _ (c .before .a .given .1) (c .before .before .before .before .before .before .before .before .before .action-at .ensures .1) in omega (arith, f .0, z .0, z .1)
+loop-less c = let c9 = c .before .before .before .before .before .before .before .before .before in let f = further-at _ _ _ _ _ (c9 .before .before .before .before .before .b .given .1) (c9 .before .before .before .before .before .before .before .begun-at .ensures .1) in let z = ended-at 0 _ _ _ _ _ _ (c .before .a .given .1) (c9 .action-at .ensures .1) in omega (arith, f .0, z .0, z .1)
 
 loop-again : tie.Need-loop-again Inv-loop μ-loop
-loop-again c = let f = further-at _ _ _ _ _ (c .before .before .before .before .before .before .before .before .before .before .before .before .before .before .b .given .1) (c .before .before .before .before .before .before .before .before .before .before .before .before .before .before .before .before .begun-at .ensures .1) in let z = ended-at 0 _ _ _ _ _ _ (c .before .a .given .1) (c .before .before .before .before .before .before .before .before .before .action-at .ensures .1) in (omega (arith, f .0, z .0, c .before .before .before .before .before .before .before .before .before .before .before .before .before .before .before .before .before .loop .inv .0), z .1, omega (arith, f .0, z .0, z .3, c .before .before .before .before .before .before .before .before .before .before .before .before .before .before .before .before .before .loop .inv .2), λ x k h e. onward-more (now (c .before .before .before .before .before .before .before .before .before .before .before .before .before .before .before .before .before .before .before .before .before .before .before .args .text)) x k (c .before .before .before .before .before .before .before .before .before .before .before .before .before .before .before .before .before .before .before .before .before .before .before .args .from) (now (c .before .before .before .before .before .before .before .before .before .before .before .before .before .before .before .before .before .before .before .before .before .before .before .args .code)) (now (c .before .before .before .before .before .before .before .before .before .before .before .before .before .before .before .before .before .before .before .before .before .before .before .args .starts)) (c .before .before .before .before .before .before .before .before .before .before .before .before .before .before .before .before .before .loop .at) (c .before .before .before .before .before .before .before .before .before .before .before .before .before .before .before .before .before .loop .n) (c .before .before .before .before .before .before .before .before .before .before .before .before .before .before .before .before .before .loop .used) (c .before .before .before .before .before .before .before .before .before .before .before .before .before .before .before .before .before .loop .rows) (c .before .before .before .before .before .before .before .before .before .before .before .before .before .before .before .before .before .loop .code) (c .before .before .before .before .before .before .before .before .before .before .before .before .before .before .before .before .before .loop .starts) (c .before .before .before .before .before .before .before .before .before .before .before .before .before .before .before .before .before .loop .inv .3 x k h e) (c .before .before .before .before .before .before .before .before .before .before .before .before .before .before .before .before .begun-at .result) _ _ (c .before .before .before .before .before .before .before .before .before .before .before .before .before .before .b .given .1) (c .before .before .before .before .before .before .before .before .before .before .before .before .before .before .before .before .begun-at .ensures .0 ((c .before .before .before .before .before .before .before .before .before .before .before .before .before .before .before .before .before .loop .inv .3 x k h e) .fuel - 1) x ((c .before .before .before .before .before .before .before .before .before .before .before .before .before .before .before .before .before .loop .inv .3 x k h e) .before)) (c .before .before .before .before .before .before .before .before .before .action-at .result) _ _ _ (c .before .before .before .before .before .before .before .before .before .action-at .ensures .0 x ((c .before .before .before .before .before .before .before .before .before .before .before .before .before .before .before .before .before .loop .inv .3 x k h e) .before) h ((c .before .before .before .before .before .before .before .before .before .before .before .before .before .before .before .before .before .loop .inv .3 x k h e) .rowed)) _ _ (c .before .a .given .1) (omega (arith, f .0, z .0)) (z .1), c .before .before .before .before .before .before .before .before .rows .given ∙ c .before .before .before .before .before .before .before .before .before .before .before .before .before .before .before .before .before .loop .inv .4, c .before .before .before .before .before .before .code .given ∙ c .before .before .before .before .before .before .before .before .before .before .before .before .before .before .before .before .before .loop .inv .5, c .before .before .before .before .starts .given ∙ c .before .before .before .before .before .before .before .before .before .before .before .before .before .before .before .before .before .loop .inv .6)
+loop-again c = let c1 = c .before in let c4 = c1 .before .before .before in let c6 = c4 .before .before in let c8 = c6 .before .before in let c9 = c8 .before in let c14 = c9 .before .before .before .before .before in let c16 = c14 .before .before in let c17 = c16 .before in let f = further-at _ _ _ _ _ (c14 .b .given .1) (c16 .begun-at .ensures .1) in let z = ended-at 0 _ _ _ _ _ _ (c1 .a .given .1) (c9 .action-at .ensures .1) in (omega (arith, f .0, z .0, c17 .loop .inv .0), z .1, omega (arith, f .0, z .0, z .3, c17 .loop .inv .2), λ x k h e. onward-more _ x k _ _ _ _ _ _ _ _ _ (c17 .loop .inv .3 x k h e) _ _ _ (c14 .b .given .1) (c16 .begun-at .ensures .0 ((c17 .loop .inv .3 x k h e) .fuel - 1) x ((c17 .loop .inv .3 x k h e) .before)) _ _ _ _ (c9 .action-at .ensures .0 x ((c17 .loop .inv .3 x k h e) .before) h ((c17 .loop .inv .3 x k h e) .rowed)) _ _ (c1 .a .given .1) (omega (arith, f .0, z .0)) (z .1), c8 .rows .given ∙ c17 .loop .inv .4, c6 .code .given ∙ c17 .loop .inv .5, c4 .starts .given ∙ c17 .loop .inv .6)
 
 pub actions-to-spec : {M : Type 1} → statement M
 actions-to-spec =

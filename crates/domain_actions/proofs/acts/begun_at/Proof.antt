@@ -20,7 +20,7 @@ enum-known-simple c = search needs
 
 returns : tie.Need-returns
 unfolding bytes
-returns c = let w = missing.further-at _ _ _ _ _ (c .before .simple .given .1) (c .before .before .before .begins-at .ensures .1) in (λ k x as′. begins-simple (now (c .before .before .before .before .before .before .args .text)) x as′ k (c .before .before .before .before .before .before .args .from) _ _ (is-there (now (c .before .before .before .before .before .before .args .text)) (bytes ":action") (c .before .before .before .before .before .before .args .from) _ (c .before .before .before .begins-at .ensures .0) _ _ (c .before .simple .given .1)), further-by _ _ _ _ (w .0) (w .1))
+returns c = let w = missing.further-at _ _ _ _ _ (c .before .simple .given .1) (c .before .before .before .begins-at .ensures .1) in (λ k x as′. begins-simple _ x as′ k _ _ _ (is-there _ (bytes ":action") _ _ (c .before .before .before .begins-at .ensures .0) _ _ (c .before .simple .given .1)), further-by _ _ _ _ (w .0) (w .1))
 
 enum-told : tie.Need-enum-told
 enum-told c = search needs
@@ -36,14 +36,14 @@ enum-known-durative c = search needs
 
 returns-2 : tie.Need-returns-2
 unfolding bytes
-returns-2 c = let w = missing.further-at _ _ _ _ _ (c .before .durative .given .1) (c .before .before .before .begins-at2 .ensures .1) in (λ k x as′. begins-durative (now (c .before .before .before .before .before .before .before .before .before .before .args .text)) x as′ k (c .before .before .before .before .before .before .before .before .before .before .args .from) _ _ (is-missing (now (c .before .before .before .before .before .before .before .before .before .before .args .text)) (bytes ":action") (c .before .before .before .before .before .before .before .before .before .before .args .from) _ (c .before .before .before .before .before .before .before .begins-at .ensures .0) (c .before .before .before .before .before .enum-told .given .1)) (is-there (now (c .before .before .before .before .before .before .before .before .before .before .args .text)) (bytes ":durative-action") (c .before .before .before .before .before .before .before .before .before .before .args .from) _ (c .before .before .before .begins-at2 .ensures .0) _ _ (c .before .durative .given .1)), further-by _ _ _ _ (w .0) (w .1))
+returns-2 c = let c3 = c .before .before .before in let w = missing.further-at _ _ _ _ _ (c .before .durative .given .1) (c3 .begins-at2 .ensures .1) in (λ k x as′. begins-durative _ x as′ k _ _ _ (is-missing _ (bytes ":action") _ _ (c3 .before .before .before .before .begins-at .ensures .0) (c3 .before .before .enum-told .given .1)) (is-there _ (bytes ":durative-action") _ _ (c3 .begins-at2 .ensures .0) _ _ (c .before .durative .given .1)), further-by _ _ _ _ (w .0) (w .1))
 
 enum-told-2 : tie.Need-enum-told-2
 enum-told-2 c = search needs
 
 returns-3 : tie.Need-returns-3
 unfolding bytes
-returns-3 c = (λ k x as′. begins-neither (now (c .before .before .before .before .before .before .before .before .before .args .text)) x as′ k (c .before .before .before .before .before .before .before .before .before .args .from) (is-missing (now (c .before .before .before .before .before .before .before .before .before .args .text)) (bytes ":action") (c .before .before .before .before .before .before .before .before .before .args .from) _ (c .before .before .before .before .before .before .begins-at .ensures .0) (c .before .before .before .before .enum-told .given .1)) (is-missing (now (c .before .before .before .before .before .before .before .before .before .args .text)) (bytes ":durative-action") (c .before .before .before .before .before .before .before .before .before .args .from) _ (c .before .before .begins-at2 .ensures .0) (c .enum-told2 .given .1)), further-not _ _)
+returns-3 c = (λ k x as′. begins-neither _ x as′ k _ (is-missing _ (bytes ":action") _ _ (c .before .before .before .before .before .before .begins-at .ensures .0) (c .before .before .before .before .enum-told .given .1)) (is-missing _ (bytes ":durative-action") _ _ (c .before .before .begins-at2 .ensures .0) (c .enum-told2 .given .1)), further-not _ _)
 
 pub begun-at-spec : {M : Type 1} → statement M
 begun-at-spec =

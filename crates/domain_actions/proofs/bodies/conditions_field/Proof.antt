@@ -17,7 +17,7 @@ same-length c = search needs
 
 returns : tie.Need-returns
 unfolding bytes
-returns c = (λ x h. field-durative (now (c .before .before .before .before .before .before .before .before .before .args .text)) x (c .before .before .before .before .before .before .before .before .before .args .durative) (now (c .before .before .before .before .before .before .before .before .before .args .code)) (c .before .before .before .before .before .before .before .before .before .args .used) (c .before .before .field-parts .result) _ (c .before .before .before .before .before .before .before .before .before .args .from) (c .before .before .before .before .before .if1 .taken) (c .before .before .field-parts .ensures .0 x h), c .before .before .field-parts .ensures .1)
+returns c = (λ x h. field-durative _ x _ _ _ _ _ _ (c .before .before .before .before .before .if1 .taken) (c .before .before .field-parts .ensures .0 x h), c .before .before .field-parts .ensures .1)
 
 slice-aggregate-field-parts-2 : tie.Need-slice-aggregate-field-parts-2
 slice-aggregate-field-parts-2 c = search needs
@@ -30,7 +30,7 @@ same-length-2 c = search needs
 
 returns-2 : tie.Need-returns-2
 unfolding bytes
-returns-2 c = (λ x h. field-simple (now (c .before .before .before .before .before .before .before .before .before .args .text)) x (c .before .before .before .before .before .before .before .before .before .args .durative) (now (c .before .before .before .before .before .before .before .before .before .args .code)) (c .before .before .before .before .before .before .before .before .before .args .used) (c .before .before .field-parts2 .result) _ (c .before .before .before .before .before .before .before .before .before .args .from) (c .before .before .before .before .before .if1 .left) (c .before .before .field-parts2 .ensures .0 x h), c .before .before .field-parts2 .ensures .1)
+returns-2 c = (λ x h. field-simple _ x _ _ _ _ _ _ (c .before .before .before .before .before .if1 .left) (c .before .before .field-parts2 .ensures .0 x h), c .before .before .field-parts2 .ensures .1)
 
 pub conditions-field-spec : {M : Type 1} → statement M
 conditions-field-spec =

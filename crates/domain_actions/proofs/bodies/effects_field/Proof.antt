@@ -17,7 +17,7 @@ same-length c = search needs
 
 returns : tie.Need-returns
 unfolding bytes
-returns c = (λ x h. field-effect (now (c .before .before .before .before .before .before .before .before .args .text)) x (c .before .before .before .before .before .before .before .before .args .durative) (now (c .before .before .before .before .before .before .before .before .args .code)) (c .before .before .before .before .before .before .before .before .args .used) (c .before .before .field-parts .result) _ (c .before .before .before .before .before .before .before .before .args .from) (c .before .before .field-parts .ensures .0 x h), c .before .before .field-parts .ensures .1)
+returns c = (λ x h. field-effect _ x _ _ _ _ _ _ (c .before .before .field-parts .ensures .0 x h), c .before .before .field-parts .ensures .1)
 
 pub effects-field-spec : {M : Type 1} → statement M
 effects-field-spec =

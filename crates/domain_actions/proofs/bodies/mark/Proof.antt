@@ -34,7 +34,7 @@ same-length : tie.Need-same-length
 same-length c = search needs
 
 returns : tie.Need-returns
-returns c = let a : 3 * (c .before .before .before .before .before .before .before .before .before .before .before .before .before .args .n) + 1 ≡ suc (3 * (c .before .before .before .before .before .before .before .before .before .before .before .before .before .args .n)) = omega arith in let b : 3 * (c .before .before .before .before .before .before .before .before .before .before .before .before .before .args .n) + 2 ≡ suc (suc (3 * (c .before .before .before .before .before .before .before .before .before .before .before .before .before .args .n))) = omega arith in c .before .before .put3 .ensures ∙ rw (c .before .before .before .before .before .before .put2 .ensures, c .before .before .before .before .before .before .before .before .before .before .put .ensures, a, b) refl
+returns c = let c2 = c .before .before in let c6 = c2 .before .before .before .before in let c10 = c6 .before .before .before .before in let c13 = c10 .before .before .before in let a : 3 * (c13 .args .n) + 1 ≡ suc (3 * (c13 .args .n)) = omega arith in let b : 3 * (c13 .args .n) + 2 ≡ suc (suc (3 * (c13 .args .n))) = omega arith in c2 .put3 .ensures ∙ rw (c6 .put2 .ensures, c10 .put .ensures, a, b) refl
 
 pub mark-spec : {M : Type 1} → statement M
 mark-spec =

@@ -13,7 +13,7 @@ sub-t7 : tie.Need-sub-t7
 sub-t7 c = search needs
 
 returns-2 : tie.Need-returns-2
-returns-2 c = (λ s d x y f g. comparison-some s d x y f g (c .before .args .left) (c .before .args .k) _ _ (c .if1 .left), inside-compared _ _ _ _ _ (c .before .pre .0) (omega arith) (c .before .pre .1))
+returns-2 c = (λ s d x y f g. comparison-some s d x y f g (c .before .args .left) _ _ _ (c .if1 .left), inside-compared _ _ _ _ _ (c .before .pre .0) (omega arith) (c .before .pre .1))
 
 pub comparison-of-spec : {M : Type 1} → statement M
 comparison-of-spec = tie.close (tie.spec returns sub-t7 returns-2)

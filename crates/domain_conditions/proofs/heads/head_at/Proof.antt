@@ -18,7 +18,7 @@ refusal-requires : tie.Need-refusal-requires
 refusal-requires c κs = search needs
 
 returns : tie.Need-returns
-returns c = (λ x y f g. begin-refused (now (c .before .before .before .before .args .text)) (c .before .before .before .before .args .d) x y (c .before .before .before .before .args .left) f g (c .refusal .result) _ _ _ (c .refusal .ensures) (head-else (now (c .before .before .before .before .args .text)) (c .before .before .before .before .args .d) x y (c .before .before .before .before .args .left) f g (c .before .before .token-at .result) (c .before .before .before .before .args .from) (c .before .before .token-at .ensures) (c .before .match .keys2)), inside-other _ _ _)
+returns c = (λ x y f g. begin-refused _ _ x y (c .before .before .before .before .args .left) f g _ _ _ _ (c .refusal .ensures) (head-else _ _ x y (c .before .before .before .before .args .left) f g _ _ (c .before .before .token-at .ensures) (c .before .match .keys2)), inside-other _ _ _)
 
 enum-told : tie.Need-enum-told
 enum-told c = search needs
@@ -30,7 +30,7 @@ head-of-requires : tie.Need-head-of-requires
 head-of-requires c κs = search needs
 
 named-of-requires : tie.Need-named-of-requires
-named-of-requires c κs = let w = word-in (now (c .before .before .before .before .before .before .before .before .before .args .text)) (c .before .before .before .before .before .before .before .before .before .args .from) (c .before .before .before .before .before .before .before .before .before .pre) _ _ _ (sym (c .before .before .before .before .before .before .before .token-at .ensures) ∙ c .before .before .before .before .before .t .given .1) in w .1
+named-of-requires c κs = let c5 = c .before .before .before .before .before in let w = word-in _ _ (c5 .before .before .before .before .pre) _ _ _ (sym (c5 .before .before .token-at .ensures) ∙ c5 .t .given .1) in w .1
 
 enum-told-2 : tie.Need-enum-told-2
 enum-told-2 c = search needs
@@ -42,7 +42,7 @@ head-of-requires-2 : tie.Need-head-of-requires-2
 head-of-requires-2 c κs = search needs
 
 operated-of-requires : tie.Need-operated-of-requires
-operated-of-requires c κs = let w = word-in (now (c .before .before .before .before .before .before .before .before .before .args .text)) (c .before .before .before .before .before .before .before .before .before .args .from) (c .before .before .before .before .before .before .before .before .before .pre) _ _ _ (sym (c .before .before .before .before .before .before .before .token-at .ensures) ∙ c .before .before .before .before .before .t .given .1) in w .1
+operated-of-requires c κs = let c5 = c .before .before .before .before .before in let w = word-in _ _ (c5 .before .before .before .before .pre) _ _ _ (sym (c5 .before .before .token-at .ensures) ∙ c5 .t .given .1) in w .1
 
 enum-told-3 : tie.Need-enum-told-3
 enum-told-3 c = search needs
@@ -51,16 +51,16 @@ enum-told-4 : tie.Need-enum-told-4
 enum-told-4 c = search needs
 
 returns-2 : tie.Need-returns-2
-returns-2 c = let w = word-in (now (c .before .before .before .before .before .before .before .before .before .before .args .text)) (c .before .before .before .before .before .before .before .before .before .before .args .from) (c .before .before .before .before .before .before .before .before .before .before .pre) _ _ _ (sym (c .before .before .before .before .before .before .before .before .token-at .ensures) ∙ c .before .before .before .before .before .before .t .given .1) in (λ x y f g. begin-by (now (c .before .before .before .before .before .before .before .before .before .before .args .text)) (c .before .before .before .before .before .before .before .before .before .before .args .d) x y (c .before .before .before .before .before .before .before .before .before .before .args .left) f g (c .named-of .result) _ _ (head-word (now (c .before .before .before .before .before .before .before .before .before .before .args .text)) (c .before .before .before .before .before .before .before .before .before .before .args .d) x y (c .before .before .before .before .before .before .before .before .before .before .args .left) f g (c .before .before .before .before .before .before .before .before .before .before .args .from) _ _ _ _ (sym (c .before .before .before .before .before .before .before .before .token-at .ensures) ∙ c .before .before .before .before .before .before .t .given .1) (c .before .before .before .enum-told .given .1)) (rw (c .before .head-of .ensures, (c .before .before .word-of .ensures ∙ word-is _ _ _ _ _ refl)) at (c .named-of .ensures .0 (now (c .before .before .before .before .before .before .before .before .before .before .args .text)) (c .before .before .before .before .before .before .before .before .before .before .args .d) x y (c .before .before .before .before .before .before .before .before .before .before .args .left) f g)), inside-from (c .named-of .result) _ _ _ _ (w .0) (w .2) (c .named-of .ensures .1))
+returns-2 c = let c1 = c .before in let c2 = c1 .before in let c3 = c2 .before in let c6 = c3 .before .before .before in let c8 = c6 .before .before in let c10 = c8 .before .before in let w = word-in (now (c10 .args .text)) (c10 .args .from) (c10 .pre) _ _ _ (sym (c8 .token-at .ensures) ∙ c6 .t .given .1) in (λ x y f g. begin-by (now (c10 .args .text)) (c10 .args .d) x y (c10 .args .left) f g (c .named-of .result) _ _ (head-word (now (c10 .args .text)) (c10 .args .d) x y (c10 .args .left) f g (c10 .args .from) _ _ _ _ (sym (c8 .token-at .ensures) ∙ c6 .t .given .1) (c3 .enum-told .given .1)) (rw (c1 .head-of .ensures, (c2 .word-of .ensures ∙ word-is _ _ _ _ _ refl)) at (c .named-of .ensures .0 (now (c10 .args .text)) (c10 .args .d) x y (c10 .args .left) f g)), inside-from (c .named-of .result) _ _ _ _ (w .0) (w .2) (c .named-of .ensures .1))
 
 returns-3 : tie.Need-returns-3
-returns-3 c = let w = word-in (now (c .before .before .before .before .before .before .before .before .before .before .args .text)) (c .before .before .before .before .before .before .before .before .before .before .args .from) (c .before .before .before .before .before .before .before .before .before .before .pre) _ _ _ (sym (c .before .before .before .before .before .before .before .before .token-at .ensures) ∙ c .before .before .before .before .before .before .t .given .1) in (λ x y f g. begin-by (now (c .before .before .before .before .before .before .before .before .before .before .args .text)) (c .before .before .before .before .before .before .before .before .before .before .args .d) x y (c .before .before .before .before .before .before .before .before .before .before .args .left) f g (c .operated-of .result) _ _ (head-word (now (c .before .before .before .before .before .before .before .before .before .before .args .text)) (c .before .before .before .before .before .before .before .before .before .before .args .d) x y (c .before .before .before .before .before .before .before .before .before .before .args .left) f g (c .before .before .before .before .before .before .before .before .before .before .args .from) _ _ _ _ (sym (c .before .before .before .before .before .before .before .before .token-at .ensures) ∙ c .before .before .before .before .before .before .t .given .1) (c .before .before .before .enum-told2 .given .1)) (rw (c .before .head-of2 .ensures, (c .before .before .word-of2 .ensures ∙ word-is _ _ _ _ _ refl)) at (c .operated-of .ensures .0 (now (c .before .before .before .before .before .before .before .before .before .before .args .text)) (c .before .before .before .before .before .before .before .before .before .before .args .d) x y f g)), inside-from (c .operated-of .result) _ _ _ _ (w .0) (w .2) (c .operated-of .ensures .1))
+returns-3 c = let c1 = c .before in let c2 = c1 .before in let c3 = c2 .before in let c6 = c3 .before .before .before in let c8 = c6 .before .before in let c10 = c8 .before .before in let w = word-in (now (c10 .args .text)) (c10 .args .from) (c10 .pre) _ _ _ (sym (c8 .token-at .ensures) ∙ c6 .t .given .1) in (λ x y f g. begin-by (now (c10 .args .text)) (c10 .args .d) x y (c10 .args .left) f g (c .operated-of .result) _ _ (head-word (now (c10 .args .text)) (c10 .args .d) x y (c10 .args .left) f g (c10 .args .from) _ _ _ _ (sym (c8 .token-at .ensures) ∙ c6 .t .given .1) (c3 .enum-told2 .given .1)) (rw (c1 .head-of2 .ensures, (c2 .word-of2 .ensures ∙ word-is _ _ _ _ _ refl)) at (c .operated-of .ensures .0 (now (c10 .args .text)) (c10 .args .d) x y f g)), inside-from (c .operated-of .result) _ _ _ _ (w .0) (w .2) (c .operated-of .ensures .1))
 
 returns-4 : tie.Need-returns-4
-returns-4 c = (λ x y f g. begin-refused (now (c .before .before .before .before .before .before .before .args .text)) (c .before .before .before .before .before .before .before .args .d) x y (c .before .before .before .before .before .before .before .args .left) f g _ 3 _ _ refl (head-word (now (c .before .before .before .before .before .before .before .args .text)) (c .before .before .before .before .before .before .before .args .d) x y (c .before .before .before .before .before .before .before .args .left) f g (c .before .before .before .before .before .before .before .args .from) _ _ _ _ (sym (c .before .before .before .before .before .token-at .ensures) ∙ c .before .before .before .t .given .1) (c .enum-told3 .given .1)), inside-other _ _ _)
+returns-4 c = let c3 = c .before .before .before in (λ x y f g. begin-refused _ _ x y (c3 .before .before .before .before .args .left) f g _ 3 _ _ refl (head-word _ _ x y (c3 .before .before .before .before .args .left) f g _ _ _ _ _ (sym (c3 .before .before .token-at .ensures) ∙ c3 .t .given .1) (c .enum-told3 .given .1)), inside-other _ _ _)
 
 returns-5 : tie.Need-returns-5
-returns-5 c = (λ x y f g. begin-refused (now (c .before .before .before .before .before .before .before .args .text)) (c .before .before .before .before .before .before .before .args .d) x y (c .before .before .before .before .before .before .before .args .left) f g _ 3 _ _ refl (head-word (now (c .before .before .before .before .before .before .before .args .text)) (c .before .before .before .before .before .before .before .args .d) x y (c .before .before .before .before .before .before .before .args .left) f g (c .before .before .before .before .before .before .before .args .from) _ _ _ _ (sym (c .before .before .before .before .before .token-at .ensures) ∙ c .before .before .before .t .given .1) (c .enum-told4 .given .1)), inside-other _ _ _)
+returns-5 c = let c3 = c .before .before .before in (λ x y f g. begin-refused _ _ x y (c3 .before .before .before .before .args .left) f g _ 3 _ _ refl (head-word _ _ x y (c3 .before .before .before .before .args .left) f g _ _ _ _ _ (sym (c3 .before .before .token-at .ensures) ∙ c3 .t .given .1) (c .enum-told4 .given .1)), inside-other _ _ _)
 
 pub head-at-spec : {M : Type 1} → statement M
 head-at-spec =

@@ -12,10 +12,10 @@ enum-told-2 : tie.Need-enum-told-2
 enum-told-2 c = search needs
 
 returns : tie.Need-returns
-returns c = (λ s d x y n f g. head-and s d x y n f g (c .before .before .args .h) _ _ (c .enum-told .given .1), inside-and _ _ _ _ (c .before .before .pre) (omega arith))
+returns c = (λ s d x y n f g. head-and s d x y n f g _ _ _ (c .enum-told .given .1), inside-and _ _ _ _ (c .before .before .pre) (omega arith))
 
 returns-2 : tie.Need-returns-2
-returns-2 c = (λ s d x y n f g. head-not s d x y n f g (c .before .before .args .h) _ _ (c .enum-told2 .given .1), inside-not _ _ _ _ (c .before .before .pre) (omega arith))
+returns-2 c = (λ s d x y n f g. head-not s d x y n f g _ _ _ (c .enum-told2 .given .1), inside-not _ _ _ _ (c .before .before .pre) (omega arith))
 
 returns-3 : tie.Need-returns-3
 returns-3 c = (λ s d x y n f g. other-name s d x y n f g (c .before .args .h) _ _ (c .match .keys3), inside-atom _ _ _ _ (c .before .pre) (omega arith))

@@ -37,19 +37,19 @@ comparison-of-requires-5 : tie.Need-comparison-of-requires-5
 comparison-of-requires-5 c κs = (c .before .before .pre, omega arith)
 
 returns : tie.Need-returns
-returns c = (λ s d x y f g. begin-by s d x y (c .before .before .before .args .left) f g (c .comparison-of .result) _ _ (head-equal s d x y (c .before .before .before .args .left) f g (c .before .before .before .args .h) _ _ (c .before .enum-told .given .1)) (c .comparison-of .ensures .0 s d x y f g), c .comparison-of .ensures .1)
+returns c = (λ s d x y f g. begin-by s d x y (c .before .before .before .args .left) f g _ _ _ (head-equal s d x y (c .before .before .before .args .left) f g _ _ _ (c .before .enum-told .given .1)) (c .comparison-of .ensures .0 s d x y f g), c .comparison-of .ensures .1)
 
 returns-2 : tie.Need-returns-2
-returns-2 c = (λ s d x y f g. begin-by s d x y (c .before .before .before .args .left) f g (c .comparison-of2 .result) _ _ (head-less s d x y (c .before .before .before .args .left) f g (c .before .before .before .args .h) _ _ (c .before .enum-told2 .given .1)) (c .comparison-of2 .ensures .0 s d x y f g), c .comparison-of2 .ensures .1)
+returns-2 c = (λ s d x y f g. begin-by s d x y (c .before .before .before .args .left) f g _ _ _ (head-less s d x y (c .before .before .before .args .left) f g _ _ _ (c .before .enum-told2 .given .1)) (c .comparison-of2 .ensures .0 s d x y f g), c .comparison-of2 .ensures .1)
 
 returns-3 : tie.Need-returns-3
-returns-3 c = (λ s d x y f g. begin-by s d x y (c .before .before .before .args .left) f g (c .comparison-of3 .result) _ _ (head-at-most s d x y (c .before .before .before .args .left) f g (c .before .before .before .args .h) _ _ (c .before .enum-told3 .given .1)) (c .comparison-of3 .ensures .0 s d x y f g), c .comparison-of3 .ensures .1)
+returns-3 c = (λ s d x y f g. begin-by s d x y (c .before .before .before .args .left) f g _ _ _ (head-at-most s d x y (c .before .before .before .args .left) f g _ _ _ (c .before .enum-told3 .given .1)) (c .comparison-of3 .ensures .0 s d x y f g), c .comparison-of3 .ensures .1)
 
 returns-4 : tie.Need-returns-4
-returns-4 c = (λ s d x y f g. begin-by s d x y (c .before .before .before .args .left) f g (c .comparison-of4 .result) _ _ (head-more s d x y (c .before .before .before .args .left) f g (c .before .before .before .args .h) _ _ (c .before .enum-told4 .given .1)) (c .comparison-of4 .ensures .0 s d x y f g), c .comparison-of4 .ensures .1)
+returns-4 c = (λ s d x y f g. begin-by s d x y (c .before .before .before .args .left) f g _ _ _ (head-more s d x y (c .before .before .before .args .left) f g _ _ _ (c .before .enum-told4 .given .1)) (c .comparison-of4 .ensures .0 s d x y f g), c .comparison-of4 .ensures .1)
 
 returns-5 : tie.Need-returns-5
-returns-5 c = (λ s d x y f g. begin-by s d x y (c .before .before .before .args .left) f g (c .comparison-of5 .result) _ _ (head-at-least s d x y (c .before .before .before .args .left) f g (c .before .before .before .args .h) _ _ (c .before .enum-told5 .given .1)) (c .comparison-of5 .ensures .0 s d x y f g), c .comparison-of5 .ensures .1)
+returns-5 c = (λ s d x y f g. begin-by s d x y (c .before .before .before .args .left) f g _ _ _ (head-at-least s d x y (c .before .before .before .args .left) f g _ _ _ (c .before .enum-told5 .given .1)) (c .comparison-of5 .ensures .0 s d x y f g), c .comparison-of5 .ensures .1)
 
 returns-6 : tie.Need-returns-6
 returns-6 c = (λ s d x y f g. begin-refused s d x y (c .before .args .left) f g _ 3 _ _ refl (other-operator s d x y (c .before .args .left) f g (c .before .args .h) _ _ (c .match .keys6)), inside-other _ _ _)

@@ -19,10 +19,10 @@ enum-known-a-2 : tie.Need-enum-known-a-2
 enum-known-a-2 c = search needs
 
 returns : tie.Need-returns
-returns c = let w = ahead-done _ _ _ _ _ (c .before .a .given .1) (c .before .before .before .closing .ensures .1) in (closed-done (closing (now (c .before .before .before .before .before .args .text)) (c .before .before .before .before .before .args .d) (c .before .before .before .before .before .args .from)) (c .before .before .before .closing .result) (c .before .before .before .closing .ensures .0) (c .before .before .before .before .before .args .free) (c .before .before .before .before .before .args .left) _ _ (c .before .a .given .1), spent-free _ _ _ _ _ (w .0) (w .1))
+returns c = let c3 = c .before .before .before in let w = ahead-done _ _ _ _ _ (c .before .a .given .1) (c3 .closing .ensures .1) in (closed-done (closing _ _ _) _ (c3 .closing .ensures .0) _ (c3 .before .before .args .left) _ _ (c .before .a .given .1), spent-free _ _ _ _ _ (w .0) (w .1))
 
 returns-2 : tie.Need-returns-2
-returns-2 c = (closed-refused (closing (now (c .before .before .before .before .before .args .text)) (c .before .before .before .before .before .args .d) (c .before .before .before .before .before .args .from)) (c .before .before .before .closing .result) (c .before .before .before .closing .ensures .0) (c .before .before .before .before .before .args .free) (c .before .before .before .before .before .args .left) _ _ (c .before .a2 .given .1), spent-refused _ _ _ _ _ _ _ refl)
+returns-2 c = (closed-refused (closing _ _ _) _ (c .before .before .before .closing .ensures .0) _ (c .before .before .before .before .before .args .left) _ _ (c .before .a2 .given .1), spent-refused _ _ _ _ _ _ _ refl)
 
 pub closed-at-spec : {M : Type 1} → statement M
 closed-at-spec =

@@ -16,7 +16,7 @@ same-length : tie.Need-same-length
 same-length c = search needs
 
 returns : tie.Need-returns
-returns c = (λ x h. rw (compared-objects (now (c .before .before .before .before .before .before .before .before .before .args .text)) (c .before .before .before .before .before .before .before .before .before .args .d) x (c .before .before .before .before .before .before .before .before .before .args .yes) (c .before .before .before .before .before .before .before .before .before .args .left) (c .before .before .before .before .before .before .before .before .before .args .from) (c .before .before .before .before .before .before .before .before .before .args .k) (sym (c .before .before .before .before .before .objects-due .ensures) ∙ c .before .before .before .before .if1 .taken)) (c .before .before .same-at .ensures .0 x h), c .before .before .same-at .ensures .1)
+returns c = let c2 = c .before .before in (λ x h. rw (compared-objects _ _ x _ (c2 .before .before .before .before .before .before .before .args .left) _ _ (sym (c2 .before .before .before .objects-due .ensures) ∙ c2 .before .before .if1 .taken)) (c2 .same-at .ensures .0 x h), c2 .same-at .ensures .1)
 
 comparison-at-requires : tie.Need-comparison-at-requires
 comparison-at-requires c κs = search needs
@@ -25,7 +25,7 @@ same-length-2 : tie.Need-same-length-2
 same-length-2 c = search needs
 
 returns-2 : tie.Need-returns-2
-returns-2 c = (λ x h. rw (compared-numbers (now (c .before .before .before .before .before .before .before .before .before .args .text)) (c .before .before .before .before .before .before .before .before .before .args .d) x (c .before .before .before .before .before .before .before .before .before .args .yes) (c .before .before .before .before .before .before .before .before .before .args .left) (c .before .before .before .before .before .before .before .before .before .args .from) (c .before .before .before .before .before .before .before .before .before .args .k) (sym (c .before .before .before .before .before .objects-due .ensures) ∙ c .before .before .before .before .if1 .left)) (c .before .before .comparison-at .ensures .0 x h), c .before .before .comparison-at .ensures .1)
+returns-2 c = let c2 = c .before .before in (λ x h. rw (compared-numbers _ _ x _ (c2 .before .before .before .before .before .before .before .args .left) _ _ (sym (c2 .before .before .before .objects-due .ensures) ∙ c2 .before .before .if1 .left)) (c2 .comparison-at .ensures .0 x h), c2 .comparison-at .ensures .1)
 
 pub compared-at-spec : {M : Type 1} → statement M
 compared-at-spec =

@@ -42,10 +42,10 @@ same-length : tie.Need-same-length
 same-length c = search needs
 
 returns : tie.Need-returns
-returns c = (λ x h. comparison-first (now (c .before .before .before .before .before .before .before .before .before .before .before .before .before .before .before .args .text)) (c .before .before .before .before .before .before .before .before .before .before .before .before .before .before .before .args .d) x (c .before .before .before .before .before .before .before .before .before .before .before .before .before .before .before .args .yes) (comparisonOf (c .before .before .before .before .before .before .before .before .before .before .before .before .before .before .before .args .k)) (c .before .before .before .before .before .before .before .before .before .before .before .before .before .before .before .args .left) (c .before .before .before .before .before .before .before .before .before .before .before .before .before .before .before .args .from) (now (c .before .before .before .before .before .before .before .before .before .before .before .before .before .before .before .args .code)) (c .before .before .before .before .before .before .before .before .before .before .before .before .before .before .before .args .used) (c .before .before .before .before .before .before .before .before .before .before .chosen .result + c .before .before .before .before .before .before .before .before .before .before .before .before .before .before .before .args .k) (ap (λ (z : ℕ). z + c .before .before .before .before .before .before .before .before .before .before .before .before .before .before .before .args .k) (c .before .before .before .before .before .before .before .before .before .before .chosen .ensures) ∙ ap (λ (z : ℕ). cond (c .before .before .before .before .before .before .before .before .before .before .before .before .before .before .before .args .yes) 12 17 + z) (sym (comparison-cell (c .before .before .before .before .before .before .before .before .before .before .before .before .before .before .before .args .k) (c .before .before .before .before .before .before .before .before .before .before .before .before .before .before .before .pre .3)))) (c .before .before .before .before .before .expression-at .result) _ (rw (c .before .before .before .before .before .before .before .before .before .put .ensures) at (c .before .before .before .before .before .expression-at .ensures .0 x h)) _ _ _ (c .before .enum-told .given .1) (passed-on _ _ _ _ _ (c .before .enum-told .given .1) (c .progress-of .ensures)), spent-refused _ _ _ _ _ _ _ (passed-on _ _ _ _ _ (c .before .enum-told .given .1) (c .progress-of .ensures)))
+returns c = let c1 = c .before in let c5 = c1 .before .before .before .before in let c9 = c5 .before .before .before .before in let c10 = c9 .before in let c15 = c10 .before .before .before .before .before in (λ x h. comparison-first (now (c15 .args .text)) (c15 .args .d) x (c15 .args .yes) (comparisonOf (c15 .args .k)) (c15 .args .left) (c15 .args .from) (now (c15 .args .code)) (c15 .args .used) (c10 .chosen .result + c15 .args .k) (ap (λ (z : ℕ). z + c15 .args .k) (c10 .chosen .ensures) ∙ ap (λ (z : ℕ). cond (c15 .args .yes) 12 17 + z) (sym (comparison-cell (c15 .args .k) (c15 .pre .3)))) (c5 .expression-at .result) _ (rw (c9 .put .ensures) at (c5 .expression-at .ensures .0 x h)) _ _ _ (c1 .enum-told .given .1) (passed-on _ _ _ _ _ (c1 .enum-told .given .1) (c .progress-of .ensures)), spent-refused _ _ _ _ _ _ _ (passed-on _ _ _ _ _ (c1 .enum-told .given .1) (c .progress-of .ensures)))
 
 expression-at-requires-2 : tie.Need-expression-at-requires-2
-expression-at-requires-2 c κs = let a₁ = ahead-done _ _ _ _ _ (c .before .before .a .given .1) (c .before .before .before .before .before .before .expression-at .ensures .1) in let o₁ = over-at _ _ _ _ _ (c .before .before .a .given .1) (c .before .before .before .before .before .before .expression-at .ensures .2) in (a₁ .1, c .before .before .before .before .before .before .before .before .before .before .before .before .before .before .before .before .pre .1, omega (arith, a₁ .0, o₁ .1, c .before .before .before .before .before .before .before .before .before .before .before .before .before .before .before .before .pre .2))
+expression-at-requires-2 c κs = let c2 = c .before .before in let c6 = c2 .before .before .before .before in let c16 = c6 .before .before .before .before .before .before .before .before .before .before in let a₁ = ahead-done _ _ _ _ _ (c2 .a .given .1) (c6 .expression-at .ensures .1) in let o₁ = over-at _ _ _ _ _ (c2 .a .given .1) (c6 .expression-at .ensures .2) in (a₁ .1, c16 .pre .1, omega (arith, a₁ .0, o₁ .1, c16 .pre .2))
 
 enum-known-b : tie.Need-enum-known-b
 enum-known-b c = search needs
@@ -60,7 +60,7 @@ same-length-2 : tie.Need-same-length-2
 same-length-2 c = search needs
 
 returns-2 : tie.Need-returns-2
-returns-2 c = (λ x h. comparison-second (now (c .before .before .before .before .before .before .before .before .before .before .before .before .before .before .before .before .before .before .before .before .before .before .args .text)) (c .before .before .before .before .before .before .before .before .before .before .before .before .before .before .before .before .before .before .before .before .before .before .args .d) x (c .before .before .before .before .before .before .before .before .before .before .before .before .before .before .before .before .before .before .before .before .before .before .args .yes) (comparisonOf (c .before .before .before .before .before .before .before .before .before .before .before .before .before .before .before .before .before .before .before .before .before .before .args .k)) (c .before .before .before .before .before .before .before .before .before .before .before .before .before .before .before .before .before .before .before .before .before .before .args .left) (c .before .before .before .before .before .before .before .before .before .before .before .before .before .before .before .before .before .before .before .before .before .before .args .from) (now (c .before .before .before .before .before .before .before .before .before .before .before .before .before .before .before .before .before .before .before .before .before .before .args .code)) (c .before .before .before .before .before .before .before .before .before .before .before .before .before .before .before .before .before .before .before .before .before .before .args .used) (c .before .before .before .before .before .before .before .before .before .before .before .before .before .before .before .before .before .chosen .result + c .before .before .before .before .before .before .before .before .before .before .before .before .before .before .before .before .before .before .before .before .before .before .args .k) (ap (λ (z : ℕ). z + c .before .before .before .before .before .before .before .before .before .before .before .before .before .before .before .before .before .before .before .before .before .before .args .k) (c .before .before .before .before .before .before .before .before .before .before .before .before .before .before .before .before .before .chosen .ensures) ∙ ap (λ (z : ℕ). cond (c .before .before .before .before .before .before .before .before .before .before .before .before .before .before .before .before .before .before .before .before .before .before .args .yes) 12 17 + z) (sym (comparison-cell (c .before .before .before .before .before .before .before .before .before .before .before .before .before .before .before .before .before .before .before .before .before .before .args .k) (c .before .before .before .before .before .before .before .before .before .before .before .before .before .before .before .before .before .before .before .before .before .before .pre .3)))) (c .before .before .before .before .before .before .before .before .before .before .before .before .expression-at .result) _ (rw (c .before .before .before .before .before .before .before .before .before .before .before .before .before .before .before .before .put .ensures) at (c .before .before .before .before .before .before .before .before .before .before .before .before .expression-at .ensures .0 x h)) _ _ (c .before .before .before .before .before .before .before .before .a .given .1) (c .before .before .before .before .before .expression-at2 .result) _ (c .before .before .before .before .before .expression-at2 .ensures .0 x h) _ _ _ (c .before .enum-told2 .given .1) (passed-on _ _ _ _ _ (c .before .enum-told2 .given .1) (c .progress-of2 .ensures)), spent-refused _ _ _ _ _ _ _ (passed-on _ _ _ _ _ (c .before .enum-told2 .given .1) (c .progress-of2 .ensures)))
+returns-2 c = let c1 = c .before in let c5 = c1 .before .before .before .before in let c8 = c5 .before .before .before in let c12 = c8 .before .before .before .before in let c16 = c12 .before .before .before .before in let c17 = c16 .before in let c22 = c17 .before .before .before .before .before in (λ x h. comparison-second (now (c22 .args .text)) (c22 .args .d) x (c22 .args .yes) (comparisonOf (c22 .args .k)) (c22 .args .left) (c22 .args .from) (now (c22 .args .code)) (c22 .args .used) (c17 .chosen .result + c22 .args .k) (ap (λ (z : ℕ). z + c22 .args .k) (c17 .chosen .ensures) ∙ ap (λ (z : ℕ). cond (c22 .args .yes) 12 17 + z) (sym (comparison-cell (c22 .args .k) (c22 .pre .3)))) (c12 .expression-at .result) _ (rw (c16 .put .ensures) at (c12 .expression-at .ensures .0 x h)) _ _ (c8 .a .given .1) (c5 .expression-at2 .result) _ (c5 .expression-at2 .ensures .0 x h) _ _ _ (c1 .enum-told2 .given .1) (passed-on _ _ _ _ _ (c1 .enum-told2 .given .1) (c .progress-of2 .ensures)), spent-refused _ _ _ _ _ _ _ (passed-on _ _ _ _ _ (c1 .enum-told2 .given .1) (c .progress-of2 .ensures)))
 
 closed-at-requires : tie.Need-closed-at-requires
 closed-at-requires c κs = let a₂ = ahead-done _ _ _ _ _ (c .before .b .given .1) (c .before .before .before .before .before .expression-at2 .ensures .1) in let o₂ = over-at _ _ _ _ _ (c .before .b .given .1) (c .before .before .before .before .before .expression-at2 .ensures .2) in a₂ .1
@@ -69,7 +69,7 @@ same-length-3 : tie.Need-same-length-3
 same-length-3 c = search needs
 
 returns-3 : tie.Need-returns-3
-returns-3 c = let a₁ = ahead-done _ _ _ _ _ (c .before .before .before .before .before .before .before .before .before .a .given .1) (c .before .before .before .before .before .before .before .before .before .before .before .before .before .expression-at .ensures .1) in let o₁ = over-at _ _ _ _ _ (c .before .before .before .before .before .before .before .before .before .a .given .1) (c .before .before .before .before .before .before .before .before .before .before .before .before .before .expression-at .ensures .2) in let a₂ = ahead-done _ _ _ _ _ (c .before .before .b .given .1) (c .before .before .before .before .before .before .expression-at2 .ensures .1) in let o₂ = over-at _ _ _ _ _ (c .before .before .b .given .1) (c .before .before .before .before .before .before .expression-at2 .ensures .2) in (λ x h. comparison-done (now (c .before .before .before .before .before .before .before .before .before .before .before .before .before .before .before .before .before .before .before .before .before .before .before .args .text)) (c .before .before .before .before .before .before .before .before .before .before .before .before .before .before .before .before .before .before .before .before .before .before .before .args .d) x (c .before .before .before .before .before .before .before .before .before .before .before .before .before .before .before .before .before .before .before .before .before .before .before .args .yes) (comparisonOf (c .before .before .before .before .before .before .before .before .before .before .before .before .before .before .before .before .before .before .before .before .before .before .before .args .k)) (c .before .before .before .before .before .before .before .before .before .before .before .before .before .before .before .before .before .before .before .before .before .before .before .args .left) (c .before .before .before .before .before .before .before .before .before .before .before .before .before .before .before .before .before .before .before .before .before .before .before .args .from) (now (c .before .before .before .before .before .before .before .before .before .before .before .before .before .before .before .before .before .before .before .before .before .before .before .args .code)) (c .before .before .before .before .before .before .before .before .before .before .before .before .before .before .before .before .before .before .before .before .before .before .before .args .used) (c .before .before .before .before .before .before .before .before .before .before .before .before .before .before .before .before .before .before .chosen .result + c .before .before .before .before .before .before .before .before .before .before .before .before .before .before .before .before .before .before .before .before .before .before .before .args .k) (ap (λ (z : ℕ). z + c .before .before .before .before .before .before .before .before .before .before .before .before .before .before .before .before .before .before .before .before .before .before .before .args .k) (c .before .before .before .before .before .before .before .before .before .before .before .before .before .before .before .before .before .before .chosen .ensures) ∙ ap (λ (z : ℕ). cond (c .before .before .before .before .before .before .before .before .before .before .before .before .before .before .before .before .before .before .before .before .before .before .before .args .yes) 12 17 + z) (sym (comparison-cell (c .before .before .before .before .before .before .before .before .before .before .before .before .before .before .before .before .before .before .before .before .before .before .before .args .k) (c .before .before .before .before .before .before .before .before .before .before .before .before .before .before .before .before .before .before .before .before .before .before .before .pre .3)))) (c .before .before .before .before .before .before .before .before .before .before .before .before .before .expression-at .result) _ (rw (c .before .before .before .before .before .before .before .before .before .before .before .before .before .before .before .before .before .put .ensures) at (c .before .before .before .before .before .before .before .before .before .before .before .before .before .expression-at .ensures .0 x h)) _ _ (c .before .before .before .before .before .before .before .before .before .a .given .1) (c .before .before .before .before .before .before .expression-at2 .result) _ (c .before .before .before .before .before .before .expression-at2 .ensures .0 x h) _ _ (c .closed-at .result) (c .before .before .b .given .1) (c .closed-at .ensures .0), spent-closed (c .closed-at .result) (closing (now (c .before .before .before .before .before .before .before .before .before .before .before .before .before .before .before .before .before .before .before .before .before .before .before .args .text)) (c .before .before .before .before .before .before .before .before .before .before .before .before .before .before .before .before .before .before .before .before .before .before .before .args .d) (c .before .before .b .given .0 .0)) 2 _ _ _ (c .before .before .before .before .before .before .before .before .before .before .before .before .before .before .before .before .before .before .before .before .before .before .before .args .left) _ _ (c .closed-at .ensures .0) (omega (arith, a₁ .0, a₂ .0)) (omega (arith, o₁ .0, o₂ .0)) (omega (arith, o₁ .1, o₂ .1)) (c .closed-at .ensures .1))
+returns-3 c = let c2 = c .before .before in let c6 = c2 .before .before .before .before in let c9 = c6 .before .before .before in let c13 = c9 .before .before .before .before in let c17 = c13 .before .before .before .before in let c18 = c17 .before in let c23 = c18 .before .before .before .before .before in let a₁ = ahead-done _ _ _ _ _ (c9 .a .given .1) (c13 .expression-at .ensures .1) in let o₁ = over-at _ _ _ _ _ (c9 .a .given .1) (c13 .expression-at .ensures .2) in let a₂ = ahead-done _ _ _ _ _ (c2 .b .given .1) (c6 .expression-at2 .ensures .1) in let o₂ = over-at _ _ _ _ _ (c2 .b .given .1) (c6 .expression-at2 .ensures .2) in (λ x h. comparison-done (now (c23 .args .text)) (c23 .args .d) x (c23 .args .yes) (comparisonOf (c23 .args .k)) (c23 .args .left) (c23 .args .from) (now (c23 .args .code)) (c23 .args .used) (c18 .chosen .result + c23 .args .k) (ap (λ (z : ℕ). z + c23 .args .k) (c18 .chosen .ensures) ∙ ap (λ (z : ℕ). cond (c23 .args .yes) 12 17 + z) (sym (comparison-cell (c23 .args .k) (c23 .pre .3)))) (c13 .expression-at .result) _ (rw (c17 .put .ensures) at (c13 .expression-at .ensures .0 x h)) _ _ (c9 .a .given .1) (c6 .expression-at2 .result) _ (c6 .expression-at2 .ensures .0 x h) _ _ (c .closed-at .result) (c2 .b .given .1) (c .closed-at .ensures .0), spent-closed (c .closed-at .result) (closing (now (c23 .args .text)) (c23 .args .d) (c2 .b .given .0 .0)) 2 _ _ _ (c23 .args .left) _ _ (c .closed-at .ensures .0) (omega (arith, a₁ .0, a₂ .0)) (omega (arith, o₁ .0, o₂ .0)) (omega (arith, o₁ .1, o₂ .1)) (c .closed-at .ensures .1))
 
 pub comparison-at-spec : {M : Type 1} → statement M
 comparison-at-spec =

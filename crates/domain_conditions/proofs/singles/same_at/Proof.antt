@@ -25,7 +25,7 @@ progress-of-requires : tie.Need-progress-of-requires
 progress-of-requires c κs = search needs
 
 returns : tie.Need-returns
-returns c = (λ x h. same-first (now (c .before .before .before .before .before .before .before .args .text)) (c .before .before .before .before .before .before .before .args .d) x (c .before .before .before .before .before .before .before .args .yes) (c .before .before .before .before .before .before .before .args .left) (c .before .before .before .before .before .before .before .args .from) (now (c .before .before .before .before .before .before .before .args .code)) (c .before .before .before .before .before .before .before .args .used) (c .before .before .before .argument-at .result) (c .before .before .before .argument-at .ensures .0 x h) _ _ _ _ (c .before .enum-told .given .1) (passed-on _ _ _ _ _ (c .before .enum-told .given .1) (c .progress-of .ensures)), spent-refused _ _ _ _ _ _ _ (passed-on _ _ _ _ _ (c .before .enum-told .given .1) (c .progress-of .ensures)))
+returns c = (λ x h. same-first _ _ x _ (c .before .before .before .before .before .before .before .args .left) _ _ _ _ (c .before .before .before .argument-at .ensures .0 x h) _ _ _ _ (c .before .enum-told .given .1) (passed-on _ _ _ _ _ (c .before .enum-told .given .1) (c .progress-of .ensures)), spent-refused _ _ _ _ _ _ _ (passed-on _ _ _ _ _ (c .before .enum-told .given .1) (c .progress-of .ensures)))
 
 argument-at-requires-2 : tie.Need-argument-at-requires-2
 argument-at-requires-2 c κs = let a₁ = ahead-done _ _ _ _ _ (c .before .a .given .1) (c .before .before .before .argument-at .ensures .2) in (a₁ .1, c .before .before .before .before .before .before .before .pre .1)
@@ -40,7 +40,7 @@ progress-of-requires-2 : tie.Need-progress-of-requires-2
 progress-of-requires-2 c κs = search needs
 
 returns-2 : tie.Need-returns-2
-returns-2 c = (λ x h. same-second (now (c .before .before .before .before .before .before .before .before .before .before .before .args .text)) (c .before .before .before .before .before .before .before .before .before .before .before .args .d) x (c .before .before .before .before .before .before .before .before .before .before .before .args .yes) (c .before .before .before .before .before .before .before .before .before .before .before .args .left) (c .before .before .before .before .before .before .before .before .before .before .before .args .from) (now (c .before .before .before .before .before .before .before .before .before .before .before .args .code)) (c .before .before .before .before .before .before .before .before .before .before .before .args .used) (c .before .before .before .before .before .before .before .argument-at .result) (c .before .before .before .before .before .before .before .argument-at .ensures .0 x h) _ _ (c .before .before .before .before .before .a .given .1) (c .before .before .before .argument-at2 .result) (c .before .before .before .argument-at2 .ensures .0 x h) _ _ _ _ (c .before .enum-told2 .given .1) (passed-on _ _ _ _ _ (c .before .enum-told2 .given .1) (c .progress-of2 .ensures)), spent-refused _ _ _ _ _ _ _ (passed-on _ _ _ _ _ (c .before .enum-told2 .given .1) (c .progress-of2 .ensures)))
+returns-2 c = let c3 = c .before .before .before in (λ x h. same-second _ _ x _ (c3 .before .before .before .before .before .before .before .before .args .left) _ _ _ _ (c3 .before .before .before .before .argument-at .ensures .0 x h) _ _ (c3 .before .before .a .given .1) _ (c3 .argument-at2 .ensures .0 x h) _ _ _ _ (c .before .enum-told2 .given .1) (passed-on _ _ _ _ _ (c .before .enum-told2 .given .1) (c .progress-of2 .ensures)), spent-refused _ _ _ _ _ _ _ (passed-on _ _ _ _ _ (c .before .enum-told2 .given .1) (c .progress-of2 .ensures)))
 
 chosen-requires : tie.Need-chosen-requires
 chosen-requires c κs = search needs
@@ -52,25 +52,25 @@ add-put : tie.Need-add-put
 add-put c = search needs
 
 put-requires-2 : tie.Need-put-requires-2
-put-requires-2 c κs = omega (arith, cell-at _ _ _ (c .before .before .before .before .before .before .before .before .before .before .before .a .given .1) (c .before .before .before .before .before .before .before .before .before .before .before .before .before .argument-at .ensures .1))
+put-requires-2 c κs = let c11 = c .before .before .before .before .before .before .before .before .before .before .before in omega (arith, cell-at _ _ _ (c11 .a .given .1) (c11 .before .before .argument-at .ensures .1))
 
 add-put-2 : tie.Need-add-put-2
 add-put-2 c = search needs
 
 put-requires-3 : tie.Need-put-requires-3
-put-requires-3 c κs = omega (arith, cell-at _ _ _ (c .before .before .before .before .before .before .before .before .before .before .before .b .given .1) (c .before .before .before .before .before .before .before .before .before .before .before .before .before .argument-at2 .ensures .1))
+put-requires-3 c κs = let c11 = c .before .before .before .before .before .before .before .before .before .before .before in omega (arith, cell-at _ _ _ (c11 .b .given .1) (c11 .before .before .argument-at2 .ensures .1))
 
 add-closed-at : tie.Need-add-closed-at
 add-closed-at c = search needs
 
 closed-at-requires : tie.Need-closed-at-requires
-closed-at-requires c κs = let a₂ = ahead-done _ _ _ _ _ (c .before .before .before .before .before .before .before .before .before .before .before .before .before .before .b .given .1) (c .before .before .before .before .before .before .before .before .before .before .before .before .before .before .before .before .argument-at2 .ensures .2) in a₂ .1
+closed-at-requires c κs = let c14 = c .before .before .before .before .before .before .before .before .before .before .before .before .before .before in let a₂ = ahead-done _ _ _ _ _ (c14 .b .given .1) (c14 .before .before .argument-at2 .ensures .2) in a₂ .1
 
 same-length : tie.Need-same-length
 same-length c = search needs
 
 returns-3 : tie.Need-returns-3
-returns-3 c = let a₁ = ahead-done _ _ _ _ _ (c .before .before .before .before .before .before .before .before .before .before .before .before .before .before .before .before .before .before .before .a .given .1) (c .before .before .before .before .before .before .before .before .before .before .before .before .before .before .before .before .before .before .before .before .before .argument-at .ensures .2) in let a₂ = ahead-done _ _ _ _ _ (c .before .before .before .before .before .before .before .before .before .before .before .before .before .before .before .b .given .1) (c .before .before .before .before .before .before .before .before .before .before .before .before .before .before .before .before .before .argument-at2 .ensures .2) in (λ x h. same-done (now (c .before .before .before .before .before .before .before .before .before .before .before .before .before .before .before .before .before .before .before .before .before .before .before .before .before .args .text)) (c .before .before .before .before .before .before .before .before .before .before .before .before .before .before .before .before .before .before .before .before .before .before .before .before .before .args .d) x (c .before .before .before .before .before .before .before .before .before .before .before .before .before .before .before .before .before .before .before .before .before .before .before .before .before .args .yes) (c .before .before .before .before .before .before .before .before .before .before .before .before .before .before .before .before .before .before .before .before .before .before .before .before .before .args .left) (c .before .before .before .before .before .before .before .before .before .before .before .before .before .before .before .before .before .before .before .before .before .before .before .before .before .args .from) (now (c .before .before .before .before .before .before .before .before .before .before .before .before .before .before .before .before .before .before .before .before .before .before .before .before .before .args .code)) (c .before .before .before .before .before .before .before .before .before .before .before .before .before .before .before .before .before .before .before .before .before .before .before .before .before .args .used) (c .before .before .before .before .before .before .before .before .before .before .before .before .before .before .before .before .before .before .before .before .before .argument-at .result) (c .before .before .before .before .before .before .before .before .before .before .before .before .before .before .before .before .before .before .before .before .before .argument-at .ensures .0 x h) _ _ (c .before .before .before .before .before .before .before .before .before .before .before .before .before .before .before .before .before .before .before .a .given .1) (c .before .before .before .before .before .before .before .before .before .before .before .before .before .before .before .before .before .argument-at2 .result) (c .before .before .before .before .before .before .before .before .before .before .before .before .before .before .before .before .before .argument-at2 .ensures .0 x h) _ _ (c .before .before .before .before .before .before .before .before .before .before .before .before .chosen .result) (c .closed-at .result) _ (c .before .before .before .before .before .before .before .before .before .before .before .before .before .before .before .b .given .1) (c .before .before .before .before .before .before .before .before .before .before .before .before .chosen .ensures) (rw (c .before .before .before .before .before .before .before .put2 .ensures, c .before .before .before .before .before .before .before .before .before .before .before .put .ensures) at (c .before .before .before .put3 .ensures)) (c .closed-at .ensures .0), spent-closed (c .closed-at .result) (closing (now (c .before .before .before .before .before .before .before .before .before .before .before .before .before .before .before .before .before .before .before .before .before .before .before .before .before .args .text)) (c .before .before .before .before .before .before .before .before .before .before .before .before .before .before .before .before .before .before .before .before .before .before .before .before .before .args .d) (c .before .before .before .before .before .before .before .before .before .before .before .before .before .before .before .b .given .0 .0)) 2 _ _ _ (c .before .before .before .before .before .before .before .before .before .before .before .before .before .before .before .before .before .before .before .before .before .before .before .before .before .args .left) _ _ (c .closed-at .ensures .0) (omega (arith, a₁ .0, a₂ .0)) (omega arith) (omega (arith, a₁ .0, a₂ .0)) (c .closed-at .ensures .1))
+returns-3 c = let c3 = c .before .before .before in let c7 = c3 .before .before .before .before in let c11 = c7 .before .before .before .before in let c12 = c11 .before in let c15 = c12 .before .before .before in let c17 = c15 .before .before in let c19 = c17 .before .before in let c21 = c19 .before .before in let a₁ = ahead-done _ _ _ _ _ (c19 .a .given .1) (c21 .argument-at .ensures .2) in let a₂ = ahead-done _ _ _ _ _ (c15 .b .given .1) (c17 .argument-at2 .ensures .2) in (λ x h. same-done _ _ x _ (c21 .before .before .before .before .args .left) _ _ _ _ (c21 .argument-at .ensures .0 x h) _ _ (c19 .a .given .1) _ (c17 .argument-at2 .ensures .0 x h) _ _ _ _ _ (c15 .b .given .1) (c12 .chosen .ensures) (rw (c7 .put2 .ensures, c11 .put .ensures) at (c3 .put3 .ensures)) (c .closed-at .ensures .0), spent-closed _ (closing _ _ (c15 .b .given .0 .0)) 2 _ _ _ (c21 .before .before .before .before .args .left) _ _ (c .closed-at .ensures .0) (omega (arith, a₁ .0, a₂ .0)) (omega arith) (omega (arith, a₁ .0, a₂ .0)) (c .closed-at .ensures .1))
 
 pub same-at-spec : {M : Type 1} → statement M
 same-at-spec =

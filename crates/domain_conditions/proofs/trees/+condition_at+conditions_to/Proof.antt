@@ -64,83 +64,87 @@ conditions-to-below t =
     (falls 3 conditions-to-kinds.ps _<_ μ-conditions-to t)
     conditions-to.Pre
 
-condition-at-begun-at-requires : (t : ℕ) → condition-at-lts.Need-begun-at-requires (begun-at-reads.Asked, begun-at-reads.Learnt, put-reads.Asked, put-reads.Learnt, conditions-to-below t, conditions-to.Post, negation-at-reads.Asked, negation-at-reads.Learnt, atom-at-reads.Asked, atom-at-reads.Learnt, compared-at-reads.Asked, compared-at-reads.Learnt, progress-of-reads.Asked, progress-of-reads.Learnt) (condition-at-at t) condition-at.Post
+abbrev condition-at-claims : ℕ → condition-at-lts.Claims
+condition-at-claims t =
+    (begun-at-reads.Asked, begun-at-reads.Learnt, put-reads.Asked, put-reads.Learnt, conditions-to-below t, conditions-to.Post, negation-at-reads.Asked, negation-at-reads.Learnt, atom-at-reads.Asked, atom-at-reads.Learnt, compared-at-reads.Asked, compared-at-reads.Learnt, progress-of-reads.Asked, progress-of-reads.Learnt)
+
+condition-at-begun-at-requires : (t : ℕ) → condition-at-lts.Need-begun-at-requires (condition-at-claims t) (condition-at-at t) condition-at.Post
 condition-at-begun-at-requires t c κs = c .before .before .before .pre .1 .0
 
-condition-at-enum-known-h : (t : ℕ) → condition-at-lts.Need-enum-known-h (begun-at-reads.Asked, begun-at-reads.Learnt, put-reads.Asked, put-reads.Learnt, conditions-to-below t, conditions-to.Post, negation-at-reads.Asked, negation-at-reads.Learnt, atom-at-reads.Asked, atom-at-reads.Learnt, compared-at-reads.Asked, compared-at-reads.Learnt, progress-of-reads.Asked, progress-of-reads.Learnt) (condition-at-at t) condition-at.Post
+condition-at-enum-known-h : (t : ℕ) → condition-at-lts.Need-enum-known-h (condition-at-claims t) (condition-at-at t) condition-at.Post
 condition-at-enum-known-h t c = c .match .keys1
 
-condition-at-put-requires : (t : ℕ) → condition-at-lts.Need-put-requires (begun-at-reads.Asked, begun-at-reads.Learnt, put-reads.Asked, put-reads.Learnt, conditions-to-below t, conditions-to.Post, negation-at-reads.Asked, negation-at-reads.Learnt, atom-at-reads.Asked, atom-at-reads.Learnt, compared-at-reads.Asked, compared-at-reads.Learnt, progress-of-reads.Asked, progress-of-reads.Learnt) (condition-at-at t) condition-at.Post
+condition-at-put-requires : (t : ℕ) → condition-at-lts.Need-put-requires (condition-at-claims t) (condition-at-at t) condition-at.Post
 condition-at-put-requires t c κs = omega arith
 
-condition-at-sub-conditions-to : (t : ℕ) → condition-at-lts.Need-sub-conditions-to (begun-at-reads.Asked, begun-at-reads.Learnt, put-reads.Asked, put-reads.Learnt, conditions-to-below t, conditions-to.Post, negation-at-reads.Asked, negation-at-reads.Learnt, atom-at-reads.Asked, atom-at-reads.Learnt, compared-at-reads.Asked, compared-at-reads.Learnt, progress-of-reads.Asked, progress-of-reads.Learnt) (condition-at-at t) condition-at.Post
+condition-at-sub-conditions-to : (t : ℕ) → condition-at-lts.Need-sub-conditions-to (condition-at-claims t) (condition-at-at t) condition-at.Post
 condition-at-sub-conditions-to t c = let w = and-place _ _ _ _ _ _ (c .before .before .before .before .before .h .given .1) (c .before .before .before .before .before .before .before .begun-at .ensures .1) in omega (arith, w .2)
 
-condition-at-add-conditions-to : (t : ℕ) → condition-at-lts.Need-add-conditions-to (begun-at-reads.Asked, begun-at-reads.Learnt, put-reads.Asked, put-reads.Learnt, conditions-to-below t, conditions-to.Post, negation-at-reads.Asked, negation-at-reads.Learnt, atom-at-reads.Asked, atom-at-reads.Learnt, compared-at-reads.Asked, compared-at-reads.Learnt, progress-of-reads.Asked, progress-of-reads.Learnt) (condition-at-at t) condition-at.Post
+condition-at-add-conditions-to : (t : ℕ) → condition-at-lts.Need-add-conditions-to (condition-at-claims t) (condition-at-at t) condition-at.Post
 condition-at-add-conditions-to t c = omega (arith, c .before .before .before .before .before .before .before .before .before .before .before .before .pre .1 .2)
 
-condition-at-conditions-to-requires : (t : ℕ) → condition-at-lts.Need-conditions-to-requires (begun-at-reads.Asked, begun-at-reads.Learnt, put-reads.Asked, put-reads.Learnt, conditions-to-below t, conditions-to.Post, negation-at-reads.Asked, negation-at-reads.Learnt, atom-at-reads.Asked, atom-at-reads.Learnt, compared-at-reads.Asked, compared-at-reads.Learnt, progress-of-reads.Asked, progress-of-reads.Learnt) (condition-at-at t) condition-at.Post
-condition-at-conditions-to-requires t c κs = let w = and-place _ _ _ _ _ _ (c .before .before .before .before .before .before .h .given .1) (c .before .before .before .before .before .before .before .before .begun-at .ensures .1) in (omega (arith, c .before .before .before .before .before .before .before .before .before .before .before .before .pre .0, w .0, w .1), (w .1, c .before .before .before .before .before .before .before .before .before .before .before .before .pre .1 .1, omega (arith, w .0, w .1, c .before .before .before .before .before .before .before .before .before .before .before .before .pre .1 .2)))
+condition-at-conditions-to-requires : (t : ℕ) → condition-at-lts.Need-conditions-to-requires (condition-at-claims t) (condition-at-at t) condition-at.Post
+condition-at-conditions-to-requires t c κs = let c6 = c .before .before .before .before .before .before in let c8 = c6 .before .before in let c12 = c8 .before .before .before .before in let w = and-place _ _ _ _ _ _ (c6 .h .given .1) (c8 .begun-at .ensures .1) in (omega (arith, c12 .pre .0, w .0, w .1), (w .1, c12 .pre .1 .1, omega (arith, w .0, w .1, c12 .pre .1 .2)))
 
-condition-at-enum-known-h-2 : (t : ℕ) → condition-at-lts.Need-enum-known-h-2 (begun-at-reads.Asked, begun-at-reads.Learnt, put-reads.Asked, put-reads.Learnt, conditions-to-below t, conditions-to.Post, negation-at-reads.Asked, negation-at-reads.Learnt, atom-at-reads.Asked, atom-at-reads.Learnt, compared-at-reads.Asked, compared-at-reads.Learnt, progress-of-reads.Asked, progress-of-reads.Learnt) (condition-at-at t) condition-at.Post
+condition-at-enum-known-h-2 : (t : ℕ) → condition-at-lts.Need-enum-known-h-2 (condition-at-claims t) (condition-at-at t) condition-at.Post
 condition-at-enum-known-h-2 t c = c .match .keys2
 
-condition-at-sub-negation-at : (t : ℕ) → condition-at-lts.Need-sub-negation-at (begun-at-reads.Asked, begun-at-reads.Learnt, put-reads.Asked, put-reads.Learnt, conditions-to-below t, conditions-to.Post, negation-at-reads.Asked, negation-at-reads.Learnt, atom-at-reads.Asked, atom-at-reads.Learnt, compared-at-reads.Asked, compared-at-reads.Learnt, progress-of-reads.Asked, progress-of-reads.Learnt) (condition-at-at t) condition-at.Post
+condition-at-sub-negation-at : (t : ℕ) → condition-at-lts.Need-sub-negation-at (condition-at-claims t) (condition-at-at t) condition-at.Post
 condition-at-sub-negation-at t c = let w = not-place _ _ _ _ _ _ (c .before .h2 .given .1) (c .before .before .before .begun-at .ensures .1) in omega (arith, w .2)
 
-condition-at-negation-at-requires : (t : ℕ) → condition-at-lts.Need-negation-at-requires (begun-at-reads.Asked, begun-at-reads.Learnt, put-reads.Asked, put-reads.Learnt, conditions-to-below t, conditions-to.Post, negation-at-reads.Asked, negation-at-reads.Learnt, atom-at-reads.Asked, atom-at-reads.Learnt, compared-at-reads.Asked, compared-at-reads.Learnt, progress-of-reads.Asked, progress-of-reads.Learnt) (condition-at-at t) condition-at.Post
-condition-at-negation-at-requires t c κs = let w = not-place _ _ _ _ _ _ (c .before .before .h2 .given .1) (c .before .before .before .before .begun-at .ensures .1) in (w .1, c .before .before .before .before .before .before .before .before .pre .1 .1, omega (arith, w .0, w .1, c .before .before .before .before .before .before .before .before .pre .1 .2))
+condition-at-negation-at-requires : (t : ℕ) → condition-at-lts.Need-negation-at-requires (condition-at-claims t) (condition-at-at t) condition-at.Post
+condition-at-negation-at-requires t c κs = let c2 = c .before .before in let c8 = c2 .before .before .before .before .before .before in let w = not-place _ _ _ _ _ _ (c2 .h2 .given .1) (c2 .before .before .begun-at .ensures .1) in (w .1, c8 .pre .1 .1, omega (arith, w .0, w .1, c8 .pre .1 .2))
 
-condition-at-enum-known-h-3 : (t : ℕ) → condition-at-lts.Need-enum-known-h-3 (begun-at-reads.Asked, begun-at-reads.Learnt, put-reads.Asked, put-reads.Learnt, conditions-to-below t, conditions-to.Post, negation-at-reads.Asked, negation-at-reads.Learnt, atom-at-reads.Asked, atom-at-reads.Learnt, compared-at-reads.Asked, compared-at-reads.Learnt, progress-of-reads.Asked, progress-of-reads.Learnt) (condition-at-at t) condition-at.Post
+condition-at-enum-known-h-3 : (t : ℕ) → condition-at-lts.Need-enum-known-h-3 (condition-at-claims t) (condition-at-at t) condition-at.Post
 condition-at-enum-known-h-3 t c = c .match .keys3
 
-condition-at-sub-atom-at : (t : ℕ) → condition-at-lts.Need-sub-atom-at (begun-at-reads.Asked, begun-at-reads.Learnt, put-reads.Asked, put-reads.Learnt, conditions-to-below t, conditions-to.Post, negation-at-reads.Asked, negation-at-reads.Learnt, atom-at-reads.Asked, atom-at-reads.Learnt, compared-at-reads.Asked, compared-at-reads.Learnt, progress-of-reads.Asked, progress-of-reads.Learnt) (condition-at-at t) condition-at.Post
+condition-at-sub-atom-at : (t : ℕ) → condition-at-lts.Need-sub-atom-at (condition-at-claims t) (condition-at-at t) condition-at.Post
 condition-at-sub-atom-at t c = let w = atom-place _ _ _ _ _ _ (c .before .h3 .given .1) (c .before .before .before .begun-at .ensures .1) in omega (arith, w .2)
 
-condition-at-atom-at-requires : (t : ℕ) → condition-at-lts.Need-atom-at-requires (begun-at-reads.Asked, begun-at-reads.Learnt, put-reads.Asked, put-reads.Learnt, conditions-to-below t, conditions-to.Post, negation-at-reads.Asked, negation-at-reads.Learnt, atom-at-reads.Asked, atom-at-reads.Learnt, compared-at-reads.Asked, compared-at-reads.Learnt, progress-of-reads.Asked, progress-of-reads.Learnt) (condition-at-at t) condition-at.Post
-condition-at-atom-at-requires t c κs = let w = atom-place _ _ _ _ _ _ (c .before .before .h3 .given .1) (c .before .before .before .before .begun-at .ensures .1) in (w .1, c .before .before .before .before .before .before .before .before .pre .1 .1, omega (arith, w .0, w .1, c .before .before .before .before .before .before .before .before .pre .1 .2))
+condition-at-atom-at-requires : (t : ℕ) → condition-at-lts.Need-atom-at-requires (condition-at-claims t) (condition-at-at t) condition-at.Post
+condition-at-atom-at-requires t c κs = let c2 = c .before .before in let c8 = c2 .before .before .before .before .before .before in let w = atom-place _ _ _ _ _ _ (c2 .h3 .given .1) (c2 .before .before .begun-at .ensures .1) in (w .1, c8 .pre .1 .1, omega (arith, w .0, w .1, c8 .pre .1 .2))
 
-condition-at-enum-known-h-4 : (t : ℕ) → condition-at-lts.Need-enum-known-h-4 (begun-at-reads.Asked, begun-at-reads.Learnt, put-reads.Asked, put-reads.Learnt, conditions-to-below t, conditions-to.Post, negation-at-reads.Asked, negation-at-reads.Learnt, atom-at-reads.Asked, atom-at-reads.Learnt, compared-at-reads.Asked, compared-at-reads.Learnt, progress-of-reads.Asked, progress-of-reads.Learnt) (condition-at-at t) condition-at.Post
+condition-at-enum-known-h-4 : (t : ℕ) → condition-at-lts.Need-enum-known-h-4 (condition-at-claims t) (condition-at-at t) condition-at.Post
 condition-at-enum-known-h-4 t c = c .match .keys4
 
-condition-at-sub-compared-at : (t : ℕ) → condition-at-lts.Need-sub-compared-at (begun-at-reads.Asked, begun-at-reads.Learnt, put-reads.Asked, put-reads.Learnt, conditions-to-below t, conditions-to.Post, negation-at-reads.Asked, negation-at-reads.Learnt, atom-at-reads.Asked, atom-at-reads.Learnt, compared-at-reads.Asked, compared-at-reads.Learnt, progress-of-reads.Asked, progress-of-reads.Learnt) (condition-at-at t) condition-at.Post
+condition-at-sub-compared-at : (t : ℕ) → condition-at-lts.Need-sub-compared-at (condition-at-claims t) (condition-at-at t) condition-at.Post
 condition-at-sub-compared-at t c = let w = compared-place _ _ _ _ _ _ _ (c .before .h4 .given .1) (c .before .before .before .begun-at .ensures .1) in omega (arith, w .2)
 
-condition-at-compared-at-requires : (t : ℕ) → condition-at-lts.Need-compared-at-requires (begun-at-reads.Asked, begun-at-reads.Learnt, put-reads.Asked, put-reads.Learnt, conditions-to-below t, conditions-to.Post, negation-at-reads.Asked, negation-at-reads.Learnt, atom-at-reads.Asked, atom-at-reads.Learnt, compared-at-reads.Asked, compared-at-reads.Learnt, progress-of-reads.Asked, progress-of-reads.Learnt) (condition-at-at t) condition-at.Post
-condition-at-compared-at-requires t c κs = let w = compared-place _ _ _ _ _ _ _ (c .before .before .h4 .given .1) (c .before .before .before .before .begun-at .ensures .1) in (w .1, c .before .before .before .before .before .before .before .before .pre .1 .1, omega (arith, w .0, w .1, c .before .before .before .before .before .before .before .before .pre .1 .2), w .3)
+condition-at-compared-at-requires : (t : ℕ) → condition-at-lts.Need-compared-at-requires (condition-at-claims t) (condition-at-at t) condition-at.Post
+condition-at-compared-at-requires t c κs = let c2 = c .before .before in let c8 = c2 .before .before .before .before .before .before in let w = compared-place _ _ _ _ _ _ _ (c2 .h4 .given .1) (c2 .before .before .begun-at .ensures .1) in (w .1, c8 .pre .1 .1, omega (arith, w .0, w .1, c8 .pre .1 .2), w .3)
 
-condition-at-enum-known-h-5 : (t : ℕ) → condition-at-lts.Need-enum-known-h-5 (begun-at-reads.Asked, begun-at-reads.Learnt, put-reads.Asked, put-reads.Learnt, conditions-to-below t, conditions-to.Post, negation-at-reads.Asked, negation-at-reads.Learnt, atom-at-reads.Asked, atom-at-reads.Learnt, compared-at-reads.Asked, compared-at-reads.Learnt, progress-of-reads.Asked, progress-of-reads.Learnt) (condition-at-at t) condition-at.Post
+condition-at-enum-known-h-5 : (t : ℕ) → condition-at-lts.Need-enum-known-h-5 (condition-at-claims t) (condition-at-at t) condition-at.Post
 condition-at-enum-known-h-5 t c = c .match .keys5
 
-condition-at-progress-of-requires : (t : ℕ) → condition-at-lts.Need-progress-of-requires (begun-at-reads.Asked, begun-at-reads.Learnt, put-reads.Asked, put-reads.Learnt, conditions-to-below t, conditions-to.Post, negation-at-reads.Asked, negation-at-reads.Learnt, atom-at-reads.Asked, atom-at-reads.Learnt, compared-at-reads.Asked, compared-at-reads.Learnt, progress-of-reads.Asked, progress-of-reads.Learnt) (condition-at-at t) condition-at.Post
+condition-at-progress-of-requires : (t : ℕ) → condition-at-lts.Need-progress-of-requires (condition-at-claims t) (condition-at-at t) condition-at.Post
 condition-at-progress-of-requires t c κs = tt
 
-condition-at-same-length : (t : ℕ) → condition-at-lts.Need-same-length (begun-at-reads.Asked, begun-at-reads.Learnt, put-reads.Asked, put-reads.Learnt, conditions-to-below t, conditions-to.Post, negation-at-reads.Asked, negation-at-reads.Learnt, atom-at-reads.Asked, atom-at-reads.Learnt, compared-at-reads.Asked, compared-at-reads.Learnt, progress-of-reads.Asked, progress-of-reads.Learnt) (condition-at-at t) condition-at.Post
+condition-at-same-length : (t : ℕ) → condition-at-lts.Need-same-length (condition-at-claims t) (condition-at-at t) condition-at.Post
 condition-at-same-length t c = search needs
 
-condition-at-returns : (t : ℕ) → condition-at-lts.Need-returns (begun-at-reads.Asked, begun-at-reads.Learnt, put-reads.Asked, put-reads.Learnt, conditions-to-below t, conditions-to.Post, negation-at-reads.Asked, negation-at-reads.Learnt, atom-at-reads.Asked, atom-at-reads.Learnt, compared-at-reads.Asked, compared-at-reads.Learnt, progress-of-reads.Asked, progress-of-reads.Learnt) (condition-at-at t) condition-at.Post
-condition-at-returns t c = let w = and-place _ _ _ _ _ _ (c .before .before .before .before .before .before .before .before .before .h .given .1) (c .before .before .before .before .before .before .before .before .before .before .before .begun-at .ensures .1) in (λ x g. rw (condition-and (now (c .before .before .before .before .before .before .before .before .before .before .before .before .before .before .before .args .text)) (c .before .before .before .before .before .before .before .before .before .before .before .before .before .before .before .args .d) x (c .before .before .before .before .before .before .before .before .before .before .before .before .before .before .before .args .left) (c .before .before .before .before .before .before .before .before .before .before .before .before .before .before .before .args .from) (c .before .before .before .before .before .before .before .before .before .before .before .begun-at .result) (c .before .before .before .before .before .before .before .before .before .before .before .begun-at .ensures .0 x true _ _) _ _ (c .before .before .before .before .before .before .before .before .before .h .given .1)) (conjunction-written (now (c .before .before .before .before .before .before .before .before .before .before .before .before .before .before .before .args .text)) (c .before .before .before .before .before .before .before .before .before .before .before .before .before .before .before .args .d - 1) (condition (c .before .before .before .before .before .before .before .before .before .before .before .before .before .before .before .args .d - 1) (now (c .before .before .before .before .before .before .before .before .before .before .before .before .before .before .before .args .text)) x) (c .before .before .before .before .before .before .before .before .before .before .before .before .before .before .before .args .left) _ (now (c .before .before .before .before .before .before .before .before .before .before .before .before .before .before .before .args .code)) (c .before .before .before .before .before .before .before .before .before .before .before .before .before .before .before .args .used) (c .before .before .conditions-to .result) _ (rw (c .before .before .before .before .before .before .put .ensures) at (c .before .before .conditions-to .ensures .0 x (length (now (c .before .before .before .before .before .before .before .before .before .before .before .before .before .before .before .args .text)) + 1) g (omega arith)))), spent-behind (c .before .before .conditions-to .result) 0 _ _ _ _ _ (omega (arith, w .0)) (omega arith) (omega (arith, w .0)) (c .before .before .conditions-to .ensures .1))
+condition-at-returns : (t : ℕ) → condition-at-lts.Need-returns (condition-at-claims t) (condition-at-at t) condition-at.Post
+condition-at-returns t c = let c2 = c .before .before in let c6 = c2 .before .before .before .before in let c9 = c6 .before .before .before in let c11 = c9 .before .before in let c15 = c11 .before .before .before .before in let w = and-place _ _ _ _ _ _ (c9 .h .given .1) (c11 .begun-at .ensures .1) in (λ x g. rw (condition-and (now (c15 .args .text)) (c15 .args .d) x (c15 .args .left) (c15 .args .from) (c11 .begun-at .result) (c11 .begun-at .ensures .0 x true _ _) _ _ (c9 .h .given .1)) (conjunction-written (now (c15 .args .text)) (c15 .args .d - 1) (condition (c15 .args .d - 1) (now (c15 .args .text)) x) (c15 .args .left) _ (now (c15 .args .code)) (c15 .args .used) (c2 .conditions-to .result) _ (rw (c6 .put .ensures) at (c2 .conditions-to .ensures .0 x (length (now (c15 .args .text)) + 1) g (omega arith)))), spent-behind (c2 .conditions-to .result) 0 _ _ _ _ _ (omega (arith, w .0)) (omega arith) (omega (arith, w .0)) (c2 .conditions-to .ensures .1))
 
-condition-at-same-length-2 : (t : ℕ) → condition-at-lts.Need-same-length-2 (begun-at-reads.Asked, begun-at-reads.Learnt, put-reads.Asked, put-reads.Learnt, conditions-to-below t, conditions-to.Post, negation-at-reads.Asked, negation-at-reads.Learnt, atom-at-reads.Asked, atom-at-reads.Learnt, compared-at-reads.Asked, compared-at-reads.Learnt, progress-of-reads.Asked, progress-of-reads.Learnt) (condition-at-at t) condition-at.Post
+condition-at-same-length-2 : (t : ℕ) → condition-at-lts.Need-same-length-2 (condition-at-claims t) (condition-at-at t) condition-at.Post
 condition-at-same-length-2 t c = search needs
 
-condition-at-returns-2 : (t : ℕ) → condition-at-lts.Need-returns-2 (begun-at-reads.Asked, begun-at-reads.Learnt, put-reads.Asked, put-reads.Learnt, conditions-to-below t, conditions-to.Post, negation-at-reads.Asked, negation-at-reads.Learnt, atom-at-reads.Asked, atom-at-reads.Learnt, compared-at-reads.Asked, compared-at-reads.Learnt, progress-of-reads.Asked, progress-of-reads.Learnt) (condition-at-at t) condition-at.Post
-condition-at-returns-2 t c = let w = not-place _ _ _ _ _ _ (c .before .before .before .before .before .h2 .given .1) (c .before .before .before .before .before .before .before .begun-at .ensures .1) in (λ x g. rw (condition-not (now (c .before .before .before .before .before .before .before .before .before .before .before .args .text)) (c .before .before .before .before .before .before .before .before .before .before .before .args .d) x (c .before .before .before .before .before .before .before .before .before .before .before .args .left) (c .before .before .before .before .before .before .before .before .before .before .before .args .from) (c .before .before .before .before .before .before .before .begun-at .result) (c .before .before .before .before .before .before .before .begun-at .ensures .0 x true _ _) _ _ (c .before .before .before .before .before .h2 .given .1)) (c .before .before .negation-at .ensures .0 x g), spent-behind (c .before .before .negation-at .result) 0 _ _ _ _ _ (omega (arith, w .0)) (omega arith) (omega (arith, w .0)) (c .before .before .negation-at .ensures .1))
+condition-at-returns-2 : (t : ℕ) → condition-at-lts.Need-returns-2 (condition-at-claims t) (condition-at-at t) condition-at.Post
+condition-at-returns-2 t c = let c2 = c .before .before in let c5 = c2 .before .before .before in let w = not-place _ _ _ _ _ _ (c5 .h2 .given .1) (c5 .before .before .begun-at .ensures .1) in (λ x g. rw (condition-not _ _ x (c5 .before .before .before .before .before .before .args .left) _ _ (c5 .before .before .begun-at .ensures .0 x true _ _) _ _ (c5 .h2 .given .1)) (c2 .negation-at .ensures .0 x g), spent-behind _ 0 _ _ _ _ _ (omega (arith, w .0)) (omega arith) (omega (arith, w .0)) (c2 .negation-at .ensures .1))
 
-condition-at-same-length-3 : (t : ℕ) → condition-at-lts.Need-same-length-3 (begun-at-reads.Asked, begun-at-reads.Learnt, put-reads.Asked, put-reads.Learnt, conditions-to-below t, conditions-to.Post, negation-at-reads.Asked, negation-at-reads.Learnt, atom-at-reads.Asked, atom-at-reads.Learnt, compared-at-reads.Asked, compared-at-reads.Learnt, progress-of-reads.Asked, progress-of-reads.Learnt) (condition-at-at t) condition-at.Post
+condition-at-same-length-3 : (t : ℕ) → condition-at-lts.Need-same-length-3 (condition-at-claims t) (condition-at-at t) condition-at.Post
 condition-at-same-length-3 t c = search needs
 
-condition-at-returns-3 : (t : ℕ) → condition-at-lts.Need-returns-3 (begun-at-reads.Asked, begun-at-reads.Learnt, put-reads.Asked, put-reads.Learnt, conditions-to-below t, conditions-to.Post, negation-at-reads.Asked, negation-at-reads.Learnt, atom-at-reads.Asked, atom-at-reads.Learnt, compared-at-reads.Asked, compared-at-reads.Learnt, progress-of-reads.Asked, progress-of-reads.Learnt) (condition-at-at t) condition-at.Post
-condition-at-returns-3 t c = let w = atom-place _ _ _ _ _ _ (c .before .before .before .before .before .h3 .given .1) (c .before .before .before .before .before .before .before .begun-at .ensures .1) in (λ x g. rw (condition-atom (now (c .before .before .before .before .before .before .before .before .before .before .before .args .text)) (c .before .before .before .before .before .before .before .before .before .before .before .args .d) x (c .before .before .before .before .before .before .before .before .before .before .before .args .left) (c .before .before .before .before .before .before .before .before .before .before .before .args .from) (c .before .before .before .before .before .before .before .begun-at .result) (c .before .before .before .before .before .before .before .begun-at .ensures .0 x true _ _) _ _ (c .before .before .before .before .before .h3 .given .1)) (c .before .before .atom-at .ensures .0 x g), spent-behind (c .before .before .atom-at .result) 0 _ _ _ _ _ (omega (arith, w .0)) (omega arith) (omega (arith, w .0)) (c .before .before .atom-at .ensures .1))
+condition-at-returns-3 : (t : ℕ) → condition-at-lts.Need-returns-3 (condition-at-claims t) (condition-at-at t) condition-at.Post
+condition-at-returns-3 t c = let c2 = c .before .before in let c5 = c2 .before .before .before in let w = atom-place _ _ _ _ _ _ (c5 .h3 .given .1) (c5 .before .before .begun-at .ensures .1) in (λ x g. rw (condition-atom _ _ x (c5 .before .before .before .before .before .before .args .left) _ _ (c5 .before .before .begun-at .ensures .0 x true _ _) _ _ (c5 .h3 .given .1)) (c2 .atom-at .ensures .0 x g), spent-behind _ 0 _ _ _ _ _ (omega (arith, w .0)) (omega arith) (omega (arith, w .0)) (c2 .atom-at .ensures .1))
 
-condition-at-same-length-4 : (t : ℕ) → condition-at-lts.Need-same-length-4 (begun-at-reads.Asked, begun-at-reads.Learnt, put-reads.Asked, put-reads.Learnt, conditions-to-below t, conditions-to.Post, negation-at-reads.Asked, negation-at-reads.Learnt, atom-at-reads.Asked, atom-at-reads.Learnt, compared-at-reads.Asked, compared-at-reads.Learnt, progress-of-reads.Asked, progress-of-reads.Learnt) (condition-at-at t) condition-at.Post
+condition-at-same-length-4 : (t : ℕ) → condition-at-lts.Need-same-length-4 (condition-at-claims t) (condition-at-at t) condition-at.Post
 condition-at-same-length-4 t c = search needs
 
-condition-at-returns-4 : (t : ℕ) → condition-at-lts.Need-returns-4 (begun-at-reads.Asked, begun-at-reads.Learnt, put-reads.Asked, put-reads.Learnt, conditions-to-below t, conditions-to.Post, negation-at-reads.Asked, negation-at-reads.Learnt, atom-at-reads.Asked, atom-at-reads.Learnt, compared-at-reads.Asked, compared-at-reads.Learnt, progress-of-reads.Asked, progress-of-reads.Learnt) (condition-at-at t) condition-at.Post
-condition-at-returns-4 t c = let w = compared-place _ _ _ _ _ _ _ (c .before .before .before .before .before .h4 .given .1) (c .before .before .before .before .before .before .before .begun-at .ensures .1) in (λ x g. rw (condition-comparison (now (c .before .before .before .before .before .before .before .before .before .before .before .args .text)) (c .before .before .before .before .before .before .before .before .before .before .before .args .d) x (c .before .before .before .before .before .before .before .before .before .before .before .args .left) (c .before .before .before .before .before .before .before .before .before .before .before .args .from) (c .before .before .before .before .before .before .before .begun-at .result) (c .before .before .before .before .before .before .before .begun-at .ensures .0 x true _ _) _ _ _ (c .before .before .before .before .before .h4 .given .1)) (c .before .before .compared-at .ensures .0 x g), spent-behind (c .before .before .compared-at .result) 2 _ _ _ _ _ (omega (arith, w .0)) (omega arith) (omega (arith, w .0)) (c .before .before .compared-at .ensures .1))
+condition-at-returns-4 : (t : ℕ) → condition-at-lts.Need-returns-4 (condition-at-claims t) (condition-at-at t) condition-at.Post
+condition-at-returns-4 t c = let c2 = c .before .before in let c5 = c2 .before .before .before in let w = compared-place _ _ _ _ _ _ _ (c5 .h4 .given .1) (c5 .before .before .begun-at .ensures .1) in (λ x g. rw (condition-comparison _ _ x (c5 .before .before .before .before .before .before .args .left) _ _ (c5 .before .before .begun-at .ensures .0 x true _ _) _ _ _ (c5 .h4 .given .1)) (c2 .compared-at .ensures .0 x g), spent-behind _ 2 _ _ _ _ _ (omega (arith, w .0)) (omega arith) (omega (arith, w .0)) (c2 .compared-at .ensures .1))
 
-condition-at-returns-5 : (t : ℕ) → condition-at-lts.Need-returns-5 (begun-at-reads.Asked, begun-at-reads.Learnt, put-reads.Asked, put-reads.Learnt, conditions-to-below t, conditions-to.Post, negation-at-reads.Asked, negation-at-reads.Learnt, atom-at-reads.Asked, atom-at-reads.Learnt, compared-at-reads.Asked, compared-at-reads.Learnt, progress-of-reads.Asked, progress-of-reads.Learnt) (condition-at-at t) condition-at.Post
-condition-at-returns-5 t c = (λ x g. condition-other (now (c .before .before .before .before .before .before .before .before .args .text)) (c .before .before .before .before .before .before .before .before .args .d) x (c .before .before .before .before .before .before .before .before .args .left) (c .before .before .before .before .before .before .before .before .args .from) (c .before .before .before .before .begun-at .result) (c .before .before .before .before .begun-at .ensures .0 x true _ _) _ _ _ _ _ (c .before .before .h5 .given .1) (c .progress-of .ensures), let x = (c .before .before .before .before .before .before .before .before .pre .1 .1 .0) in condition-ended (now (c .before .before .before .before .before .before .before .before .args .text)) (c .before .before .before .before .before .before .before .before .args .d) x (c .before .before .before .before .before .before .before .before .args .left) (c .before .before .before .before .before .before .before .before .args .from) (c .before .before .before .before .begun-at .result) (c .before .before .before .before .begun-at .ensures .0 x true _ _) _ _ _ _ _ _ (c .before .before .h5 .given .1) (c .progress-of .ensures))
+condition-at-returns-5 : (t : ℕ) → condition-at-lts.Need-returns-5 (condition-at-claims t) (condition-at-at t) condition-at.Post
+condition-at-returns-5 t c = let c2 = c .before .before in let c4 = c2 .before .before in let c8 = c4 .before .before .before .before in (λ x g. condition-other _ _ x (c8 .args .left) _ _ (c4 .begun-at .ensures .0 x true _ _) _ _ _ _ _ (c2 .h5 .given .1) (c .progress-of .ensures), let x = (c8 .pre .1 .1 .0) in condition-ended _ _ x (c8 .args .left) _ _ (c4 .begun-at .ensures .0 x true _ _) _ _ _ _ _ _ (c2 .h5 .given .1) (c .progress-of .ensures))
 
 abbrev conditions-to-Inv-loop : conditions-to-lts.InvT-loop
 conditions-to-Inv-loop text from d tables counts code₀ used left at₀ u₀ l₀ code at u l = (from ≤ at) × (at ≤ length text) × (length code ≡ length code₀) × (used ≤ u) × (u + from ≤ used + at) × ((x : Scope) → Scoped tables counts x → Onward text d (condition d text x) from code₀ used left code at u l)
@@ -148,47 +152,51 @@ conditions-to-Inv-loop text from d tables counts code₀ used left at₀ u₀ l�
 abbrev conditions-to-μ-loop : conditions-to-lts.MeasureT-loop
 conditions-to-μ-loop text from d tables counts code₀ used left at₀ u₀ l₀ code at u l = length text - at
 
-conditions-to-loop-holds : (t : ℕ) → conditions-to-lts.Need-loop-holds (token-at-reads.Asked, token-at-reads.Learnt, put-reads.Asked, put-reads.Learnt, condition-at-below t, condition-at.Post) (conditions-to-at t) conditions-to.Post conditions-to-Inv-loop conditions-to-μ-loop
+abbrev conditions-to-claims : ℕ → conditions-to-lts.Claims
+conditions-to-claims t =
+    (token-at-reads.Asked, token-at-reads.Learnt, put-reads.Asked, put-reads.Learnt, condition-at-below t, condition-at.Post)
+
+conditions-to-loop-holds : (t : ℕ) → conditions-to-lts.Need-loop-holds (conditions-to-claims t) (conditions-to-at t) conditions-to.Post conditions-to-Inv-loop conditions-to-μ-loop
 conditions-to-loop-holds t c = (omega arith, c .before .before .before .pre .1 .0, refl, omega arith, omega arith, λ x g. onward-start _ _ _ _ _ _ _)
 
-conditions-to-token-at-requires : (t : ℕ) → conditions-to-lts.Need-token-at-requires (token-at-reads.Asked, token-at-reads.Learnt, put-reads.Asked, put-reads.Learnt, condition-at-below t, condition-at.Post) (conditions-to-at t) conditions-to.Post conditions-to-Inv-loop conditions-to-μ-loop
+conditions-to-token-at-requires : (t : ℕ) → conditions-to-lts.Need-token-at-requires (conditions-to-claims t) (conditions-to-at t) conditions-to.Post conditions-to-Inv-loop conditions-to-μ-loop
 conditions-to-token-at-requires t c κs = tt
 
-conditions-to-enum-known-t : (t : ℕ) → conditions-to-lts.Need-enum-known-t (token-at-reads.Asked, token-at-reads.Learnt, put-reads.Asked, put-reads.Learnt, condition-at-below t, condition-at.Post) (conditions-to-at t) conditions-to.Post conditions-to-Inv-loop conditions-to-μ-loop
+conditions-to-enum-known-t : (t : ℕ) → conditions-to-lts.Need-enum-known-t (conditions-to-claims t) (conditions-to-at t) conditions-to.Post conditions-to-Inv-loop conditions-to-μ-loop
 conditions-to-enum-known-t t c = c .match .keys1
 
-conditions-to-put-requires : (t : ℕ) → conditions-to-lts.Need-put-requires (token-at-reads.Asked, token-at-reads.Learnt, put-reads.Asked, put-reads.Learnt, condition-at-below t, condition-at.Post) (conditions-to-at t) conditions-to.Post conditions-to-Inv-loop conditions-to-μ-loop
+conditions-to-put-requires : (t : ℕ) → conditions-to-lts.Need-put-requires (conditions-to-claims t) (conditions-to-at t) conditions-to.Post conditions-to-Inv-loop conditions-to-μ-loop
 conditions-to-put-requires t c κs = omega arith
 
-conditions-to-add-t21 : (t : ℕ) → conditions-to-lts.Need-add-t21 (token-at-reads.Asked, token-at-reads.Learnt, put-reads.Asked, put-reads.Learnt, condition-at-below t, condition-at.Post) (conditions-to-at t) conditions-to.Post conditions-to-Inv-loop conditions-to-μ-loop
-conditions-to-add-t21 t c = omega (arith, c .before .before .before .before .before .before .before .before .before .before .before .before .pre .1 .2, c .before .before .before .before .before .before .before .before .loop .inv .0, c .before .before .before .before .before .before .before .before .loop .inv .1, c .before .before .before .before .before .before .before .before .loop .inv .4)
+conditions-to-add-t21 : (t : ℕ) → conditions-to-lts.Need-add-t21 (conditions-to-claims t) (conditions-to-at t) conditions-to.Post conditions-to-Inv-loop conditions-to-μ-loop
+conditions-to-add-t21 t c = let c8 = c .before .before .before .before .before .before .before .before in omega (arith, c8 .before .before .before .before .pre .1 .2, c8 .loop .inv .0, c8 .loop .inv .1, c8 .loop .inv .4)
 
-conditions-to-same-length : (t : ℕ) → conditions-to-lts.Need-same-length (token-at-reads.Asked, token-at-reads.Learnt, put-reads.Asked, put-reads.Learnt, condition-at-below t, condition-at.Post) (conditions-to-at t) conditions-to.Post conditions-to-Inv-loop conditions-to-μ-loop
+conditions-to-same-length : (t : ℕ) → conditions-to-lts.Need-same-length (conditions-to-claims t) (conditions-to-at t) conditions-to.Post conditions-to-Inv-loop conditions-to-μ-loop
 conditions-to-same-length t c = search needs
 
-conditions-to-returns : (t : ℕ) → conditions-to-lts.Need-returns (token-at-reads.Asked, token-at-reads.Learnt, put-reads.Asked, put-reads.Learnt, condition-at-below t, condition-at.Post) (conditions-to-at t) conditions-to.Post conditions-to-Inv-loop conditions-to-μ-loop
-conditions-to-returns t c = let w = close-in (now (c .before .before .before .before .before .before .before .before .before .before .before .before .args .text)) (c .before .before .before .before .before .before .before .before .loop .at) (c .before .before .before .before .before .before .before .before .loop .inv .1) _ _ (sym (c .before .before .before .before .before .before .before .token-at .ensures) ∙ c .before .before .before .before .before .t .given .1) in (λ x k g q. onward-end (now (c .before .before .before .before .before .before .before .before .before .before .before .before .args .text)) (c .before .before .before .before .before .before .before .before .before .before .before .before .args .d) (condition (c .before .before .before .before .before .before .before .before .before .before .before .before .args .d) (now (c .before .before .before .before .before .before .before .before .before .before .before .before .args .text)) x) (c .before .before .before .before .before .before .before .before .before .before .before .before .args .from) (now (c .before .before .before .before .before .before .before .before .before .before .before .before .args .code)) (c .before .before .before .before .before .before .before .before .before .before .before .before .args .used) (c .before .before .before .before .before .before .before .before .before .before .before .before .args .left) (c .before .before .before .before .before .before .before .before .loop .code) (c .before .before .before .before .before .before .before .before .loop .at) (c .before .before .before .before .before .before .before .before .loop .u) (c .before .before .before .before .before .before .before .before .loop .l) (c .before .before .before .before .before .before .before .before .loop .inv .5 x g) k q _ _ _ (sym (c .before .before .before .before .before .before .before .token-at .ensures) ∙ c .before .before .before .before .before .t .given .1) (c .before .before .put .ensures), spent-done _ _ _ _ _ _ (omega (arith, w .0, c .before .before .before .before .before .before .before .before .loop .inv .0)) (w .1) (omega (arith, c .before .before .before .before .before .before .before .before .loop .inv .3)) (omega (arith, w .0, c .before .before .before .before .before .before .before .before .loop .inv .4)))
+conditions-to-returns : (t : ℕ) → conditions-to-lts.Need-returns (conditions-to-claims t) (conditions-to-at t) conditions-to.Post conditions-to-Inv-loop conditions-to-μ-loop
+conditions-to-returns t c = let c2 = c .before .before in let c5 = c2 .before .before .before in let c7 = c5 .before .before in let w = close-in _ _ (c7 .before .loop .inv .1) _ _ (sym (c7 .token-at .ensures) ∙ c5 .t .given .1) in (λ x k g q. onward-end _ _ (condition _ _ x) _ _ _ (c7 .before .before .before .before .before .args .left) _ _ _ _ (c7 .before .loop .inv .5 x g) k q _ _ _ (sym (c7 .token-at .ensures) ∙ c5 .t .given .1) (c2 .put .ensures), spent-done _ _ _ _ _ _ (omega (arith, w .0, c7 .before .loop .inv .0)) (w .1) (omega (arith, c7 .before .loop .inv .3)) (omega (arith, w .0, c7 .before .loop .inv .4)))
 
-conditions-to-condition-at-requires : (t : ℕ) → conditions-to-lts.Need-condition-at-requires (token-at-reads.Asked, token-at-reads.Learnt, put-reads.Asked, put-reads.Learnt, condition-at-below t, condition-at.Post) (conditions-to-at t) conditions-to.Post conditions-to-Inv-loop conditions-to-μ-loop
-conditions-to-condition-at-requires t c κs = (omega (arith, c .before .before .before .before .before .before .before .pre .0, c .before .before .before .loop .inv .0, c .before .before .before .loop .inv .1), (c .before .before .before .loop .inv .1, c .before .before .before .before .before .before .before .pre .1 .1, omega (arith, c .before .before .before .before .before .before .before .pre .1 .2, c .before .before .before .loop .inv .0, c .before .before .before .loop .inv .1, c .before .before .before .loop .inv .4)))
+conditions-to-condition-at-requires : (t : ℕ) → conditions-to-lts.Need-condition-at-requires (conditions-to-claims t) (conditions-to-at t) conditions-to.Post conditions-to-Inv-loop conditions-to-μ-loop
+conditions-to-condition-at-requires t c κs = let c3 = c .before .before .before in let c7 = c3 .before .before .before .before in (omega (arith, c7 .pre .0, c3 .loop .inv .0, c3 .loop .inv .1), (c3 .loop .inv .1, c7 .pre .1 .1, omega (arith, c7 .pre .1 .2, c3 .loop .inv .0, c3 .loop .inv .1, c3 .loop .inv .4)))
 
-conditions-to-enum-known-x : (t : ℕ) → conditions-to-lts.Need-enum-known-x (token-at-reads.Asked, token-at-reads.Learnt, put-reads.Asked, put-reads.Learnt, condition-at-below t, condition-at.Post) (conditions-to-at t) conditions-to.Post conditions-to-Inv-loop conditions-to-μ-loop
+conditions-to-enum-known-x : (t : ℕ) → conditions-to-lts.Need-enum-known-x (conditions-to-claims t) (conditions-to-at t) conditions-to.Post conditions-to-Inv-loop conditions-to-μ-loop
 conditions-to-enum-known-x t c = c .match2 .keys1
 
-conditions-to-enum-told : (t : ℕ) → conditions-to-lts.Need-enum-told (token-at-reads.Asked, token-at-reads.Learnt, put-reads.Asked, put-reads.Learnt, condition-at-below t, condition-at.Post) (conditions-to-at t) conditions-to.Post conditions-to-Inv-loop conditions-to-μ-loop
+conditions-to-enum-told : (t : ℕ) → conditions-to-lts.Need-enum-told (conditions-to-claims t) (conditions-to-at t) conditions-to.Post conditions-to-Inv-loop conditions-to-μ-loop
 conditions-to-enum-told t c = c .match2 .keys2
 
-conditions-to-same-length-2 : (t : ℕ) → conditions-to-lts.Need-same-length-2 (token-at-reads.Asked, token-at-reads.Learnt, put-reads.Asked, put-reads.Learnt, condition-at-below t, condition-at.Post) (conditions-to-at t) conditions-to.Post conditions-to-Inv-loop conditions-to-μ-loop
+conditions-to-same-length-2 : (t : ℕ) → conditions-to-lts.Need-same-length-2 (conditions-to-claims t) (conditions-to-at t) conditions-to.Post conditions-to-Inv-loop conditions-to-μ-loop
 conditions-to-same-length-2 t c = search needs
 
-conditions-to-returns-2 : (t : ℕ) → conditions-to-lts.Need-returns-2 (token-at-reads.Asked, token-at-reads.Learnt, put-reads.Asked, put-reads.Learnt, condition-at-below t, condition-at.Post) (conditions-to-at t) conditions-to.Post conditions-to-Inv-loop conditions-to-μ-loop
-conditions-to-returns-2 t c = (λ x k g q. onward-refused (now (c .before .before .before .before .before .before .before .before .before .before .before .before .args .text)) (c .before .before .before .before .before .before .before .before .before .before .before .before .args .d) (condition (c .before .before .before .before .before .before .before .before .before .before .before .before .args .d) (now (c .before .before .before .before .before .before .before .before .before .before .before .before .args .text)) x) (c .before .before .before .before .before .before .before .before .before .before .before .before .args .from) (now (c .before .before .before .before .before .before .before .before .before .before .before .before .args .code)) (c .before .before .before .before .before .before .before .before .before .before .before .before .args .used) (c .before .before .before .before .before .before .before .before .before .before .before .before .args .left) (c .before .before .before .before .before .before .before .before .loop .code) (c .before .before .before .before .before .before .before .before .loop .at) (c .before .before .before .before .before .before .before .before .loop .u) (c .before .before .before .before .before .before .before .before .loop .l) (rw (c .before .before .before .before .before .before .before .token-at .ensures) at (c .before .before .before .before .before .before .match .keys2)) (c .before .before .before .before .condition-at .result) _ (c .before .before .before .before .condition-at .ensures .0 x g) (c .before .before .before .before .before .before .before .before .loop .inv .5 x g) k q _ _ (c .enum-told .given .1), spent-refused _ _ _ _ _ _ _ (c .enum-told .given .1))
+conditions-to-returns-2 : (t : ℕ) → conditions-to-lts.Need-returns-2 (conditions-to-claims t) (conditions-to-at t) conditions-to.Post conditions-to-Inv-loop conditions-to-μ-loop
+conditions-to-returns-2 t c = let c4 = c .before .before .before .before in let c6 = c4 .before .before in (λ x k g q. onward-refused _ _ (condition _ _ x) _ _ _ (c6 .before .before .before .before .before .before .args .left) _ _ _ _ (rw (c6 .before .token-at .ensures) at (c6 .match .keys2)) _ _ (c4 .condition-at .ensures .0 x g) (c6 .before .before .loop .inv .5 x g) k q _ _ (c .enum-told .given .1), spent-refused _ _ _ _ _ _ _ (c .enum-told .given .1))
 
-conditions-to-loop-less : (t : ℕ) → conditions-to-lts.Need-loop-less (token-at-reads.Asked, token-at-reads.Learnt, put-reads.Asked, put-reads.Learnt, condition-at-below t, condition-at.Post) (conditions-to-at t) conditions-to.Post conditions-to-Inv-loop conditions-to-μ-loop
+conditions-to-loop-less : (t : ℕ) → conditions-to-lts.Need-loop-less (conditions-to-claims t) (conditions-to-at t) conditions-to.Post conditions-to-Inv-loop conditions-to-μ-loop
 conditions-to-loop-less t c = let w = spent-at _ _ _ _ _ _ _ _ (c .before .x .given .1) (c .before .before .before .before .before .condition-at .ensures .1) in omega (arith, w .0, w .1)
 
-conditions-to-loop-again : (t : ℕ) → conditions-to-lts.Need-loop-again (token-at-reads.Asked, token-at-reads.Learnt, put-reads.Asked, put-reads.Learnt, condition-at-below t, condition-at.Post) (conditions-to-at t) conditions-to.Post conditions-to-Inv-loop conditions-to-μ-loop
-conditions-to-loop-again t c = let w = spent-at _ _ _ _ _ _ _ _ (c .before .x .given .1) (c .before .before .before .before .before .condition-at .ensures .1) in (omega (arith, w .0, c .before .before .before .before .before .before .before .before .before .loop .inv .0), w .1, search needs, omega (arith, w .2, c .before .before .before .before .before .before .before .before .before .loop .inv .3), omega (arith, w .3, c .before .before .before .before .before .before .before .before .before .loop .inv .4), λ x g. onward-more (now (c .before .before .before .before .before .before .before .before .before .before .before .before .before .args .text)) (c .before .before .before .before .before .before .before .before .before .before .before .before .before .args .d) (condition (c .before .before .before .before .before .before .before .before .before .before .before .before .before .args .d) (now (c .before .before .before .before .before .before .before .before .before .before .before .before .before .args .text)) x) (c .before .before .before .before .before .before .before .before .before .before .before .before .before .args .from) (now (c .before .before .before .before .before .before .before .before .before .before .before .before .before .args .code)) (c .before .before .before .before .before .before .before .before .before .before .before .before .before .args .used) (c .before .before .before .before .before .before .before .before .before .before .before .before .before .args .left) (c .before .before .before .before .before .before .before .before .before .loop .code) (c .before .before .before .before .before .before .before .before .before .loop .at) (c .before .before .before .before .before .before .before .before .before .loop .u) (c .before .before .before .before .before .before .before .before .before .loop .l) (rw (c .before .before .before .before .before .before .before .before .token-at .ensures) at (c .before .before .before .before .before .before .before .match .keys2)) (c .before .before .before .before .before .condition-at .result) _ (c .before .before .before .before .before .condition-at .ensures .0 x g) (c .before .before .before .before .before .before .before .before .before .loop .inv .5 x g) _ _ _ (w .0) (w .1) (c .before .x .given .1))
+conditions-to-loop-again : (t : ℕ) → conditions-to-lts.Need-loop-again (conditions-to-claims t) (conditions-to-at t) conditions-to.Post conditions-to-Inv-loop conditions-to-μ-loop
+conditions-to-loop-again t c = let c1 = c .before in let c5 = c1 .before .before .before .before in let c7 = c5 .before .before in let c9 = c7 .before .before in let w = spent-at _ _ _ _ _ _ _ _ (c1 .x .given .1) (c5 .condition-at .ensures .1) in (omega (arith, w .0, c9 .loop .inv .0), w .1, search needs, omega (arith, w .2, c9 .loop .inv .3), omega (arith, w .3, c9 .loop .inv .4), λ x g. onward-more _ _ (condition _ _ x) _ _ _ (c9 .before .before .before .before .args .left) _ _ _ _ (rw (c7 .before .token-at .ensures) at (c7 .match .keys2)) _ _ (c5 .condition-at .ensures .0 x g) (c9 .loop .inv .5 x g) _ _ _ (w .0) (w .1) (c1 .x .given .1))
 
 pub +condition-at+conditions-to-spec : {M : Type 1} → statement M
 +condition-at+conditions-to-spec =

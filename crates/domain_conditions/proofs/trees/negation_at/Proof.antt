@@ -23,7 +23,7 @@ same-length : tie.Need-same-length
 same-length c = search needs
 
 returns : tie.Need-returns
-returns c = (λ x g. negation-refused (now (c .before .before .before .before .before .before .before .before .before .args .text)) (c .before .before .before .before .before .before .before .before .before .args .d) x (c .before .before .before .before .before .before .before .before .before .args .left) (c .before .before .before .before .before .before .before .before .before .args .from) (now (c .before .before .before .before .before .before .before .before .before .args .code)) (c .before .before .before .before .before .before .before .before .before .args .used) (c .before .before .before .before .negated-at .result) _ (c .before .before .before .before .negated-at .ensures .0 x g) _ _ (c .enum-told .given .1), spent-refused _ _ _ _ _ _ _ (c .enum-told .given .1))
+returns c = (λ x g. negation-refused _ _ x (c .before .before .before .before .before .before .before .before .before .args .left) _ _ _ _ _ (c .before .before .before .before .negated-at .ensures .0 x g) _ _ (c .enum-told .given .1), spent-refused _ _ _ _ _ _ _ (c .enum-told .given .1))
 
 closed-at-requires : tie.Need-closed-at-requires
 closed-at-requires c κs = let w = spent-at _ _ _ _ _ _ _ _ (c .before .x .given .1) (c .before .before .before .before .before .negated-at .ensures .1) in w .1
@@ -32,7 +32,7 @@ same-length-2 : tie.Need-same-length-2
 same-length-2 c = search needs
 
 returns-2 : tie.Need-returns-2
-returns-2 c = let w = spent-at _ _ _ _ _ _ _ _ (c .before .before .x .given .1) (c .before .before .before .before .before .before .negated-at .ensures .1) in (λ x g. negation-done (now (c .before .before .before .before .before .before .before .before .before .before .before .args .text)) (c .before .before .before .before .before .before .before .before .before .before .before .args .d) x (c .before .before .before .before .before .before .before .before .before .before .before .args .left) (c .before .before .before .before .before .before .before .before .before .before .before .args .from) (now (c .before .before .before .before .before .before .before .before .before .before .before .args .code)) (c .before .before .before .before .before .before .before .before .before .before .before .args .used) (c .before .before .before .before .before .before .negated-at .result) _ (c .before .before .before .before .before .before .negated-at .ensures .0 x g) _ _ _ (c .closed-at .result) (c .before .before .x .given .1) (c .closed-at .ensures .0), spent-closed (c .closed-at .result) (closing (now (c .before .before .before .before .before .before .before .before .before .before .before .args .text)) (c .before .before .before .before .before .before .before .before .before .before .before .args .d) (c .before .before .x .given .0 .0)) 0 _ _ _ (c .before .before .x .given .0 .1 .1 .0) _ _ (c .closed-at .ensures .0) (omega (arith, w .0)) (w .2) (omega (arith, w .3)) (c .closed-at .ensures .1))
+returns-2 c = let c2 = c .before .before in let c6 = c2 .before .before .before .before in let w = spent-at _ _ _ _ _ _ _ _ (c2 .x .given .1) (c6 .negated-at .ensures .1) in (λ x g. negation-done _ _ x (c6 .before .before .before .before .before .args .left) _ _ _ _ _ (c6 .negated-at .ensures .0 x g) _ _ _ _ (c2 .x .given .1) (c .closed-at .ensures .0), spent-closed _ (closing _ _ (c2 .x .given .0 .0)) 0 _ _ _ (c2 .x .given .0 .1 .1 .0) _ _ (c .closed-at .ensures .0) (omega (arith, w .0)) (w .2) (omega (arith, w .3)) (c .closed-at .ensures .1))
 
 pub negation-at-spec : {M : Type 1} → statement M
 negation-at-spec =

@@ -13,7 +13,7 @@ use Rattle.domain_effects.proofs.singles.change_at.Statement.{statement
 use Rattle.domain_effects.proofs.singles.change_at.Tie as tie
 
 returns : tie.Need-returns
-returns c = (λ x y h q. written-refused effectsCells _ _ _ _ _ 12 _ (change-many (now (c .before .before .before .before .args .text)) (c .before .before .before .before .args .d) x y (c .before .before .before .before .args .p) (c .before .before .before .before .args .e) (c .before .before .before .before .args .left) (c .if1 .taken)) refl, spent-refused _ _ _ _ _ 12 _ refl)
+returns c = (λ x y h q. written-refused effectsCells _ _ _ _ _ 12 _ (change-many _ _ x y _ _ (c .before .before .before .before .args .left) (c .if1 .taken)) refl, spent-refused _ _ _ _ _ 12 _ refl)
 
 target-at-requires : tie.Need-target-at-requires
 target-at-requires c κs = search needs
@@ -31,10 +31,10 @@ same-length : tie.Need-same-length
 same-length c = search needs
 
 returns-2 : tie.Need-returns-2
-returns-2 c = (λ x y h q. change-untargeted (now (c .before .before .before .before .before .before .before .before .before .before .before .args .text)) (c .before .before .before .before .before .before .before .before .before .before .before .args .d) x y (c .before .before .before .before .before .before .before .before .before .before .before .args .p) (c .before .before .before .before .before .before .before .before .before .before .before .args .e) (c .before .before .before .before .before .before .before .before .before .before .before .args .left) (c .before .before .before .before .before .before .before .if1 .left) (c .before .before .before .before .before .before .before .before .before .before .before .args .tag) q (now (c .before .before .before .before .before .before .before .before .before .before .before .args .code)) (c .before .before .before .before .before .before .before .before .before .before .before .args .used) (c .before .before .before .before .before .target-at .result) _ (c .before .before .before .before .before .target-at .ensures .0 x h) _ _ (c .progress-of .result) _ (c .before .enum-told .given .1) (c .progress-of .ensures), spent-refused _ _ _ _ _ _ _ (c .progress-of .ensures ∙ ap (passed (c .before .before .before .before .before .before .before .before .before .before .before .args .left)) (c .before .enum-told .given .1)))
+returns-2 c = let c5 = c .before .before .before .before .before in let c11 = c5 .before .before .before .before .before .before in (λ x y h q. change-untargeted _ _ x y _ _ (c11 .args .left) (c5 .before .before .if1 .left) _ q _ _ _ _ (c5 .target-at .ensures .0 x h) _ _ _ _ (c .before .enum-told .given .1) (c .progress-of .ensures), spent-refused _ _ _ _ _ _ _ (c .progress-of .ensures ∙ ap (passed (c11 .args .left)) (c .before .enum-told .given .1)))
 
 expression-at-requires : tie.Need-expression-at-requires
-expression-at-requires c κs = let w = ahead-done _ _ _ _ _ (c .before .before .a .given .1) (c .before .before .before .before .before .before .target-at .ensures .1) in let v = room-at _ _ _ _ _ (c .before .before .a .given .1) (c .before .before .before .before .before .before .target-at .ensures .2) in (w .1, c .before .before .before .before .before .before .before .before .before .before .before .before .pre .1, omega (arith, w .0, w .1, v .1, c .before .before .before .before .before .before .before .before .before .before .before .before .pre .3))
+expression-at-requires c κs = let c2 = c .before .before in let c6 = c2 .before .before .before .before in let c12 = c6 .before .before .before .before .before .before in let w = ahead-done _ _ _ _ _ (c2 .a .given .1) (c6 .target-at .ensures .1) in let v = room-at _ _ _ _ _ (c2 .a .given .1) (c6 .target-at .ensures .2) in (w .1, c12 .pre .1, omega (arith, w .0, w .1, v .1, c12 .pre .3))
 
 enum-known-x : tie.Need-enum-known-x
 enum-known-x c = search needs
@@ -49,7 +49,7 @@ same-length-2 : tie.Need-same-length-2
 same-length-2 c = search needs
 
 returns-3 : tie.Need-returns-3
-returns-3 c = (λ x y h q. change-valueless (now (c .before .before .before .before .before .before .before .before .before .before .before .before .before .before .before .before .before .before .args .text)) (c .before .before .before .before .before .before .before .before .before .before .before .before .before .before .before .before .before .before .args .d) x y (c .before .before .before .before .before .before .before .before .before .before .before .before .before .before .before .before .before .before .args .p) (c .before .before .before .before .before .before .before .before .before .before .before .before .before .before .before .before .before .before .args .e) (c .before .before .before .before .before .before .before .before .before .before .before .before .before .before .before .before .before .before .args .left) (c .before .before .before .before .before .before .before .before .before .before .before .before .before .before .if1 .left) (c .before .before .before .before .before .before .before .before .before .before .before .before .before .before .before .before .before .before .args .tag) q (now (c .before .before .before .before .before .before .before .before .before .before .before .before .before .before .before .before .before .before .args .code)) (c .before .before .before .before .before .before .before .before .before .before .before .before .before .before .before .before .before .before .args .used) (c .before .before .before .before .before .before .before .before .before .before .before .before .target-at .result) _ (c .before .before .before .before .before .before .before .before .before .before .before .before .target-at .ensures .0 x h) _ _ (c .before .before .before .before .before .before .before .before .a .given .1) (c .before .before .before .before .before .expression-at .result) _ (c .before .before .before .before .before .expression-at .ensures .0 x h) _ _ (c .progress-of2 .result) _ (c .before .enum-told2 .given .1) (c .progress-of2 .ensures), spent-refused _ _ _ _ _ _ _ (c .progress-of2 .ensures ∙ ap (passed (c .before .before .before .before .before .before .before .before .before .before .before .before .before .before .before .before .before .before .args .left)) (c .before .enum-told2 .given .1)))
+returns-3 c = let c1 = c .before in let c5 = c1 .before .before .before .before in let c8 = c5 .before .before .before in let c12 = c8 .before .before .before .before in let c18 = c12 .before .before .before .before .before .before in (λ x y h q. change-valueless _ _ x y _ _ (c18 .args .left) (c12 .before .before .if1 .left) _ q _ _ _ _ (c12 .target-at .ensures .0 x h) _ _ (c8 .a .given .1) _ _ (c5 .expression-at .ensures .0 x h) _ _ _ _ (c1 .enum-told2 .given .1) (c .progress-of2 .ensures), spent-refused _ _ _ _ _ _ _ (c .progress-of2 .ensures ∙ ap (passed (c18 .args .left)) (c1 .enum-told2 .given .1)))
 
 closing-requires : tie.Need-closing-requires
 closing-requires c κs = let i = ahead-done _ _ _ _ _ (c .before .x .given .1) (c .before .before .before .before .before .expression-at .ensures .1) in let j = over-at _ _ _ _ _ (c .before .x .given .1) (c .before .before .before .before .before .expression-at .ensures .2) in i .1
@@ -67,7 +67,7 @@ same-length-3 : tie.Need-same-length-3
 same-length-3 c = search needs
 
 returns-4 : tie.Need-returns-4
-returns-4 c = (λ x y h q. change-unclosed (now (c .before .before .before .before .before .before .before .before .before .before .before .before .before .before .before .before .before .before .before .before .before .before .args .text)) (c .before .before .before .before .before .before .before .before .before .before .before .before .before .before .before .before .before .before .before .before .before .before .args .d) x y (c .before .before .before .before .before .before .before .before .before .before .before .before .before .before .before .before .before .before .before .before .before .before .args .p) (c .before .before .before .before .before .before .before .before .before .before .before .before .before .before .before .before .before .before .before .before .before .before .args .e) (c .before .before .before .before .before .before .before .before .before .before .before .before .before .before .before .before .before .before .before .before .before .before .args .left) (c .before .before .before .before .before .before .before .before .before .before .before .before .before .before .before .before .before .before .if1 .left) (c .before .before .before .before .before .before .before .before .before .before .before .before .before .before .before .before .before .before .before .before .before .before .args .tag) q (now (c .before .before .before .before .before .before .before .before .before .before .before .before .before .before .before .before .before .before .before .before .before .before .args .code)) (c .before .before .before .before .before .before .before .before .before .before .before .before .before .before .before .before .before .before .before .before .before .before .args .used) (c .before .before .before .before .before .before .before .before .before .before .before .before .before .before .before .before .target-at .result) _ (c .before .before .before .before .before .before .before .before .before .before .before .before .before .before .before .before .target-at .ensures .0 x h) _ _ (c .before .before .before .before .before .before .before .before .before .before .before .before .a .given .1) (c .before .before .before .before .before .before .before .before .before .expression-at .result) _ (c .before .before .before .before .before .before .before .before .before .expression-at .ensures .0 x h) _ _ (c .before .before .before .before .before .x .given .1) (c .before .before .before .closing .result) (c .before .before .before .closing .ensures .0) _ _ (c .progress-of3 .result) _ (c .before .enum-told3 .given .1) (c .progress-of3 .ensures), spent-refused _ _ _ _ _ _ _ (c .progress-of3 .ensures ∙ ap (passed (c .before .before .before .before .before .before .before .before .before .before .before .before .before .before .before .before .before .before .before .before .before .before .args .left)) (c .before .enum-told3 .given .1)))
+returns-4 c = let c1 = c .before in let c3 = c1 .before .before in let c5 = c3 .before .before in let c9 = c5 .before .before .before .before in let c12 = c9 .before .before .before in let c16 = c12 .before .before .before .before in let c22 = c16 .before .before .before .before .before .before in (λ x y h q. change-unclosed _ _ x y _ _ (c22 .args .left) (c16 .before .before .if1 .left) _ q _ _ _ _ (c16 .target-at .ensures .0 x h) _ _ (c12 .a .given .1) _ _ (c9 .expression-at .ensures .0 x h) _ _ (c5 .x .given .1) _ (c3 .closing .ensures .0) _ _ _ _ (c1 .enum-told3 .given .1) (c .progress-of3 .ensures), spent-refused _ _ _ _ _ _ _ (c .progress-of3 .ensures ∙ ap (passed (c22 .args .left)) (c1 .enum-told3 .given .1)))
 
 sub-t24 : tie.Need-sub-t24
 sub-t24 c = search needs
@@ -76,7 +76,7 @@ same-length-4 : tie.Need-same-length-4
 same-length-4 c = search needs
 
 returns-5 : tie.Need-returns-5
-returns-5 c = let w = ahead-done _ _ _ _ _ (c .before .before .before .before .before .before .before .before .before .before .before .before .a .given .1) (c .before .before .before .before .before .before .before .before .before .before .before .before .before .before .before .before .target-at .ensures .1) in let v = room-at _ _ _ _ _ (c .before .before .before .before .before .before .before .before .before .before .before .before .a .given .1) (c .before .before .before .before .before .before .before .before .before .before .before .before .before .before .before .before .target-at .ensures .2) in let i = ahead-done _ _ _ _ _ (c .before .before .before .before .before .x .given .1) (c .before .before .before .before .before .before .before .before .before .expression-at .ensures .1) in let j = over-at _ _ _ _ _ (c .before .before .before .before .before .x .given .1) (c .before .before .before .before .before .before .before .before .before .expression-at .ensures .2) in let k = ahead-done _ _ _ _ _ (c .before .b .given .1) (c .before .before .before .closing .ensures .1) in (λ x y h q. change-stored (now (c .before .before .before .before .before .before .before .before .before .before .before .before .before .before .before .before .before .before .before .before .before .before .args .text)) (c .before .before .before .before .before .before .before .before .before .before .before .before .before .before .before .before .before .before .before .before .before .before .args .d) x y (c .before .before .before .before .before .before .before .before .before .before .before .before .before .before .before .before .before .before .before .before .before .before .args .p) (c .before .before .before .before .before .before .before .before .before .before .before .before .before .before .before .before .before .before .before .before .before .before .args .e) (c .before .before .before .before .before .before .before .before .before .before .before .before .before .before .before .before .before .before .before .before .before .before .args .left) (c .before .before .before .before .before .before .before .before .before .before .before .before .before .before .before .before .before .before .if1 .left) (c .before .before .before .before .before .before .before .before .before .before .before .before .before .before .before .before .before .before .before .before .before .before .args .tag) q (now (c .before .before .before .before .before .before .before .before .before .before .before .before .before .before .before .before .before .before .before .before .before .before .args .code)) (c .before .before .before .before .before .before .before .before .before .before .before .before .before .before .before .before .before .before .before .before .before .before .args .used) (c .before .before .before .before .before .before .before .before .before .before .before .before .before .before .before .before .target-at .result) _ (c .before .before .before .before .before .before .before .before .before .before .before .before .before .before .before .before .target-at .ensures .0 x h) _ _ (c .before .before .before .before .before .before .before .before .before .before .before .before .a .given .1) (c .before .before .before .before .before .before .before .before .before .expression-at .result) _ (c .before .before .before .before .before .before .before .before .before .expression-at .ensures .0 x h) _ _ (c .before .before .before .before .before .x .given .1) (c .before .before .before .closing .result) (c .before .before .before .closing .ensures .0) _ _ (c .before .b .given .1), spent-done _ _ _ _ _ _ (omega (arith, w .0, i .0, k .0)) (k .1) (omega (arith, v .0, j .0)) (omega (arith, v .1, j .1, k .0)))
+returns-5 c = let c1 = c .before in let c3 = c1 .before .before in let c5 = c3 .before .before in let c9 = c5 .before .before .before .before in let c12 = c9 .before .before .before in let c16 = c12 .before .before .before .before in let w = ahead-done _ _ _ _ _ (c12 .a .given .1) (c16 .target-at .ensures .1) in let v = room-at _ _ _ _ _ (c12 .a .given .1) (c16 .target-at .ensures .2) in let i = ahead-done _ _ _ _ _ (c5 .x .given .1) (c9 .expression-at .ensures .1) in let j = over-at _ _ _ _ _ (c5 .x .given .1) (c9 .expression-at .ensures .2) in let k = ahead-done _ _ _ _ _ (c1 .b .given .1) (c3 .closing .ensures .1) in (λ x y h q. change-stored _ _ x y _ _ (c16 .before .before .before .before .before .before .args .left) (c16 .before .before .if1 .left) _ q _ _ _ _ (c16 .target-at .ensures .0 x h) _ _ (c12 .a .given .1) _ _ (c9 .expression-at .ensures .0 x h) _ _ (c5 .x .given .1) _ (c3 .closing .ensures .0) _ _ (c1 .b .given .1), spent-done _ _ _ _ _ _ (omega (arith, w .0, i .0, k .0)) (k .1) (omega (arith, v .0, j .0)) (omega (arith, v .1, j .1, k .0)))
 
 pub change-at-spec : {M : Type 1} → statement M
 change-at-spec =

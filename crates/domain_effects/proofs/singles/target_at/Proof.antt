@@ -22,10 +22,10 @@ enum-told : tie.Need-enum-told
 enum-told c = search needs
 
 returns : tie.Need-returns
-returns c = (λ x h. target-unopened (now (c .before .before .before .before .before .before .args .text)) (c .before .before .before .before .before .before .args .d) x (c .before .before .before .before .before .before .args .from) (c .before .before .before .before .before .before .args .tag) (now (c .before .before .before .before .before .before .args .code)) (c .before .before .before .before .before .before .args .used) (c .before .before .opening .result) (c .before .before .opening .ensures .0) _ _ _ (c .enum-told .given .1), ahead-refused _ _ _ _ _ (c .enum-told .given .1), room-refused _ _ _ _ _ (c .enum-told .given .1))
+returns c = (λ x h. target-unopened _ _ x _ _ _ _ _ (c .before .before .opening .ensures .0) _ _ _ (c .enum-told .given .1), ahead-refused _ _ _ _ _ (c .enum-told .given .1), room-refused _ _ _ _ _ (c .enum-told .given .1))
 
 sub-any-name : tie.Need-sub-any-name
-sub-any-name c = (opened (now (c .before .before .before .before .before .before .before .args .text)) (c .before .before .before .before .before .before .before .args .d) (c .before .before .before .before .before .before .before .args .from) _ _ (sym (c .before .before .before .opening .ensures .0) ∙ c .before .a .given .1))
+sub-any-name c = (opened _ _ _ _ _ (sym (c .before .before .before .opening .ensures .0) ∙ c .before .a .given .1))
 
 any-name-requires : tie.Need-any-name-requires
 any-name-requires c κs = let w = ahead-done _ _ _ _ _ (c .before .a .given .1) (c .before .before .before .opening .ensures .1) in w .1
@@ -37,7 +37,7 @@ enum-told-2 : tie.Need-enum-told-2
 enum-told-2 c = search needs
 
 returns-2 : tie.Need-returns-2
-returns-2 c = (λ x h. target-unnamed (now (c .before .before .before .before .before .before .before .before .before .before .args .text)) (c .before .before .before .before .before .before .before .before .before .before .args .d) x (c .before .before .before .before .before .before .before .before .before .before .args .from) (c .before .before .before .before .before .before .before .before .before .before .args .tag) (now (c .before .before .before .before .before .before .before .before .before .before .args .code)) (c .before .before .before .before .before .before .before .before .before .before .args .used) (c .before .before .before .before .before .before .opening .result) (c .before .before .before .before .before .before .opening .ensures .0) _ _ (c .before .before .before .before .a .given .1) (c .before .before .any-name .result) (c .before .before .any-name .ensures .0) _ _ _ (c .enum-told2 .given .1), ahead-refused _ _ _ _ _ (c .enum-told2 .given .1), room-refused _ _ _ _ _ (c .enum-told2 .given .1))
+returns-2 c = (λ x h. target-unnamed _ _ x _ _ _ _ _ (c .before .before .before .before .before .before .opening .ensures .0) _ _ (c .before .before .before .before .a .given .1) _ (c .before .before .any-name .ensures .0) _ _ _ (c .enum-told2 .given .1), ahead-refused _ _ _ _ _ (c .enum-told2 .given .1), room-refused _ _ _ _ _ (c .enum-told2 .given .1))
 
 part-of-requires : tie.Need-part-of-requires
 part-of-requires c κs = search needs
@@ -52,19 +52,19 @@ enum-told-3 : tie.Need-enum-told-3
 enum-told-3 c = search needs
 
 returns-3 : tie.Need-returns-3
-returns-3 c = (λ x h. target-missing (now (c .before .before .before .before .before .before .before .before .before .before .before .before .before .before .before .args .text)) (c .before .before .before .before .before .before .before .before .before .before .before .before .before .before .before .args .d) x (c .before .before .before .before .before .before .before .before .before .before .before .before .before .before .before .args .from) (c .before .before .before .before .before .before .before .before .before .before .before .before .before .before .before .args .tag) (now (c .before .before .before .before .before .before .before .before .before .before .before .before .before .before .before .args .code)) (c .before .before .before .before .before .before .before .before .before .before .before .before .before .before .before .args .used) (c .before .before .before .before .before .before .before .before .before .before .before .opening .result) (c .before .before .before .before .before .before .before .before .before .before .before .opening .ensures .0) _ _ (c .before .before .before .before .before .before .before .before .before .a .given .1) (c .before .before .before .before .before .before .before .any-name .result) (c .before .before .before .before .before .before .before .any-name .ensures .0) _ _ (c .before .before .before .before .before .b .given .1) _ (sym (rw (c .before .before .before .part-of .ensures) at (c .before .before .find-in .ensures 16 (x .functions) (h .functions))) ∙ c .enum-told3 .given .1), ahead-refused _ _ 8 _ _ refl, room-refused _ _ 8 _ _ refl)
+returns-3 c = let c2 = c .before .before in let c5 = c2 .before .before .before in (λ x h. target-missing _ _ x _ _ _ _ _ (c5 .before .before .before .before .before .before .opening .ensures .0) _ _ (c5 .before .before .before .before .a .given .1) _ (c5 .before .before .any-name .ensures .0) _ _ (c5 .b .given .1) _ (sym (rw (c2 .before .part-of .ensures) at (c2 .find-in .ensures 16 (x .functions) (h .functions))) ∙ c .enum-told3 .given .1), ahead-refused _ _ 8 _ _ refl, room-refused _ _ 8 _ _ refl)
 
 sub-reference-at : tie.Need-sub-reference-at
-sub-reference-at c = (opened (now (c .before .before .before .before .before .before .before .before .before .before .before .before .before .before .before .before .args .text)) (c .before .before .before .before .before .before .before .before .before .before .before .before .before .before .before .before .args .d) (c .before .before .before .before .before .before .before .before .before .before .before .before .before .before .before .before .args .from) _ _ (sym (c .before .before .before .before .before .before .before .before .before .before .before .before .opening .ensures .0) ∙ c .before .before .before .before .before .before .before .before .before .before .a .given .1))
+sub-reference-at c = let c10 = c .before .before .before .before .before .before .before .before .before .before in (opened _ _ _ _ _ (sym (c10 .before .before .opening .ensures .0) ∙ c10 .a .given .1))
 
 reference-at-requires : tie.Need-reference-at-requires
-reference-at-requires c κs = let w = ahead-done _ _ _ _ _ (c .before .before .before .before .before .before .before .before .before .before .before .a .given .1) (c .before .before .before .before .before .before .before .before .before .before .before .before .before .opening .ensures .1) in let v = ahead-done _ _ _ _ _ (c .before .before .before .before .before .before .before .b .given .1) (c .before .before .before .before .before .before .before .before .before .any-name .ensures .1) in let x = (c .before .before .before .before .before .before .before .before .before .before .before .before .before .before .before .before .before .pre .1 .0) in let h = (c .before .before .before .before .before .before .before .before .before .before .before .before .before .before .before .before .before .pre .1 .1) in (v .1, c .before .before .before .before .before .before .before .before .before .before .before .before .before .before .before .before .before .pre .1, functions-signed _ _ x h, omega (arith, found-below (x .functions) _ _ (sym (rw (c .before .before .before .before .before .part-of .ensures) at (c .before .before .before .before .find-in .ensures 16 (x .functions) (h .functions))) ∙ c .before .before .f .given .1), h .functions .count), c .before .before .before .before .before .before .before .before .before .before .before .before .before .before .before .before .before .pre .2, omega (arith, w .0, v .0, v .1, c .before .before .before .before .before .before .before .before .before .before .before .before .before .before .before .before .before .pre .3))
+reference-at-requires c κs = let c2 = c .before .before in let c4 = c2 .before .before in let c5 = c4 .before in let c7 = c5 .before .before in let c9 = c7 .before .before in let c11 = c9 .before .before in let c13 = c11 .before .before in let c17 = c13 .before .before .before .before in let w = ahead-done _ _ _ _ _ (c11 .a .given .1) (c13 .opening .ensures .1) in let v = ahead-done _ _ _ _ _ (c7 .b .given .1) (c9 .any-name .ensures .1) in let x = (c17 .pre .1 .0) in let h = (c17 .pre .1 .1) in (v .1, c17 .pre .1, functions-signed _ _ x h, omega (arith, found-below (x .functions) _ _ (sym (rw (c5 .part-of .ensures) at (c4 .find-in .ensures 16 (x .functions) (h .functions))) ∙ c2 .f .given .1), h .functions .count), c17 .pre .2, omega (arith, w .0, v .0, v .1, c17 .pre .3))
 
 same-length : tie.Need-same-length
 same-length c = search needs
 
 returns-4 : tie.Need-returns-4
-returns-4 c = let w = ahead-done _ _ _ _ _ (c .before .before .before .before .before .before .before .before .before .before .before .before .before .before .a .given .1) (c .before .before .before .before .before .before .before .before .before .before .before .before .before .before .before .before .opening .ensures .1) in let v = ahead-done _ _ _ _ _ (c .before .before .before .before .before .before .before .before .before .before .b .given .1) (c .before .before .before .before .before .before .before .before .before .before .before .before .any-name .ensures .1) in let z = room-from (c .before .before .reference-at .result) _ _ _ (c .before .before .before .before .before .before .before .before .before .before .before .before .before .before .before .before .before .before .before .before .args .from) (omega (arith, w .0, v .0)) (c .before .before .reference-at .ensures .1) (c .before .before .reference-at .ensures .2) in (λ x h. target-stored (now (c .before .before .before .before .before .before .before .before .before .before .before .before .before .before .before .before .before .before .before .before .args .text)) (c .before .before .before .before .before .before .before .before .before .before .before .before .before .before .before .before .before .before .before .before .args .d) x (c .before .before .before .before .before .before .before .before .before .before .before .before .before .before .before .before .before .before .before .before .args .from) (c .before .before .before .before .before .before .before .before .before .before .before .before .before .before .before .before .before .before .before .before .args .tag) (now (c .before .before .before .before .before .before .before .before .before .before .before .before .before .before .before .before .before .before .before .before .args .code)) (c .before .before .before .before .before .before .before .before .before .before .before .before .before .before .before .before .before .before .before .before .args .used) (c .before .before .before .before .before .before .before .before .before .before .before .before .before .before .before .before .opening .result) (c .before .before .before .before .before .before .before .before .before .before .before .before .before .before .before .before .opening .ensures .0) _ _ (c .before .before .before .before .before .before .before .before .before .before .before .before .before .before .a .given .1) (c .before .before .before .before .before .before .before .before .before .before .before .before .any-name .result) (c .before .before .before .before .before .before .before .before .before .before .before .before .any-name .ensures .0) _ _ (c .before .before .before .before .before .before .before .before .before .before .b .given .1) _ (c .before .before .reference-at .result) _ (sym (rw (c .before .before .before .before .before .before .before .before .part-of .ensures) at (c .before .before .before .before .before .before .before .find-in .ensures 16 (x .functions) (h .functions))) ∙ c .before .before .before .before .before .f .given .1) (c .before .before .reference-at .ensures .0 x 16 4902 (x .functions) h (h .functions) (h .numbers)), z .0, z .1)
+returns-4 c = let c2 = c .before .before in let c5 = c2 .before .before .before in let c7 = c5 .before .before in let c8 = c7 .before in let c10 = c8 .before .before in let c12 = c10 .before .before in let c14 = c12 .before .before in let c16 = c14 .before .before in let c20 = c16 .before .before .before .before in let w = ahead-done _ _ _ _ _ (c14 .a .given .1) (c16 .opening .ensures .1) in let v = ahead-done _ _ _ _ _ (c10 .b .given .1) (c12 .any-name .ensures .1) in let z = room-from (c2 .reference-at .result) _ _ _ (c20 .args .from) (omega (arith, w .0, v .0)) (c2 .reference-at .ensures .1) (c2 .reference-at .ensures .2) in (λ x h. target-stored (now (c20 .args .text)) (c20 .args .d) x (c20 .args .from) (c20 .args .tag) (now (c20 .args .code)) (c20 .args .used) (c16 .opening .result) (c16 .opening .ensures .0) _ _ (c14 .a .given .1) (c12 .any-name .result) (c12 .any-name .ensures .0) _ _ (c10 .b .given .1) _ (c2 .reference-at .result) _ (sym (rw (c8 .part-of .ensures) at (c7 .find-in .ensures 16 (x .functions) (h .functions))) ∙ c5 .f .given .1) (c2 .reference-at .ensures .0 x 16 4902 (x .functions) h (h .functions) (h .numbers)), z .0, z .1)
 
 pub target-at-spec : {M : Type 1} → statement M
 target-at-spec =

@@ -19,7 +19,7 @@ refusal-requires : tie.Need-refusal-requires
 refusal-requires c κs = search needs
 
 returns : tie.Need-returns
-returns c = (λ x f. bracket-refused (now (c .before .before .before .before .args .text)) (c .before .before .before .before .args .d) x f (c .before .before .before .before .args .left) (c .refusal .result) _ _ _ (c .refusal .ensures) (head-else (now (c .before .before .before .before .args .text)) (c .before .before .before .before .args .d) x f (c .before .before .before .before .args .left) (c .before .before .token-at .result) (c .before .before .before .before .args .from) (c .before .before .token-at .ensures) (c .before .match .keys2)), inside-other _ _ _)
+returns c = (λ x f. bracket-refused _ _ x f (c .before .before .before .before .args .left) _ _ _ _ (c .refusal .ensures) (head-else _ _ x f (c .before .before .before .before .args .left) _ _ (c .before .before .token-at .ensures) (c .before .match .keys2)), inside-other _ _ _)
 
 enum-told : tie.Need-enum-told
 enum-told c = search needs
@@ -34,7 +34,7 @@ head-of-requires : tie.Need-head-of-requires
 head-of-requires c κs = search needs
 
 operation-of-requires : tie.Need-operation-of-requires
-operation-of-requires c κs = let w = word-in (now (c .before .before .before .before .before .before .before .before .before .args .text)) (c .before .before .before .before .before .before .before .before .before .args .from) (c .before .before .before .before .before .before .before .before .before .pre) _ _ _ (sym (c .before .before .before .before .before .before .before .token-at .ensures) ∙ c .before .before .before .before .before .t .given .1) in w .1
+operation-of-requires c κs = let c5 = c .before .before .before .before .before in let w = word-in _ _ (c5 .before .before .before .before .pre) _ _ _ (sym (c5 .before .before .token-at .ensures) ∙ c5 .t .given .1) in w .1
 
 enum-told-3 : tie.Need-enum-told-3
 enum-told-3 c = search needs
@@ -43,16 +43,16 @@ enum-told-4 : tie.Need-enum-told-4
 enum-told-4 c = search needs
 
 returns-2 : tie.Need-returns-2
-returns-2 c = let w = word-in (now (c .before .before .before .before .before .before .before .args .text)) (c .before .before .before .before .before .before .before .args .from) (c .before .before .before .before .before .before .before .pre) _ _ _ (sym (c .before .before .before .before .before .token-at .ensures) ∙ c .before .before .before .t .given .1) in (λ x f. bracket-name (now (c .before .before .before .before .before .before .before .args .text)) (c .before .before .before .before .before .before .before .args .d) x f (c .before .before .before .before .before .before .before .args .left) _ _ _ (head-word (now (c .before .before .before .before .before .before .before .args .text)) (c .before .before .before .before .before .before .before .args .d) x f (c .before .before .before .before .before .before .before .args .left) (c .before .before .before .before .before .before .before .args .from) _ _ _ _ (sym (c .before .before .before .before .before .token-at .ensures) ∙ c .before .before .before .t .given .1) (c .enum-told .given .1)), inside-function _ _ _ _ (omega arith) (w .2))
+returns-2 c = let c3 = c .before .before .before in let c5 = c3 .before .before in let w = word-in _ _ (c5 .before .before .pre) _ _ _ (sym (c5 .token-at .ensures) ∙ c3 .t .given .1) in (λ x f. bracket-name _ _ x f (c5 .before .before .args .left) _ _ _ (head-word _ _ x f (c5 .before .before .args .left) _ _ _ _ _ (sym (c5 .token-at .ensures) ∙ c3 .t .given .1) (c .enum-told .given .1)), inside-function _ _ _ _ (omega arith) (w .2))
 
 returns-3 : tie.Need-returns-3
-returns-3 c = let w = word-in (now (c .before .before .before .before .before .before .before .before .before .before .args .text)) (c .before .before .before .before .before .before .before .before .before .before .args .from) (c .before .before .before .before .before .before .before .before .before .before .pre) _ _ _ (sym (c .before .before .before .before .before .before .before .before .token-at .ensures) ∙ c .before .before .before .before .before .before .t .given .1) in (λ x f. bracket-by (now (c .before .before .before .before .before .before .before .before .before .before .args .text)) (c .before .before .before .before .before .before .before .before .before .before .args .d) x f (c .before .before .before .before .before .before .before .before .before .before .args .left) (c .operation-of .result) _ _ (head-word (now (c .before .before .before .before .before .before .before .before .before .before .args .text)) (c .before .before .before .before .before .before .before .before .before .before .args .d) x f (c .before .before .before .before .before .before .before .before .before .before .args .left) (c .before .before .before .before .before .before .before .before .before .before .args .from) _ _ _ _ (sym (c .before .before .before .before .before .before .before .before .token-at .ensures) ∙ c .before .before .before .before .before .before .t .given .1) (c .before .before .before .enum-told2 .given .1)) (rw (c .before .head-of .ensures, (c .before .before .word-of .ensures ∙ word-is _ _ _ _ _ refl)) at (c .operation-of .ensures .0 (now (c .before .before .before .before .before .before .before .before .before .before .args .text)) (c .before .before .before .before .before .before .before .before .before .before .args .d) x f)), inside-from (c .operation-of .result) _ _ _ _ (w .0) (w .2) (c .operation-of .ensures .1))
+returns-3 c = let c1 = c .before in let c2 = c1 .before in let c3 = c2 .before in let c6 = c3 .before .before .before in let c8 = c6 .before .before in let c10 = c8 .before .before in let w = word-in (now (c10 .args .text)) (c10 .args .from) (c10 .pre) _ _ _ (sym (c8 .token-at .ensures) ∙ c6 .t .given .1) in (λ x f. bracket-by (now (c10 .args .text)) (c10 .args .d) x f (c10 .args .left) (c .operation-of .result) _ _ (head-word (now (c10 .args .text)) (c10 .args .d) x f (c10 .args .left) (c10 .args .from) _ _ _ _ (sym (c8 .token-at .ensures) ∙ c6 .t .given .1) (c3 .enum-told2 .given .1)) (rw (c1 .head-of .ensures, (c2 .word-of .ensures ∙ word-is _ _ _ _ _ refl)) at (c .operation-of .ensures .0 (now (c10 .args .text)) (c10 .args .d) x f)), inside-from (c .operation-of .result) _ _ _ _ (w .0) (w .2) (c .operation-of .ensures .1))
 
 returns-4 : tie.Need-returns-4
-returns-4 c = (λ x f. bracket-refused (now (c .before .before .before .before .before .before .before .args .text)) (c .before .before .before .before .before .before .before .args .d) x f (c .before .before .before .before .before .before .before .args .left) _ 3 _ _ refl (head-word (now (c .before .before .before .before .before .before .before .args .text)) (c .before .before .before .before .before .before .before .args .d) x f (c .before .before .before .before .before .before .before .args .left) (c .before .before .before .before .before .before .before .args .from) _ _ _ _ (sym (c .before .before .before .before .before .token-at .ensures) ∙ c .before .before .before .t .given .1) (c .enum-told3 .given .1)), inside-other _ _ _)
+returns-4 c = let c3 = c .before .before .before in (λ x f. bracket-refused _ _ x f (c3 .before .before .before .before .args .left) _ 3 _ _ refl (head-word _ _ x f (c3 .before .before .before .before .args .left) _ _ _ _ _ (sym (c3 .before .before .token-at .ensures) ∙ c3 .t .given .1) (c .enum-told3 .given .1)), inside-other _ _ _)
 
 returns-5 : tie.Need-returns-5
-returns-5 c = (λ x f. bracket-refused (now (c .before .before .before .before .before .before .before .args .text)) (c .before .before .before .before .before .before .before .args .d) x f (c .before .before .before .before .before .before .before .args .left) _ 3 _ _ refl (head-word (now (c .before .before .before .before .before .before .before .args .text)) (c .before .before .before .before .before .before .before .args .d) x f (c .before .before .before .before .before .before .before .args .left) (c .before .before .before .before .before .before .before .args .from) _ _ _ _ (sym (c .before .before .before .before .before .token-at .ensures) ∙ c .before .before .before .t .given .1) (c .enum-told4 .given .1)), inside-other _ _ _)
+returns-5 c = let c3 = c .before .before .before in (λ x f. bracket-refused _ _ x f (c3 .before .before .before .before .args .left) _ 3 _ _ refl (head-word _ _ x f (c3 .before .before .before .before .args .left) _ _ _ _ _ (sym (c3 .before .before .token-at .ensures) ∙ c3 .t .given .1) (c .enum-told4 .given .1)), inside-other _ _ _)
 
 pub head-at-spec : {M : Type 1} → statement M
 head-at-spec =

@@ -11,7 +11,7 @@ enum-told : tie.Need-enum-told
 enum-told c = search needs
 
 returns : tie.Need-returns
-returns c = (λ s d x f. bracket-refused s d x f (c .before .before .before .args .left) _ 12 _ _ refl (plus-none s d x f (c .before .before .before .args .left) (c .before .before .before .args .h) _ _ (c .before .enum-told .given .1) (c .if1 .taken)), inside-other _ _ _)
+returns c = (λ s d x f. bracket-refused s d x f (c .before .before .before .args .left) _ 12 _ _ refl (plus-none s d x f (c .before .before .before .args .left) _ _ _ (c .before .enum-told .given .1) (c .if1 .taken)), inside-other _ _ _)
 
 sub-t8 : tie.Need-sub-t8
 sub-t8 c = search needs
@@ -20,16 +20,16 @@ enum-told-2 : tie.Need-enum-told-2
 enum-told-2 c = search needs
 
 returns-2 : tie.Need-returns-2
-returns-2 c = (λ s d x f. bracket-refused s d x f (c .before .before .before .args .left) _ 12 _ _ refl (minus-none s d x f (c .before .before .before .args .left) (c .before .before .before .args .h) _ _ (c .before .enum-told2 .given .1) (c .if2 .taken)), inside-other _ _ _)
+returns-2 c = (λ s d x f. bracket-refused s d x f (c .before .before .before .args .left) _ 12 _ _ refl (minus-none s d x f (c .before .before .before .args .left) _ _ _ (c .before .enum-told2 .given .1) (c .if2 .taken)), inside-other _ _ _)
 
 sub-t11 : tie.Need-sub-t11
 sub-t11 c = search needs
 
 returns-3 : tie.Need-returns-3
-returns-3 c = (λ s d x f. plus-some s d x f (c .before .before .before .args .left) (c .before .before .before .args .h) _ _ (c .before .enum-told .given .1) (c .if1 .left), inside-operation _ _ false _ _ (c .before .before .before .pre) (omega arith))
+returns-3 c = (λ s d x f. plus-some s d x f (c .before .before .before .args .left) _ _ _ (c .before .enum-told .given .1) (c .if1 .left), inside-operation _ _ false _ _ (c .before .before .before .pre) (omega arith))
 
 returns-4 : tie.Need-returns-4
-returns-4 c = (λ s d x f. minus-some s d x f (c .before .before .before .args .left) (c .before .before .before .args .h) _ _ (c .before .enum-told2 .given .1) (c .if2 .left), inside-operation _ _ true _ _ (c .before .before .before .pre) (omega arith))
+returns-4 c = (λ s d x f. minus-some s d x f (c .before .before .before .args .left) _ _ _ (c .before .enum-told2 .given .1) (c .if2 .left), inside-operation _ _ true _ _ (c .before .before .before .pre) (omega arith))
 
 returns-5 : tie.Need-returns-5
 returns-5 c = (λ s d x f. bracket-refused s d x f (c .before .args .left) _ 3 _ _ refl (other-head s d x f (c .before .args .left) (c .before .args .h) _ _ (c .match .keys3)), inside-other _ _ _)

@@ -21,7 +21,7 @@ progress-of-requires : tie.Need-progress-of-requires
 progress-of-requires c κs = search needs
 
 returns : tie.Need-returns
-returns c = (joined-refused (now (c .before .before .before .before .before .before .args .code)) (c .before .before .before .before .before .before .args .used) (c .before .before .before .before .before .before .args .free) (c .before .before .before .before .before .before .args .left) (c .before .before .before .before .before .before .args .minus) (c .before .before .before .operands-end .result) _ (c .before .before .before .operands-end .ensures .0) _ _ (c .progress-of .result) _ (c .before .enum-told .given .1) (c .progress-of .ensures), spent-refused _ _ _ _ _ _ _ (c .progress-of .ensures ∙ ap (passed (c .before .before .before .before .before .before .args .left)) (c .before .enum-told .given .1)))
+returns c = let c3 = c .before .before .before in (joined-refused _ _ _ (c3 .before .before .before .args .left) _ _ _ (c3 .operands-end .ensures .0) _ _ _ _ (c .before .enum-told .given .1) (c .progress-of .ensures), spent-refused _ _ _ _ _ _ _ (c .progress-of .ensures ∙ ap (passed (c3 .before .before .before .args .left)) (c .before .enum-told .given .1)))
 
 operator-cell-requires : tie.Need-operator-cell-requires
 operator-cell-requires c κs = search needs
@@ -33,7 +33,7 @@ same-length : tie.Need-same-length
 same-length c = search needs
 
 returns-2 : tie.Need-returns-2
-returns-2 c = let w = ahead-done _ _ _ _ _ (c .before .before .before .before .before .before .a .given .1) (c .before .before .before .before .before .before .before .before .operands-end .ensures .1) in (joined-done (now (c .before .before .before .before .before .before .before .before .before .before .before .args .code)) (c .before .before .before .before .before .before .before .before .before .before .before .args .used) (c .before .before .before .before .before .before .before .before .before .before .before .args .free) (c .before .before .before .before .before .before .before .before .before .before .before .args .left) (c .before .before .before .before .before .before .before .before .before .before .before .args .minus) (c .before .before .before .before .before .before .before .before .operands-end .result) _ (c .before .before .before .before .before .before .before .before .operands-end .ensures .0) _ _ (c .before .before .before .operator-cell .result) _ (c .before .before .before .before .before .before .a .given .1) (c .before .before .before .operator-cell .ensures) (c .before .before .put .ensures), spent-free _ _ _ _ _ (w .0) (w .1))
+returns-2 c = let c2 = c .before .before in let c6 = c2 .before .before .before .before in let w = ahead-done _ _ _ _ _ (c6 .a .given .1) (c6 .before .before .operands-end .ensures .1) in (joined-done _ _ _ (c6 .before .before .before .before .before .args .left) _ _ _ (c6 .before .before .operands-end .ensures .0) _ _ _ _ (c6 .a .given .1) (c2 .before .operator-cell .ensures) (c2 .put .ensures), spent-free _ _ _ _ _ (w .0) (w .1))
 
 pub joined-at-spec : {M : Type 1} → statement M
 joined-at-spec =

@@ -9,7 +9,7 @@ use Rattle.domain_expressions.proofs.leaves.lone_end.Statement.{stateme
 use Rattle.domain_expressions.proofs.leaves.lone_end.Tie as tie
 
 returns : tie.Need-returns
-returns c = lone-plus (c .before .before .args .minus) (tokenAt (now (c .before .before .args .text)) (c .before .before .args .from)) (not-true (c .before .before .args .minus) (c .if1 .taken))
+returns c = let c2 = c .before .before in lone-plus (c2 .args .minus) (tokenAt (now (c2 .args .text)) (c2 .args .from)) (not-true (c2 .args .minus) (c .if1 .taken))
 
 token-at-requires : tie.Need-token-at-requires
 token-at-requires c κs = search needs
@@ -21,7 +21,7 @@ returns-2 : tie.Need-returns-2
 returns-2 c = rw (c .before .token-at .ensures) at (lone-else (c .before .before .before .before .args .minus) (c .before .token-at .result) (c .match .keys2))
 
 returns-3 : tie.Need-returns-3
-returns-3 c = lone-close (c .before .before .before .before .before .before .args .minus) _ _ _ (not-false (c .before .before .before .before .before .before .args .minus) (c .before .before .before .before .if1 .left)) (sym (c .before .before .before .token-at .ensures) ∙ c .before .t .given .1)
+returns-3 c = let c3 = c .before .before .before in lone-close (c3 .before .before .before .args .minus) _ _ _ (not-false _ (c3 .before .if1 .left)) (sym (c3 .token-at .ensures) ∙ c .before .t .given .1)
 
 pub lone-end-spec : {M : Type 1} → statement M
 lone-end-spec = tie.close (tie.spec returns token-at-requires enum-known-t returns-2 returns-3)

@@ -20,13 +20,13 @@ same-length : tie.Need-same-length
 same-length c = search needs
 
 returns : tie.Need-returns
-returns c = let w = own-places _ _ _ _ (c .before .before .before .before .before .expr-at .ensures .1) _ _ _ (c .before .x .given .1) in (λ x h. own-done (now (c .before .before .before .before .before .before .before .before .before .before .args .code)) (c .before .before .before .before .before .before .before .before .before .before .args .used) (c .before .before .before .before .before .expr-at .result) _ (now (c .before .before .before .before .before .before .before .before .before .before .args .text)) (c .before .before .before .before .before .before .before .before .before .before .args .d) x (c .before .before .before .before .before .before .before .before .before .before .args .from) (c .before .before .before .before .before .expr-at .ensures .0 x h) _ _ _ (c .before .x .given .1), w .0, w .1)
+returns c = let w = own-places _ _ _ _ (c .before .before .before .before .before .expr-at .ensures .1) _ _ _ (c .before .x .given .1) in (λ x h. own-done _ _ _ _ _ _ x _ (c .before .before .before .before .before .expr-at .ensures .0 x h) _ _ _ (c .before .x .given .1), w .0, w .1)
 
 same-length-2 : tie.Need-same-length-2
 same-length-2 c = search needs
 
 returns-2 : tie.Need-returns-2
-returns-2 c = (λ x h. own-refused (now (c .before .before .before .before .before .before .before .before .before .before .args .code)) (c .before .before .before .before .before .before .before .before .before .before .args .used) (c .before .before .before .before .before .expr-at .result) _ (now (c .before .before .before .before .before .before .before .before .before .before .args .text)) (c .before .before .before .before .before .before .before .before .before .before .args .d) x (c .before .before .before .before .before .before .before .before .before .before .args .from) (c .before .before .before .before .before .expr-at .ensures .0 x h) _ _ (c .before .x2 .given .1), ahead-refused _ _ _ _ _ refl, over-refused _ _ _ _)
+returns-2 c = (λ x h. own-refused _ _ _ _ _ _ x _ (c .before .before .before .before .before .expr-at .ensures .0 x h) _ _ (c .before .x2 .given .1), ahead-refused _ _ _ _ _ refl, over-refused _ _ _ _)
 
 pub expression-at-spec : {M : Type 1} → statement M
 expression-at-spec =

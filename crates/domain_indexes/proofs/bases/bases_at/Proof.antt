@@ -29,7 +29,7 @@ first-of-requires : tie.Need-first-of-requires Inv-loop μ-loop
 first-of-requires c κs = (c .before .before .before .before .pre .0 .0, c .before .before .before .before .pre .1, omega arith)
 
 cast-out : tie.Need-cast-out Inv-loop μ-loop
-cast-out c = let s = c .before .before .before .before .before .pre .0 .0 in omega (arith, c .before .before .before .before .before .pre .0 .1, c .first-of .ensures .0 (s .rows) (s .to) (s .table) (s .holds) (s .signed), first-low (c .before .before .before .before .before .args .n) (s .table) (c .before .before .loop .i) (omega (arith, s .holds .count)))
+cast-out c = let c2 = c .before .before in let c5 = c2 .before .before .before in let s = c5 .pre .0 .0 in omega (arith, c5 .pre .0 .1, c .first-of .ensures .0 (s .rows) (s .to) (s .table) (s .holds) (s .signed), first-low (c5 .args .n) (s .table) (c2 .loop .i) (omega (arith, s .holds .count)))
 
 add-out : tie.Need-add-out Inv-loop μ-loop
 add-out c = omega (arith, c .before .loop-test .taken, c .before .before .before .before .before .pre .2)
@@ -47,7 +47,7 @@ loop-less : tie.Need-loop-less Inv-loop μ-loop
 loop-less c = omega arith
 
 loop-again : tie.Need-loop-again Inv-loop μ-loop
-loop-again c = (omega arith, simp length-set (c .before .before .loop .inv .1), λ m to t h g. bases-step (c .before .before .loop .out) (c .before .before .before .before .before .args .at) (c .before .before .before .before .before .args .n) t (c .before .before .loop .i) _ (omega (arith, h .count, c .before .loop-test .taken)) (c .first-of .ensures .0 m to t h g) ∙ c .before .before .loop .inv .2 m to t h g)
+loop-again c = let c2 = c .before .before in (omega arith, simp length-set (c2 .loop .inv .1), λ m to t h g. bases-step (c2 .loop .out) (c2 .before .before .before .args .at) (c2 .before .before .before .args .n) t (c2 .loop .i) _ (omega (arith, h .count, c .before .loop-test .taken)) (c .first-of .ensures .0 m to t h g) ∙ c2 .loop .inv .2 m to t h g)
 
 same-length : tie.Need-same-length Inv-loop μ-loop
 same-length c = search needs

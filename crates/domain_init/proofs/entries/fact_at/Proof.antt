@@ -7,7 +7,7 @@ use Rattle.domain_init.proofs.entries.fact_at.Statement.{statement}
 use Rattle.domain_init.proofs.entries.fact_at.Tie as tie
 
 ground-at-requires : tie.Need-ground-at-requires
-ground-at-requires c κs = (c .before .before .before .pre .0, c .before .before .before .pre .1, predicates-listed _ _ (c .before .before .before .pre .1 .0) (c .before .before .before .pre .1 .1))
+ground-at-requires c κs = let c3 = c .before .before .before in (c3 .pre .0, c3 .pre .1, predicates-listed _ _ (c3 .pre .1 .0) (c3 .pre .1 .1))
 
 enum-known-a : tie.Need-enum-known-a
 enum-known-a c = search needs
@@ -16,7 +16,7 @@ enum-told : tie.Need-enum-told
 enum-told c = search needs
 
 returns : tie.Need-returns
-returns c = (λ x y ns k o st. fact-refused (now (c .before .before .before .before .before .before .args .text)) x y (c .before .before .before .before .before .before .args .p) (c .before .before .before .before .before .before .args .e) (c .before .before .ground-at .result) (c .before .before .ground-at .ensures .0 x 32 (x .predicates) k o (k .predicates) (k .facts)) _ ns _ _ (c .enum-told .given .1), ahead-refused _ _ _ _ _ (c .enum-told .given .1))
+returns c = (λ x y ns k o st. fact-refused _ x y _ _ _ (c .before .before .ground-at .ensures .0 x 32 (x .predicates) k o (k .predicates) (k .facts)) _ ns _ _ (c .enum-told .given .1), ahead-refused _ _ _ _ _ (c .enum-told .given .1))
 
 put-requires : tie.Need-put-requires
 put-requires c κs = search needs
@@ -25,7 +25,7 @@ same-length : tie.Need-same-length
 same-length c = search needs
 
 returns-2 : tie.Need-returns-2
-returns-2 c = (λ x y ns k o st. fact-done (now (c .before .before .before .before .before .before .before .before .before .before .before .args .text)) x y (c .before .before .before .before .before .before .before .before .before .before .before .args .p) (c .before .before .before .before .before .before .before .before .before .before .before .args .e) (c .before .before .before .before .before .before .before .ground-at .result) (c .before .before .before .before .before .before .before .ground-at .ensures .0 x 32 (x .predicates) k o (k .predicates) (k .facts)) (now (c .before .before .before .before .before .before .before .before .before .before .before .args .facts)) _ ns _ _ (c .before .before .before .before .before .a .given .1) (c .before .before .put .ensures) st, let w = ahead-done _ _ _ _ _ (c .before .before .before .before .before .a .given .1) (c .before .before .before .before .before .before .before .ground-at .ensures .1) in ahead-by _ _ _ _ (w .0) (w .1))
+returns-2 c = let c2 = c .before .before in let c5 = c2 .before .before .before in (λ x y ns k o st. fact-done _ x y _ _ _ (c5 .before .before .ground-at .ensures .0 x 32 (x .predicates) k o (k .predicates) (k .facts)) _ _ ns _ _ (c5 .a .given .1) (c2 .put .ensures) st, let w = ahead-done _ _ _ _ _ (c5 .a .given .1) (c5 .before .before .ground-at .ensures .1) in ahead-by _ _ _ _ (w .0) (w .1))
 
 pub fact-at-spec : {M : Type 1} → statement M
 fact-at-spec =

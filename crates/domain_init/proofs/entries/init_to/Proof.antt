@@ -36,7 +36,7 @@ same-length-2 : tie.Need-same-length-2 Inv-loop μ-loop
 same-length-2 c = search needs
 
 returns : tie.Need-returns Inv-loop μ-loop
-returns c = let r = close-in (now (c .before .before .before .before .before .before .before .before .args .text)) (c .before .before .before .before .loop .at) (c .before .before .before .before .loop .inv .1) _ _ (sym (c .before .before .before .token-at .ensures) ∙ c .before .t .given .1) in (λ x k s o f h. holding-close (now (c .before .before .before .before .before .before .before .before .args .text)) x (c .before .before .before .before .before .before .before .before .args .from) (c .before .before .before .before .loop .facts) (c .before .before .before .before .loop .numbers) (c .before .before .before .before .loop .at) (c .before .before .before .before .loop .inv .4 x s o f) _ _ (sym (c .before .before .before .token-at .ensures) ∙ c .before .t .given .1) k h, ahead-by _ _ _ _ (omega (arith, c .before .before .before .before .loop .inv .0, r .0)) (r .1))
+returns c = let c3 = c .before .before .before in let r = close-in _ _ (c3 .before .loop .inv .1) _ _ (sym (c3 .token-at .ensures) ∙ c .before .t .given .1) in (λ x k s o f h. holding-close _ x _ _ _ _ (c3 .before .loop .inv .4 x s o f) _ _ (sym (c3 .token-at .ensures) ∙ c .before .t .given .1) k h, ahead-by _ _ _ _ (omega (arith, c3 .before .loop .inv .0, r .0)) (r .1))
 
 entry-at-requires : tie.Need-entry-at-requires Inv-loop μ-loop
 entry-at-requires c κs = (c .before .before .before .before .loop .inv .1, c .before .before .before .before .before .before .before .before .pre .1)
@@ -54,13 +54,13 @@ same-length-4 : tie.Need-same-length-4 Inv-loop μ-loop
 same-length-4 c = search needs
 
 returns-2 : tie.Need-returns-2 Inv-loop μ-loop
-returns-2 c = (λ x k s o f h. holding-refused (now (c .before .before .before .before .before .before .before .before .before .before .before .before .before .before .args .text)) x (c .before .before .before .before .before .before .before .before .before .before .before .before .before .before .args .from) (c .before .before .before .before .before .before .before .before .before .before .loop .facts) (c .before .before .before .before .before .before .before .before .before .before .loop .numbers) (c .before .before .before .before .before .before .before .before .before .before .loop .at) (c .before .before .before .before .before .before .before .before .before .before .loop .inv .4 x s o f) (c .before .before .before .before .before .before .before .before .before .token-at .result) (c .before .before .before .before .before .before .before .before .before .token-at .ensures) (c .before .before .before .before .before .before .before .before .match .keys2) (c .before .before .before .before .before .entry-at .result) _ _ (c .before .before .before .before .before .entry-at .ensures .0 x (c .before .before .before .before .before .before .before .before .before .before .loop .inv .4 x s o f .init) s o f (c .before .before .before .before .before .before .before .before .before .before .loop .inv .4 x s o f .stands)) _ _ (c .enum-told .given .1) k h, ahead-refused _ _ _ _ _ (c .enum-told .given .1))
+returns-2 c = let c5 = c .before .before .before .before .before in let c8 = c5 .before .before .before in (λ x k s o f h. holding-refused _ x _ _ _ _ (c8 .before .before .loop .inv .4 x s o f) _ (c8 .before .token-at .ensures) (c8 .match .keys2) _ _ _ (c5 .entry-at .ensures .0 x (c8 .before .before .loop .inv .4 x s o f .init) s o f (c8 .before .before .loop .inv .4 x s o f .stands)) _ _ (c .enum-told .given .1) k h, ahead-refused _ _ _ _ _ (c .enum-told .given .1))
 
 loop-less : tie.Need-loop-less Inv-loop μ-loop
 loop-less c = let q = ahead-done _ _ _ _ _ (c .before .a .given .1) (c .before .before .before .before .before .before .entry-at .ensures .1) in omega (arith, q .0, q .1)
 
 loop-again : tie.Need-loop-again Inv-loop μ-loop
-loop-again c = let q = ahead-done _ _ _ _ _ (c .before .a .given .1) (c .before .before .before .before .before .before .entry-at .ensures .1) in (omega (arith, c .before .before .before .before .before .before .before .before .before .before .before .loop .inv .0, q .0), q .1, search needs, search needs, λ x s o f. holding-more (now (c .before .before .before .before .before .before .before .before .before .before .before .before .before .before .before .args .text)) x (c .before .before .before .before .before .before .before .before .before .before .before .before .before .before .before .args .from) (c .before .before .before .before .before .before .before .before .before .before .before .loop .facts) (c .before .before .before .before .before .before .before .before .before .before .before .loop .numbers) (c .before .before .before .before .before .before .before .before .before .before .before .loop .at) (c .before .before .before .before .before .before .before .before .before .before .before .loop .inv .4 x s o f) (c .before .before .before .before .before .before .before .before .before .before .token-at .result) (c .before .before .before .before .before .before .before .before .before .before .token-at .ensures) (c .before .before .before .before .before .before .before .before .before .match .keys2) (c .before .before .before .before .before .before .entry-at .result) _ _ (c .before .before .before .before .before .before .entry-at .ensures .0 x (c .before .before .before .before .before .before .before .before .before .before .before .loop .inv .4 x s o f .init) s o f (c .before .before .before .before .before .before .before .before .before .before .before .loop .inv .4 x s o f .stands)) _ _ (c .before .a .given .1) (q .0) (q .1))
+loop-again c = let c1 = c .before in let c6 = c1 .before .before .before .before .before in let c9 = c6 .before .before .before in let c11 = c9 .before .before in let q = ahead-done _ _ _ _ _ (c1 .a .given .1) (c6 .entry-at .ensures .1) in (omega (arith, c11 .loop .inv .0, q .0), q .1, search needs, search needs, λ x s o f. holding-more _ x _ _ _ _ (c11 .loop .inv .4 x s o f) _ (c9 .before .token-at .ensures) (c9 .match .keys2) _ _ _ (c6 .entry-at .ensures .0 x (c11 .loop .inv .4 x s o f .init) s o f (c11 .loop .inv .4 x s o f .stands)) _ _ (c1 .a .given .1) (q .0) (q .1))
 
 pub init-to-spec : {M : Type 1} → statement M
 init-to-spec =

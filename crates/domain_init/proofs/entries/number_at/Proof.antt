@@ -20,7 +20,7 @@ same-length : tie.Need-same-length
 same-length c = search needs
 
 returns : tie.Need-returns
-returns c = (λ x y fs k o f st. number-refused (now (c .before .before .before .before .before .before .args .text)) x y (c .before .before .before .before .before .before .args .from) (c .before .before .target-at .result) (c .before .before .target-at .ensures .0 x y fs k o f st) fs _ _ _ (c .enum-told .given .1), ahead-refused _ _ _ _ _ (c .enum-told .given .1))
+returns c = (λ x y fs k o f st. number-refused _ x y _ _ (c .before .before .target-at .ensures .0 x y fs k o f st) fs _ _ _ (c .enum-told .given .1), ahead-refused _ _ _ _ _ (c .enum-told .given .1))
 
 value-at-requires : tie.Need-value-at-requires
 value-at-requires c κs = (ahead-done _ _ _ _ _ (c .before .before .a .given .1) (c .before .before .before .before .target-at .ensures .1)) .1
@@ -29,7 +29,7 @@ same-length-2 : tie.Need-same-length-2
 same-length-2 c = search needs
 
 returns-2 : tie.Need-returns-2
-returns-2 c = (λ x y fs k o f st. number-done (now (c .before .before .before .before .before .before .before .before .before .before .args .text)) x y (c .before .before .before .before .before .before .before .before .before .before .args .from) (c .before .before .before .before .before .before .target-at .result) (c .before .before .before .before .before .before .target-at .ensures .0 x y fs k o f st) fs _ _ _ (c .before .value-at .result) (c .before .before .before .before .a .given .1) (c .before .value-at .ensures .0 y fs st), let u = ahead-done _ _ _ _ _ (c .before .before .before .before .a .given .1) (c .before .before .before .before .before .before .target-at .ensures .1) in ahead-later _ _ _ _ (omega (arith, u .0)) (c .before .value-at .ensures .1))
+returns-2 c = let c4 = c .before .before .before .before in (λ x y fs k o f st. number-done _ x y _ _ (c4 .before .before .target-at .ensures .0 x y fs k o f st) fs _ _ _ _ (c4 .a .given .1) (c .before .value-at .ensures .0 y fs st), let u = ahead-done _ _ _ _ _ (c4 .a .given .1) (c4 .before .before .target-at .ensures .1) in ahead-later _ _ _ _ (omega (arith, u .0)) (c .before .value-at .ensures .1))
 
 pub number-at-spec : {M : Type 1} → statement M
 number-at-spec =

@@ -18,7 +18,7 @@ enum-told : tie.Need-enum-told
 enum-told c = search needs
 
 returns : tie.Need-returns
-returns c = (λ x y fs k o f st. target-shut (now (c .before .before .before .before .before .args .text)) x y (c .before .before .before .before .before .args .from) (c .before .before .opening .result) (c .before .before .opening .ensures .0) _ _ (c .enum-told .given .1), ahead-refused _ _ _ _ _ (c .enum-told .given .1))
+returns c = (λ x y fs k o f st. target-shut _ x y _ _ (c .before .before .opening .ensures .0) _ _ (c .enum-told .given .1), ahead-refused _ _ _ _ _ (c .enum-told .given .1))
 
 any-name-requires : tie.Need-any-name-requires
 any-name-requires c κs = (ahead-done _ _ _ _ _ (c .before .o .given .1) (c .before .before .before .opening .ensures .1)) .1
@@ -30,10 +30,10 @@ enum-told-2 : tie.Need-enum-told-2
 enum-told-2 c = search needs
 
 returns-2 : tie.Need-returns-2
-returns-2 c = (λ x y fs k o f st. target-nameless (now (c .before .before .before .before .before .before .before .before .before .args .text)) x y (c .before .before .before .before .before .before .before .before .before .args .from) (c .before .before .before .before .before .before .opening .result) (c .before .before .before .before .before .before .opening .ensures .0) _ _ (c .before .before .before .before .o .given .1) (c .before .before .any-name .result) (c .before .before .any-name .ensures .0) _ _ (c .enum-told2 .given .1), ahead-refused _ _ _ _ _ (c .enum-told2 .given .1))
+returns-2 c = (λ x y fs k o f st. target-nameless _ x y _ _ (c .before .before .before .before .before .before .opening .ensures .0) _ _ (c .before .before .before .before .o .given .1) _ (c .before .before .any-name .ensures .0) _ _ (c .enum-told2 .given .1), ahead-refused _ _ _ _ _ (c .enum-told2 .given .1))
 
 ground-at-requires : tie.Need-ground-at-requires
-ground-at-requires c κs = ((ahead-done _ _ _ _ _ (c .before .w .given .1) (c .before .before .before .any-name .ensures .1)) .1, c .before .before .before .before .before .before .before .before .before .before .pre .1, functions-listed _ _ (c .before .before .before .before .before .before .before .before .before .before .pre .1 .0) (c .before .before .before .before .before .before .before .before .before .before .pre .1 .1))
+ground-at-requires c κs = let c3 = c .before .before .before in let c10 = c3 .before .before .before .before .before .before .before in ((ahead-done _ _ _ _ _ (c .before .w .given .1) (c3 .any-name .ensures .1)) .1, c10 .pre .1, functions-listed _ _ (c10 .pre .1 .0) (c10 .pre .1 .1))
 
 enum-known-a : tie.Need-enum-known-a
 enum-known-a c = search needs
@@ -42,16 +42,16 @@ enum-told-3 : tie.Need-enum-told-3
 enum-told-3 c = search needs
 
 returns-3 : tie.Need-returns-3
-returns-3 c = (λ x y fs k o f st. target-refused (now (c .before .before .before .before .before .before .before .before .before .before .before .before .before .args .text)) x y (c .before .before .before .before .before .before .before .before .before .before .before .before .before .args .from) (c .before .before .before .before .before .before .before .before .before .before .opening .result) (c .before .before .before .before .before .before .before .before .before .before .opening .ensures .0) _ _ (c .before .before .before .before .before .before .before .before .o .given .1) (c .before .before .before .before .before .before .any-name .result) (c .before .before .before .before .before .before .any-name .ensures .0) _ _ (c .before .before .before .before .w .given .1) (c .before .before .ground-at .result) (c .before .before .ground-at .ensures .0 x 16 (x .functions) k o (k .functions) (k .numbers)) _ _ (c .enum-told3 .given .1), ahead-refused _ _ _ _ _ (c .enum-told3 .given .1))
+returns-3 c = let c2 = c .before .before in let c4 = c2 .before .before in (λ x y fs k o f st. target-refused _ x y _ _ (c4 .before .before .before .before .before .before .opening .ensures .0) _ _ (c4 .before .before .before .before .o .given .1) _ (c4 .before .before .any-name .ensures .0) _ _ (c4 .w .given .1) _ (c2 .ground-at .ensures .0 x 16 (x .functions) k o (k .functions) (k .numbers)) _ _ (c .enum-told3 .given .1), ahead-refused _ _ _ _ _ (c .enum-told3 .given .1))
 
 is-defined-requires : tie.Need-is-defined-requires
 is-defined-requires c κs = search needs
 
 returns-4 : tie.Need-returns-4
-returns-4 c = (λ x y fs k o f st. target-twice (now (c .before .before .before .before .before .before .before .before .before .before .before .before .before .before .before .before .args .text)) x y (c .before .before .before .before .before .before .before .before .before .before .before .before .before .before .before .before .args .from) (c .before .before .before .before .before .before .before .before .before .before .before .before .before .opening .result) (c .before .before .before .before .before .before .before .before .before .before .before .before .before .opening .ensures .0) _ _ (c .before .before .before .before .before .before .before .before .before .before .before .o .given .1) (c .before .before .before .before .before .before .before .before .before .any-name .result) (c .before .before .before .before .before .before .before .before .before .any-name .ensures .0) _ _ (c .before .before .before .before .before .before .before .w .given .1) (c .before .before .before .before .before .ground-at .result) (c .before .before .before .before .before .ground-at .ensures .0 x 16 (x .functions) k o (k .functions) (k .numbers)) _ _ (c .before .before .before .a .given .1) fs (now (c .before .before .before .before .before .before .before .before .before .before .before .before .before .before .before .before .args .numbers)) st o _ _ k f (sym (c .before .is-defined .ensures) ∙ c .if1 .taken), ahead-refused _ _ 7 _ _ refl)
+returns-4 c = let c3 = c .before .before .before in let c5 = c3 .before .before in let c7 = c5 .before .before in (λ x y fs k o f st. target-twice _ x y _ _ (c7 .before .before .before .before .before .before .opening .ensures .0) _ _ (c7 .before .before .before .before .o .given .1) _ (c7 .before .before .any-name .ensures .0) _ _ (c7 .w .given .1) _ (c5 .ground-at .ensures .0 x 16 (x .functions) k o (k .functions) (k .numbers)) _ _ (c3 .a .given .1) fs _ st o _ _ k f (sym (c .before .is-defined .ensures) ∙ c .if1 .taken), ahead-refused _ _ 7 _ _ refl)
 
 returns-5 : tie.Need-returns-5
-returns-5 c = (λ x y fs k o f st. target-once (now (c .before .before .before .before .before .before .before .before .before .before .before .before .before .before .before .before .args .text)) x y (c .before .before .before .before .before .before .before .before .before .before .before .before .before .before .before .before .args .from) (c .before .before .before .before .before .before .before .before .before .before .before .before .before .opening .result) (c .before .before .before .before .before .before .before .before .before .before .before .before .before .opening .ensures .0) _ _ (c .before .before .before .before .before .before .before .before .before .before .before .o .given .1) (c .before .before .before .before .before .before .before .before .before .any-name .result) (c .before .before .before .before .before .before .before .before .before .any-name .ensures .0) _ _ (c .before .before .before .before .before .before .before .w .given .1) (c .before .before .before .before .before .ground-at .result) (c .before .before .before .before .before .ground-at .ensures .0 x 16 (x .functions) k o (k .functions) (k .numbers)) _ _ (c .before .before .before .a .given .1) fs (now (c .before .before .before .before .before .before .before .before .before .before .before .before .before .before .before .before .args .numbers)) st o _ _ k f (sym (c .before .is-defined .ensures) ∙ c .if1 .left), let u = ahead-done _ _ _ _ _ (c .before .before .before .before .before .before .before .before .before .before .before .o .given .1) (c .before .before .before .before .before .before .before .before .before .before .before .before .before .opening .ensures .1) in let v = ahead-done _ _ _ _ _ (c .before .before .before .before .before .before .before .w .given .1) (c .before .before .before .before .before .before .before .before .before .any-name .ensures .1) in let g = ahead-done _ _ _ _ _ (c .before .before .before .a .given .1) (c .before .before .before .before .before .ground-at .ensures .1) in ahead-by _ _ _ _ (omega (arith, u .0, v .0, g .0)) (g .1))
+returns-5 c = let c1 = c .before in let c3 = c1 .before .before in let c5 = c3 .before .before in let c7 = c5 .before .before in let c9 = c7 .before .before in let c11 = c9 .before .before in (λ x y fs k o f st. target-once _ x y _ _ (c11 .before .before .opening .ensures .0) _ _ (c11 .o .given .1) _ (c9 .any-name .ensures .0) _ _ (c7 .w .given .1) _ (c5 .ground-at .ensures .0 x 16 (x .functions) k o (k .functions) (k .numbers)) _ _ (c3 .a .given .1) fs _ st o _ _ k f (sym (c1 .is-defined .ensures) ∙ c .if1 .left), let u = ahead-done _ _ _ _ _ (c11 .o .given .1) (c11 .before .before .opening .ensures .1) in let v = ahead-done _ _ _ _ _ (c7 .w .given .1) (c9 .any-name .ensures .1) in let g = ahead-done _ _ _ _ _ (c3 .a .given .1) (c5 .ground-at .ensures .1) in ahead-by _ _ _ _ (omega (arith, u .0, v .0, g .0)) (g .1))
 
 pub target-at-spec : {M : Type 1} → statement M
 target-at-spec =

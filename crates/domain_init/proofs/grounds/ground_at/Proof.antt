@@ -24,13 +24,13 @@ enum-told : tie.Need-enum-told
 enum-told c = search needs
 
 returns : tie.Need-returns
-returns c = (λ x m t k o h g. ground-missing (now (c .before .before .before .before .before .before .args .text)) (c .before .before .before .before .before .before .args .d) x t (c .before .before .before .before .before .before .args .p) (c .before .before .before .before .before .before .args .e) (sym (rw (c .before .before .before .part-of .ensures) at (c .before .before .find-in .ensures m t h)) ∙ c .enum-told .given .1), ahead-refused _ _ 8 _ _ refl)
+returns c = (λ x m t k o h g. ground-missing _ _ x t _ _ (sym (rw (c .before .before .before .part-of .ensures) at (c .before .before .find-in .ensures m t h)) ∙ c .enum-told .given .1), ahead-refused _ _ 8 _ _ refl)
 
 index-at-requires : tie.Need-index-at-requires
-index-at-requires c κs = let g = c .before .before .before .before .before .before .before .pre .2 in (c .before .before .before .before .before .before .before .pre .0, c .before .before .before .before .before .before .before .pre .1, listed-signed _ _ _ _ g, omega (arith, found-below (g .table) _ _ (sym (rw (c .before .before .before .before .part-of .ensures) at (c .before .before .before .find-in .ensures (g .rows) (g .table) (g .holds))) ∙ c .before .f .given .1), g .holds .count))
+index-at-requires c κs = let c3 = c .before .before .before in let c7 = c3 .before .before .before .before in let g = c7 .pre .2 in (c7 .pre .0, c7 .pre .1, listed-signed _ _ _ _ g, omega (arith, found-below (g .table) _ _ (sym (rw (c3 .before .part-of .ensures) at (c3 .find-in .ensures (g .rows) (g .table) (g .holds))) ∙ c .before .f .given .1), g .holds .count))
 
 returns-2 : tie.Need-returns-2
-returns-2 c = (λ x m t k o h g. c .index-at .ensures .0 x m (c .before .before .before .before .before .before .before .before .args .to) t k o h g ∙ sym (ap answerOf (ground-found (now (c .before .before .before .before .before .before .before .before .args .text)) (c .before .before .before .before .before .before .before .before .args .d) x t (c .before .before .before .before .before .before .before .before .args .p) (c .before .before .before .before .before .before .before .before .args .e) _ (sym (rw (c .before .before .before .before .before .part-of .ensures) at (c .before .before .before .before .find-in .ensures m t h)) ∙ c .before .before .f .given .1))), c .index-at .ensures .1)
+returns-2 c = (λ x m t k o h g. c .index-at .ensures .0 x m _ t k o h g ∙ sym (ap answerOf (ground-found _ _ x t _ _ _ (sym (rw (c .before .before .before .before .before .part-of .ensures) at (c .before .before .before .before .find-in .ensures m t h)) ∙ c .before .before .f .given .1))), c .index-at .ensures .1)
 
 pub ground-at-spec : {M : Type 1} → statement M
 ground-at-spec =

@@ -20,7 +20,7 @@ loop-holds : tie.Need-loop-holds Inv-loop μ-loop
 loop-holds c = (omega arith, omega arith, refl)
 
 mul-acc : tie.Need-mul-acc Inv-loop μ-loop
-mul-acc c = omega (arith, product-small (c .before .loop .acc) (c .before .before .before .args .n) (numeral-small (c .before .loop .acc) (c .before .loop .i) (omega arith) (c .before .loop .inv .1)) (c .before .before .before .pre .2))
+mul-acc c = omega (arith, product-small _ _ (numeral-small _ _ (omega arith) (c .before .loop .inv .1)) (c .before .before .before .pre .2))
 
 byte-requires : tie.Need-byte-requires Inv-loop μ-loop
 byte-requires c κs = search needs
@@ -29,7 +29,7 @@ cast-acc : tie.Need-cast-acc Inv-loop μ-loop
 cast-acc c = search needs
 
 add-acc : tie.Need-add-acc Inv-loop μ-loop
-add-acc c = let b : c .byte .result < 256 = search needs in omega (arith, product-small (c .before .before .loop .acc) (c .before .before .before .before .args .n) (numeral-small (c .before .before .loop .acc) (c .before .before .loop .i) (omega arith) (c .before .before .loop .inv .1)) (c .before .before .before .before .pre .2))
+add-acc c = let b : c .byte .result < 256 = search needs in omega (arith, product-small _ _ (numeral-small _ _ (omega arith) (c .before .before .loop .inv .1)) (c .before .before .before .before .pre .2))
 
 add-i : tie.Need-add-i Inv-loop μ-loop
 add-i c = omega arith
@@ -38,10 +38,10 @@ loop-less : tie.Need-loop-less Inv-loop μ-loop
 loop-less c = omega arith
 
 loop-again : tie.Need-loop-again Inv-loop μ-loop
-loop-again c = (omega arith, numeral-room (c .before .before .before .before .args .n) (c .before .before .loop .acc) (c .byte .result) (c .before .before .loop .i) (c .before .before .before .before .pre .2) (search needs) (c .before .before .loop .inv .1), numeral-step (now (c .before .before .before .before .args .cells)) (c .before .before .before .before .args .k) (c .before .before .before .before .args .n) (c .before .before .loop .acc) (c .byte .result) (c .before .before .loop .i) (c .before .before .before .before .pre .0) (omega arith) (c .byte .ensures) ∙ c .before .before .loop .inv .2)
+loop-again c = let c2 = c .before .before in (omega arith, numeral-room _ _ _ _ (c2 .before .before .pre .2) (search needs) (c2 .loop .inv .1), numeral-step _ _ _ _ _ _ (c2 .before .before .pre .0) (omega arith) (c .byte .ensures) ∙ c2 .loop .inv .2)
 
 returns : tie.Need-returns Inv-loop μ-loop
-returns c = (sym (numeral-end (now (c .before .before .before .args .cells)) (c .before .before .before .args .k) (c .before .before .before .args .n) (c .before .loop .acc) (c .before .loop .i) (omega arith)) ∙ c .before .loop .inv .2, numeral-small (c .before .loop .acc) (c .before .loop .i) (omega arith) (c .before .loop .inv .1))
+returns c = let c1 = c .before in (sym (numeral-end (now (c1 .before .before .args .cells)) (c1 .before .before .args .k) (c1 .before .before .args .n) (c1 .loop .acc) (c1 .loop .i) (omega arith)) ∙ c1 .loop .inv .2, numeral-small (c1 .loop .acc) (c1 .loop .i) (omega arith) (c1 .loop .inv .1))
 
 pub numeral-of-spec : {M : Type 1} → statement M
 numeral-of-spec =

@@ -16,10 +16,10 @@ shared-slice-copy-out-result : tie.Need-shared-slice-copy-out-result
 shared-slice-copy-out-result c = search needs
 
 returns : tie.Need-returns
-returns c = rw (toZ-ofZ w64 (getD (now (c .before .before .args .numbers)) (c .before .before .args .i) (pos 0)) (record { sfits = c .result .given })) (default-same (now (c .before .before .args .numbers)) (c .before .before .args .i) (c .before .if1 .taken))
+returns c = rw (toZ-ofZ w64 (getD _ _ (pos 0)) (record { sfits = c .result .given })) (default-same (now (c .before .before .args .numbers)) _ (c .before .if1 .taken))
 
 returns-2 : tie.Need-returns-2
-returns-2 c = past-undefined (now (c .before .args .numbers)) (c .before .args .i) (c .if1 .left)
+returns-2 c = past-undefined (now (c .before .args .numbers)) _ (c .if1 .left)
 
 pub is-defined-spec : {M : Type 1} → statement M
 is-defined-spec = tie.close (tie.spec mul-result shared-slice-copy-out-result returns returns-2)

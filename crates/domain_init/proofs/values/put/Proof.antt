@@ -19,7 +19,7 @@ returns : tie.Need-returns
 returns c = search needs
 
 returns-2 : tie.Need-returns-2
-returns-2 c = sym (set-out (now (c .before .args .numbers)) (c .before .args .i) (c .before .args .z) (c .if1 .left))
+returns-2 c = sym (set-out _ _ _ (c .if1 .left))
 
 pub put-spec : {M : Type 1} → statement M
 put-spec = tie.close (tie.spec mul-z slice-set-from-z same-length returns returns-2)

@@ -23,17 +23,17 @@ enum-told c = search needs
 
 returns : tie.Need-returns
 unfolding bytes
-returns c = (λ ts h. reads _ _ _ _ [] _ (no-constants (now (c .before .before .before .before .before .before .before .args .text)) (c .before .before .before .before .before .before .before .args .from) ts (is-missing (now (c .before .before .before .before .before .before .before .args .text)) (bytes ":constants") (c .before .before .before .before .before .before .before .args .from) (c .before .before .begins-at .result) (c .before .before .begins-at .ensures .0) (c .enum-told .given .1))) (holds-none _ _ (c .before .before .before .before .before .before .before .pre .2)), onwards-here _ _ _ (c .before .before .before .before .before .before .before .pre .0))
+returns c = let c7 = c .before .before .before .before .before .before .before in (λ ts h. reads _ _ _ _ [] _ (no-constants _ _ ts (is-missing _ (bytes ":constants") _ _ (c .before .before .begins-at .ensures .0) (c .enum-told .given .1))) (holds-none _ _ (c7 .pre .2)), onwards-here _ _ _ (c7 .pre .0))
 
 names-to-requires : tie.Need-names-to-requires
-names-to-requires c κs = ((further-at _ _ _ _ _ (c .before .before .o .given .1) (c .before .before .before .before .begins-at .ensures .1)) .1, c .before .before .before .before .before .before .before .before .before .pre .1, ([], holds-none _ _ (c .before .before .before .before .before .before .before .before .before .pre .2)))
+names-to-requires c κs = let c2 = c .before .before in let c9 = c2 .before .before .before .before .before .before .before in ((further-at _ _ _ _ _ (c2 .o .given .1) (c2 .before .before .begins-at .ensures .1)) .1, c9 .pre .1, ([], holds-none _ _ (c9 .pre .2)))
 
 same-length : tie.Need-same-length
 same-length c = search needs
 
 returns-2 : tie.Need-returns-2
 unfolding bytes
-returns-2 c = let w = further-at _ _ _ _ _ (c .before .before .before .before .before .o .given .1) (c .before .before .before .before .before .before .before .begins-at .ensures .1) in (λ ts h. outcome-by _ _ _ _ _ (some-constants (now (c .before .before .before .before .before .before .before .before .before .before .before .before .args .text)) (c .before .before .before .before .before .before .before .before .before .before .before .before .args .from) ts _ _ (is-there (now (c .before .before .before .before .before .before .before .before .before .before .before .before .args .text)) (bytes ":constants") (c .before .before .before .before .before .before .before .before .before .before .before .before .args .from) (c .before .before .before .before .before .before .before .begins-at .result) (c .before .before .before .before .before .before .before .begins-at .ensures .0) _ _ (c .before .before .before .before .before .o .given .1))) (c .before .before .names-to .ensures .0 ts [] h (holds-none _ _ (c .before .before .before .before .before .before .before .before .before .before .before .before .pre .2))), onwards-by _ _ _ _ (omega arith) (c .before .before .names-to .ensures .1))
+returns-2 c = let c2 = c .before .before in let c5 = c2 .before .before .before in let w = further-at _ _ _ _ _ (c5 .o .given .1) (c5 .before .before .begins-at .ensures .1) in (λ ts h. outcome-by _ _ _ _ _ (some-constants _ _ ts _ _ (is-there _ (bytes ":constants") _ _ (c5 .before .before .begins-at .ensures .0) _ _ (c5 .o .given .1))) (c2 .names-to .ensures .0 ts [] h (holds-none _ _ (c5 .before .before .before .before .before .before .before .pre .2))), onwards-by _ _ _ _ (omega arith) (c2 .names-to .ensures .1))
 
 pub constants-section-spec : {M : Type 1} → statement M
 constants-section-spec =

@@ -20,16 +20,16 @@ enum-told : tie.Need-enum-told
 enum-told c = search needs
 
 returns : tie.Need-returns
-returns c = (λ ts h. reads _ _ _ _ [] _ (no-declared (now (c .before .before .before .before .before .before .before .args .text)) (c .before .before .before .before .before .before .before .args .from) (now (c .before .before .before .before .before .before .before .args .w)) ts (c .before .before .before .before .before .before .before .args .max) (c .before .before .before .before .before .before .before .args .most) (is-missing (now (c .before .before .before .before .before .before .before .args .text)) (now (c .before .before .before .before .before .before .before .args .w)) (c .before .before .before .before .before .before .before .args .from) (c .before .before .begins-at .result) (c .before .before .begins-at .ensures .0) (c .enum-told .given .1))) (holds-none _ _ (c .before .before .before .before .before .before .before .pre .2)), onwards-here _ _ _ (c .before .before .before .before .before .before .before .pre .0))
+returns c = let c7 = c .before .before .before .before .before .before .before in (λ ts h. reads _ _ _ _ [] _ (no-declared _ _ _ ts _ _ (is-missing _ _ _ _ (c .before .before .begins-at .ensures .0) (c .enum-told .given .1))) (holds-none _ _ (c7 .pre .2)), onwards-here _ _ _ (c7 .pre .0))
 
 declarations-at-requires : tie.Need-declarations-at-requires
-declarations-at-requires c κs = ((further-at _ _ _ _ _ (c .before .before .o .given .1) (c .before .before .before .before .begins-at .ensures .1)) .1, c .before .before .before .before .before .before .before .before .before .pre .1, ([], holds-none _ _ (c .before .before .before .before .before .before .before .before .before .pre .2)), c .before .before .before .before .before .before .before .before .before .pre .3)
+declarations-at-requires c κs = let c2 = c .before .before in let c4 = c2 .before .before in let c9 = c4 .before .before .before .before .before in ((further-at _ _ _ _ _ (c2 .o .given .1) (c4 .begins-at .ensures .1)) .1, c9 .pre .1, ([], holds-none _ _ (c9 .pre .2)), c9 .pre .3)
 
 same-length : tie.Need-same-length
 same-length c = search needs
 
 returns-2 : tie.Need-returns-2
-returns-2 c = let w = further-at _ _ _ _ _ (c .before .before .before .before .before .o .given .1) (c .before .before .before .before .before .before .before .begins-at .ensures .1) in (λ ts h. outcome-by _ _ _ _ _ (some-declared (now (c .before .before .before .before .before .before .before .before .before .before .before .before .args .text)) (c .before .before .before .before .before .before .before .before .before .before .before .before .args .from) (now (c .before .before .before .before .before .before .before .before .before .before .before .before .args .w)) ts (c .before .before .before .before .before .before .before .before .before .before .before .before .args .max) (c .before .before .before .before .before .before .before .before .before .before .before .before .args .most) _ _ (is-there (now (c .before .before .before .before .before .before .before .before .before .before .before .before .args .text)) (now (c .before .before .before .before .before .before .before .before .before .before .before .before .args .w)) (c .before .before .before .before .before .before .before .before .before .before .before .before .args .from) (c .before .before .before .before .before .before .before .begins-at .result) (c .before .before .before .before .before .before .before .begins-at .ensures .0) _ _ (c .before .before .before .before .before .o .given .1))) (c .before .before .declarations-at .ensures .0 ts [] (length (now (c .before .before .before .before .before .before .before .before .before .before .before .before .args .text)) + 1) h (holds-none _ _ (c .before .before .before .before .before .before .before .before .before .before .before .before .pre .2)) (omega arith)), onwards-by _ _ _ _ (omega arith) (c .before .before .declarations-at .ensures .1))
+returns-2 c = let c2 = c .before .before in let c5 = c2 .before .before .before in let c7 = c5 .before .before in let w = further-at _ _ _ _ _ (c5 .o .given .1) (c7 .begins-at .ensures .1) in (λ ts h. outcome-by _ _ _ _ _ (some-declared _ _ _ ts _ _ _ _ (is-there _ _ _ _ (c7 .begins-at .ensures .0) _ _ (c5 .o .given .1))) (c2 .declarations-at .ensures .0 ts [] (length (now (c7 .before .before .before .before .before .args .text)) + 1) h (holds-none _ _ (c7 .before .before .before .before .before .pre .2)) (omega arith)), onwards-by _ _ _ _ (omega arith) (c2 .declarations-at .ensures .1))
 
 pub declared-section-spec : {M : Type 1} → statement M
 declared-section-spec =

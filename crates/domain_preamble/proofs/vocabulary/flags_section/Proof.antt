@@ -25,14 +25,14 @@ enum-told c = search needs
 
 returns : tie.Need-returns
 unfolding bytes
-returns c = (sym (ap answerOf (no-flags (now (c .before .before .before .before .before .args .text)) (c .before .before .before .before .before .args .from) (is-missing (now (c .before .before .before .before .before .args .text)) (bytes ":requirements") (c .before .before .before .before .before .args .from) (c .before .before .begins-at .result) (c .before .before .begins-at .ensures .0) (c .enum-told .given .1)))), onwards-here _ _ _ (c .before .before .before .before .before .pre))
+returns c = (sym (ap answerOf (no-flags _ _ (is-missing _ (bytes ":requirements") _ _ (c .before .before .begins-at .ensures .0) (c .enum-told .given .1)))), onwards-here _ _ _ (c .before .before .before .before .before .pre))
 
 flags-to-requires : tie.Need-flags-to-requires
 flags-to-requires c κs = (further-at _ _ _ _ _ (c .before .o .given .1) (c .before .before .before .begins-at .ensures .1)) .1
 
 returns-2 : tie.Need-returns-2
 unfolding bytes
-returns-2 c = let w = further-at _ _ _ _ _ (c .before .before .o .given .1) (c .before .before .before .before .begins-at .ensures .1) in (c .flags-to .ensures .0 (length (now (c .before .before .before .before .before .before .before .args .text)) + 1) (omega arith) ∙ sym (ap answerOf (some-flags (now (c .before .before .before .before .before .before .before .args .text)) (c .before .before .before .before .before .before .before .args .from) _ _ (is-there (now (c .before .before .before .before .before .before .before .args .text)) (bytes ":requirements") (c .before .before .before .before .before .before .before .args .from) (c .before .before .before .before .begins-at .result) (c .before .before .before .before .begins-at .ensures .0) _ _ (c .before .before .o .given .1)))), onwards-by _ _ _ _ (omega arith) (c .flags-to .ensures .1))
+returns-2 c = let c2 = c .before .before in let w = further-at _ _ _ _ _ (c2 .o .given .1) (c2 .before .before .begins-at .ensures .1) in (c .flags-to .ensures .0 (length (now (c2 .before .before .before .before .before .args .text)) + 1) (omega arith) ∙ sym (ap answerOf (some-flags _ _ _ _ (is-there _ (bytes ":requirements") _ _ (c2 .before .before .begins-at .ensures .0) _ _ (c2 .o .given .1)))), onwards-by _ _ _ _ (omega arith) (c .flags-to .ensures .1))
 
 pub flags-section-spec : {M : Type 1} → statement M
 flags-section-spec =

@@ -35,7 +35,7 @@ same-length c = search needs
 
 returns : tie.Need-returns
 unfolding bytes
-returns c = (reads 17 _ 1 _ _ _ (no-types (now (c .before .before .before .before .before .before .before .before .before .before .before .before .args .text)) (c .before .before .before .before .before .before .before .before .before .before .before .before .args .from) (is-missing (now (c .before .before .before .before .before .before .before .before .before .before .before .before .args .text)) (bytes ":types") (c .before .before .before .before .before .before .before .before .before .before .before .before .args .from) (c .before .before .before .before .before .before .before .before .begins-at .result) (c .before .before .before .before .before .before .before .before .begins-at .ensures .0) (c .before .before .before .before .before .before .enum-told .given .1))) (c .before .before .enter .ensures [] (holds-none 17 _ (c .before .before .before .before .before .before .before .before .before .before .before .before .pre .1))), onwards-here _ _ _ (c .before .before .before .before .before .before .before .before .before .before .before .before .pre .0))
+returns c = let c2 = c .before .before in let c6 = c2 .before .before .before .before in let c12 = c6 .before .before .before .before .before .before in (reads 17 _ 1 _ _ _ (no-types _ _ (is-missing _ (bytes ":types") _ _ (c6 .before .before .begins-at .ensures .0) (c6 .enum-told .given .1))) (c2 .enter .ensures [] (holds-none 17 _ (c12 .pre .1))), onwards-here _ _ _ (c12 .pre .0))
 
 types-to-requires : tie.Need-types-to-requires
 types-to-requires c κs = ((further-at _ _ _ _ _ (c .before .before .o .given .1) (c .before .before .before .before .begins-at .ensures .1)) .1, c .before .before .before .before .before .before .before .before .pre .1)
@@ -45,7 +45,7 @@ same-length-2 c = search needs
 
 returns-2 : tie.Need-returns-2
 unfolding bytes
-returns-2 c = let w = further-at _ _ _ _ _ (c .before .before .before .before .before .o .given .1) (c .before .before .before .before .before .before .before .begins-at .ensures .1) in (outcome-by 17 _ _ _ _ (some-types (now (c .before .before .before .before .before .before .before .before .before .before .before .args .text)) (c .before .before .before .before .before .before .before .before .before .before .before .args .from) _ _ (is-there (now (c .before .before .before .before .before .before .before .before .before .before .before .args .text)) (bytes ":types") (c .before .before .before .before .before .before .before .before .before .before .before .args .from) (c .before .before .before .before .before .before .before .begins-at .result) (c .before .before .before .before .before .before .before .begins-at .ensures .0) _ _ (c .before .before .before .before .before .o .given .1))) (c .before .before .types-to .ensures .0), onwards-by _ _ _ _ (omega arith) (c .before .before .types-to .ensures .1))
+returns-2 c = let c2 = c .before .before in let c5 = c2 .before .before .before in let w = further-at _ _ _ _ _ (c5 .o .given .1) (c5 .before .before .begins-at .ensures .1) in (outcome-by 17 _ _ _ _ (some-types _ _ _ _ (is-there _ (bytes ":types") _ _ (c5 .before .before .begins-at .ensures .0) _ _ (c5 .o .given .1))) (c2 .types-to .ensures .0), onwards-by _ _ _ _ (omega arith) (c2 .types-to .ensures .1))
 
 pub types-section-spec : {M : Type 1} → statement M
 types-section-spec =

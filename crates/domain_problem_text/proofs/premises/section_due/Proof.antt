@@ -20,13 +20,13 @@ enum-told : tie.Need-enum-told
 enum-told c = search needs
 
 returns : tie.Need-returns
-returns c = (c .enum-told .given .1 ∙ sym (ap answerOf (due-unopened (now (c .before .before .before .before .before .args .text)) (now (c .before .before .before .before .before .args .w)) (c .before .before .before .before .before .args .from) _ _ (answer-refused _ _ _ (sym (c .before .before .opening .ensures .0) ∙ c .enum-told .given .1)))), ahead-refused _ _ _ _ _ (c .enum-told .given .1))
+returns c = (c .enum-told .given .1 ∙ sym (ap answerOf (due-unopened _ _ _ _ _ (answer-refused _ _ _ (sym (c .before .before .opening .ensures .0) ∙ c .enum-told .given .1)))), ahead-refused _ _ _ _ _ (c .enum-told .given .1))
 
 word-due-requires : tie.Need-word-due-requires
 word-due-requires c κs = (ahead-done _ _ _ _ _ (c .before .a .given .1) (c .before .before .before .opening .ensures .1)) .1
 
 returns-2 : tie.Need-returns-2
-returns-2 c = let b = ahead-done _ _ _ _ _ (c .before .before .a .given .1) (c .before .before .before .before .opening .ensures .1) in (c .word-due .ensures .0 ∙ sym (ap answerOf (due-inside (now (c .before .before .before .before .before .before .before .args .text)) (now (c .before .before .before .before .before .before .before .args .w)) (c .before .before .before .before .before .before .before .args .from) _ _ (answer-done _ _ _ (sym (c .before .before .before .before .opening .ensures .0) ∙ c .before .before .a .given .1)))), ahead-further _ _ _ _ (omega arith) (c .word-due .ensures .1))
+returns-2 c = let c2 = c .before .before in let b = ahead-done _ _ _ _ _ (c2 .a .given .1) (c2 .before .before .opening .ensures .1) in (c .word-due .ensures .0 ∙ sym (ap answerOf (due-inside _ _ _ _ _ (answer-done _ _ _ (sym (c2 .before .before .opening .ensures .0) ∙ c2 .a .given .1)))), ahead-further _ _ _ _ (omega arith) (c .word-due .ensures .1))
 
 pub section-due-spec : {M : Type 1} → statement M
 section-due-spec =

@@ -18,10 +18,10 @@ enum-told : tie.Need-enum-told
 enum-told c = search needs
 
 returns : tie.Need-returns
-returns c = (λ s x q h. name-missing s x (c .before .before .before .before .before .args .p) (c .before .before .before .before .before .args .e) (sym (rw q at (c .before .before .find-in .ensures _ (x .objects) (h .objects))) ∙ c .enum-told .given .1), cell-refused 8 (c .before .before .before .before .before .args .p) _ refl)
+returns c = (λ s x q h. name-missing s x _ _ (sym (rw q at (c .before .before .find-in .ensures _ (x .objects) (h .objects))) ∙ c .enum-told .given .1), cell-refused 8 (c .before .before .before .before .before .args .p) _ refl)
 
 returns-2 : tie.Need-returns-2
-returns-2 c = (λ s x q h. name-found s x (c .before .before .before .before .before .before .args .p) (c .before .before .before .before .before .before .args .e) (c .before .f .given .0 .0) (sym (rw q at (c .before .before .before .find-in .ensures _ (x .objects) (h .objects))) ∙ c .before .f .given .1), let h = c .before .before .before .before .before .before .pre .1 in let x = c .before .before .before .before .before .before .pre .0 in cell-done _ (c .before .f .given .0 .0) (omega (arith, found-below (x .objects) _ (c .before .f .given .0 .0) (sym (c .before .before .before .find-in .ensures _ (x .objects) (h .objects)) ∙ c .before .f .given .1), h .objects .fits, h .objects .count)))
+returns-2 c = let c1 = c .before in let c3 = c1 .before .before in (λ s x q h. name-found s x _ _ (c1 .f .given .0 .0) (sym (rw q at (c3 .find-in .ensures _ (x .objects) (h .objects))) ∙ c1 .f .given .1), let h = c3 .before .before .before .pre .1 in let x = c3 .before .before .before .pre .0 in cell-done _ (c1 .f .given .0 .0) (omega (arith, found-below (x .objects) _ (c1 .f .given .0 .0) (sym (c3 .find-in .ensures _ (x .objects) (h .objects)) ∙ c1 .f .given .1), h .objects .fits, h .objects .count)))
 
 pub object-at-spec : {M : Type 1} → statement M
 object-at-spec =

@@ -11,7 +11,7 @@ use Rattle.domain_terms.proofs.arguments.variable_at.Statement.{stateme
 use Rattle.domain_terms.proofs.arguments.variable_at.Tie as tie
 
 returns : tie.Need-returns
-returns c = (λ x h. variable-out (now (c .before .before .before .args .text)) x (c .before .before .before .args .p) (c .before .before .before .args .e) (sym (h .action) ∙ not-true _ (c .if1 .taken)), cell-refused 3 (c .before .before .before .args .p) _ refl)
+returns c = (λ x h. variable-out _ x _ _ (sym (h .action) ∙ not-true _ (c .if1 .taken)), cell-refused 3 (c .before .before .before .args .p) _ refl)
 
 add-part-of : tie.Need-add-part-of
 add-part-of c = search needs
@@ -29,13 +29,13 @@ enum-told : tie.Need-enum-told
 enum-told c = search needs
 
 returns-2 : tie.Need-returns-2
-returns-2 c = (λ x h. variable-missing (now (c .before .before .before .before .before .before .before .args .text)) x (c .before .before .before .before .before .before .before .args .p) (c .before .before .before .before .before .before .before .args .e) (sym (h .action) ∙ not-false _ (c .before .before .before .before .if1 .left)) (sym (rw (c .before .before .before .part-of .ensures) at (c .before .before .find-in .ensures _ (x .variables) (h .variables))) ∙ c .enum-told .given .1), cell-refused 8 (c .before .before .before .before .before .before .before .args .p) _ refl)
+returns-2 c = let c2 = c .before .before in (λ x h. variable-missing _ x _ _ (sym (h .action) ∙ not-false _ (c2 .before .before .if1 .left)) (sym (rw (c2 .before .part-of .ensures) at (c2 .find-in .ensures _ (x .variables) (h .variables))) ∙ c .enum-told .given .1), cell-refused 8 (c2 .before .before .before .before .before .args .p) _ refl)
 
 add-t12 : tie.Need-add-t12
-add-t12 c = let h = c .before .before .before .before .before .before .before .before .pre .0 .1 in let x = c .before .before .before .before .before .before .before .before .pre .0 .0 in omega (arith, found-below (x .variables) _ (c .before .f .given .0 .0) (sym (rw (c .before .before .before .before .part-of .ensures) at (c .before .before .before .find-in .ensures _ (x .variables) (h .variables))) ∙ c .before .f .given .1), h .variables .fits, h .variables .count)
+add-t12 c = let c3 = c .before .before .before in let h = c3 .before .before .before .before .before .pre .0 .1 in let x = c3 .before .before .before .before .before .pre .0 .0 in omega (arith, found-below (x .variables) _ (c .before .f .given .0 .0) (sym (rw (c3 .before .part-of .ensures) at (c3 .find-in .ensures _ (x .variables) (h .variables))) ∙ c .before .f .given .1), h .variables .fits, h .variables .count)
 
 returns-3 : tie.Need-returns-3
-returns-3 c = (λ x h. variable-found (now (c .before .before .before .before .before .before .before .before .args .text)) x (c .before .before .before .before .before .before .before .before .args .p) (c .before .before .before .before .before .before .before .before .args .e) (c .before .f .given .0 .0) (sym (h .action) ∙ not-false _ (c .before .before .before .before .before .if1 .left)) (sym (rw (c .before .before .before .before .part-of .ensures) at (c .before .before .before .find-in .ensures _ (x .variables) (h .variables))) ∙ c .before .f .given .1), let h = c .before .before .before .before .before .before .before .before .pre .0 .1 in let x = c .before .before .before .before .before .before .before .before .pre .0 .0 in cell-done _ (64 + c .before .f .given .0 .0) (omega (arith, found-below (x .variables) _ (c .before .f .given .0 .0) (sym (rw (c .before .before .before .before .part-of .ensures) at (c .before .before .before .find-in .ensures _ (x .variables) (h .variables))) ∙ c .before .f .given .1), h .variables .fits, h .variables .count)))
+returns-3 c = let c1 = c .before in let c3 = c1 .before .before in (λ x h. variable-found _ x _ _ (c1 .f .given .0 .0) (sym (h .action) ∙ not-false _ (c3 .before .before .if1 .left)) (sym (rw (c3 .before .part-of .ensures) at (c3 .find-in .ensures _ (x .variables) (h .variables))) ∙ c1 .f .given .1), let h = c3 .before .before .before .before .before .pre .0 .1 in let x = c3 .before .before .before .before .before .pre .0 .0 in cell-done _ (64 + c1 .f .given .0 .0) (omega (arith, found-below (x .variables) _ (c1 .f .given .0 .0) (sym (rw (c3 .before .part-of .ensures) at (c3 .find-in .ensures _ (x .variables) (h .variables))) ∙ c1 .f .given .1), h .variables .fits, h .variables .count)))
 
 pub variable-at-spec : {M : Type 1} → statement M
 variable-at-spec =

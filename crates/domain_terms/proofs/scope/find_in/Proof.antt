@@ -14,7 +14,7 @@ find-requires : tie.Need-find-requires
 find-requires c κs = search needs
 
 returns : tie.Need-returns
-returns c = λ m t h. c .find .ensures ∙ rw (c .before .part-of .ensures) (lookup-held m _ (c .before .before .before .before .args .n) t (now (c .before .before .before .before .args .w)) h)
+returns c = λ m t h. c .find .ensures ∙ rw (c .before .part-of .ensures) (lookup-held m _ _ t _ h)
 
 pub find-in-spec : {M : Type 1} → statement M
 find-in-spec = tie.close (tie.spec part-of-requires find-requires returns)

@@ -33,7 +33,7 @@ loop-less : tie.Need-loop-less Inv-loop μ-loop
 loop-less c = search needs
 
 loop-again : tie.Need-loop-again Inv-loop μ-loop
-loop-again c = (omega arith, c .before .before .before .loop .inv .1 ∙ below-up (c .before .before .before .loop .left) (now (c .before .before .before .before .before .args .tables)) (c .before .before .before .before .before .args .n) (c .before .before .before .loop .x) (c .before .before .before .before .before .args .b) (c .before .before .loop-test .taken) (c .before .if1 .left) ∙ rw (c .kept-in .ensures .2))
+loop-again c = (omega arith, c .before .before .before .loop .inv .1 ∙ below-up (c .before .before .before .loop .left) _ _ _ _ (c .before .before .loop-test .taken) (c .before .if1 .left) ∙ rw (c .kept-in .ensures .2))
 
 returns-2 : tie.Need-returns-2 Inv-loop μ-loop
 returns-2 c =

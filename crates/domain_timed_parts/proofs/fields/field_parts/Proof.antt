@@ -29,10 +29,10 @@ same-length : tie.Need-same-length
 same-length c = search needs
 
 returns : tie.Need-returns
-returns c = (λ x h. field-none (now (c .before .before .before .before .before .before .before .before .before .before .before .args .text)) x (now (c .before .before .before .before .before .before .before .before .before .before .before .args .w)) (c .before .before .before .before .before .before .before .before .before .before .before .args .left) (c .before .before .before .before .before .before .before .before .before .before .before .args .from) (c .before .before .before .before .before .before .before .before .before .before .before .args .durative) (c .before .before .before .before .before .before .before .before .before .before .before .args .over) (now (c .before .before .before .before .before .before .before .before .before .before .before .args .code)) (c .before .before .before .before .before .before .before .before .before .before .before .args .used) _ (sym (c .before .before .before .before .enum-told .given .1) ∙ c .before .before .before .before .before .before .field-at .ensures .0) (c .before .before .put .ensures), onwards-by _ _ _ _ _ (omega arith) (c .before .before .before .before .before .before .before .before .before .before .before .pre .0) (omega arith) (omega arith))
+returns c = let c2 = c .before .before in let c4 = c2 .before .before in let c11 = c4 .before .before .before .before .before .before .before in (λ x h. field-none _ x _ (c11 .args .left) _ _ _ _ _ _ (sym (c4 .enum-told .given .1) ∙ c4 .before .before .field-at .ensures .0) (c2 .put .ensures), onwards-by _ _ _ _ _ (omega arith) (c11 .pre .0) (omega arith) (omega arith))
 
 held-at-requires : tie.Need-held-at-requires
-held-at-requires c κs = let q = farther-at _ _ _ _ (c .before .before .f .given .1) (c .before .before .before .before .field-at .ensures .1) in (q .1, c .before .before .before .before .before .before .before .before .before .pre .1, omega (arith, q .0, q .1, c .before .before .before .before .before .before .before .before .before .pre .2))
+held-at-requires c κs = let c2 = c .before .before in let c9 = c2 .before .before .before .before .before .before .before in let q = farther-at _ _ _ _ (c2 .f .given .1) (c2 .before .before .field-at .ensures .1) in (q .1, c9 .pre .1, omega (arith, q .0, q .1, c9 .pre .2))
 
 enum-known-x : tie.Need-enum-known-x
 enum-known-x c = search needs
@@ -41,7 +41,7 @@ put-requires-2 : tie.Need-put-requires-2
 put-requires-2 c κs = search needs
 
 add-t28 : tie.Need-add-t28
-add-t28 c = let q = farther-at _ _ _ _ (c .before .before .before .before .before .before .before .before .before .before .before .before .f .given .1) (c .before .before .before .before .before .before .before .before .before .before .before .before .before .before .field-at .ensures .1) in let w = spent-at 2 _ _ _ _ _ _ _ (c .before .before .before .before .before .x .given .1) (c .before .before .before .before .before .before .before .before .before .held-at .ensures .1) in omega (arith, q .0, w .0, w .1, w .3, c .before .before .before .before .before .before .before .before .before .before .before .before .before .before .before .before .before .before .before .pre .2)
+add-t28 c = let c5 = c .before .before .before .before .before in let c9 = c5 .before .before .before .before in let c12 = c9 .before .before .before in let q = farther-at _ _ _ _ (c12 .f .given .1) (c12 .before .before .field-at .ensures .1) in let w = spent-at 2 _ _ _ _ _ _ _ (c5 .x .given .1) (c9 .held-at .ensures .1) in omega (arith, q .0, w .0, w .1, w .3, c12 .before .before .before .before .before .before .before .pre .2)
 
 enum-known-x-2 : tie.Need-enum-known-x-2
 enum-known-x-2 c = search needs
@@ -50,13 +50,13 @@ same-length-2 : tie.Need-same-length-2
 same-length-2 c = search needs
 
 returns-2 : tie.Need-returns-2
-returns-2 c = let q = farther-at _ _ _ _ (c .before .before .before .before .before .before .before .before .before .before .before .before .f .given .1) (c .before .before .before .before .before .before .before .before .before .before .before .before .before .before .field-at .ensures .1) in let w = spent-at 2 _ _ _ _ _ _ _ (c .before .before .before .before .before .x .given .1) (c .before .before .before .before .before .before .before .before .before .held-at .ensures .1) in (λ x h. field-done (now (c .before .before .before .before .before .before .before .before .before .before .before .before .before .before .before .before .before .before .before .args .text)) x (now (c .before .before .before .before .before .before .before .before .before .before .before .before .before .before .before .before .before .before .before .args .w)) (c .before .before .before .before .before .before .before .before .before .before .before .before .before .before .before .before .before .before .before .args .left) (c .before .before .before .before .before .before .before .before .before .before .before .before .before .before .before .before .before .before .before .args .from) (c .before .before .before .before .before .before .before .before .before .before .before .before .before .before .before .before .before .before .before .args .durative) (c .before .before .before .before .before .before .before .before .before .before .before .before .before .before .before .before .before .before .before .args .over) (now (c .before .before .before .before .before .before .before .before .before .before .before .before .before .before .before .before .before .before .before .args .code)) (c .before .before .before .before .before .before .before .before .before .before .before .before .before .before .before .before .before .before .before .args .used) _ (sym (c .before .before .before .before .before .before .before .before .before .before .before .before .f .given .1) ∙ c .before .before .before .before .before .before .before .before .before .before .before .before .before .before .field-at .ensures .0) (c .before .before .before .before .before .before .before .before .before .held-at .result) _ (c .before .before .before .before .before .before .before .before .before .held-at .ensures .0 x h) _ _ _ _ (c .before .before .before .before .before .x .given .1) (c .before .before .put2 .ensures), onwards-by _ _ _ _ _ (omega (arith, q .0, w .0)) (w .1) (omega (arith, w .2)) (omega (arith, q .0, w .3)))
+returns-2 c = let c2 = c .before .before in let c5 = c2 .before .before .before in let c9 = c5 .before .before .before .before in let c12 = c9 .before .before .before in let q = farther-at _ _ _ _ (c12 .f .given .1) (c12 .before .before .field-at .ensures .1) in let w = spent-at 2 _ _ _ _ _ _ _ (c5 .x .given .1) (c9 .held-at .ensures .1) in (λ x h. field-done _ x _ (c12 .before .before .before .before .before .before .before .args .left) _ _ _ _ _ _ (sym (c12 .f .given .1) ∙ c12 .before .before .field-at .ensures .0) _ _ (c9 .held-at .ensures .0 x h) _ _ _ _ (c5 .x .given .1) (c2 .put2 .ensures), onwards-by _ _ _ _ _ (omega (arith, q .0, w .0)) (w .1) (omega (arith, w .2)) (omega (arith, q .0, w .3)))
 
 same-length-3 : tie.Need-same-length-3
 same-length-3 c = search needs
 
 returns-3 : tie.Need-returns-3
-returns-3 c = (λ x h. field-refused (now (c .before .before .before .before .before .before .before .before .before .before .before .before .before .before .before .args .text)) x (now (c .before .before .before .before .before .before .before .before .before .before .before .before .before .before .before .args .w)) (c .before .before .before .before .before .before .before .before .before .before .before .before .before .before .before .args .left) (c .before .before .before .before .before .before .before .before .before .before .before .before .before .before .before .args .from) (c .before .before .before .before .before .before .before .before .before .before .before .before .before .before .before .args .durative) (c .before .before .before .before .before .before .before .before .before .before .before .before .before .before .before .args .over) (now (c .before .before .before .before .before .before .before .before .before .before .before .before .before .before .before .args .code)) (c .before .before .before .before .before .before .before .before .before .before .before .before .before .before .before .args .used) _ (sym (c .before .before .before .before .before .before .before .before .f .given .1) ∙ c .before .before .before .before .before .before .before .before .before .before .field-at .ensures .0) (c .before .before .before .before .before .held-at .result) _ (c .before .before .before .before .before .held-at .ensures .0 x h) _ _ (c .before .x2 .given .1), onwards-refused _ _ _ _ _)
+returns-3 c = let c5 = c .before .before .before .before .before in let c8 = c5 .before .before .before in (λ x h. field-refused _ x _ (c8 .before .before .before .before .before .before .before .args .left) _ _ _ _ _ _ (sym (c8 .f .given .1) ∙ c8 .before .before .field-at .ensures .0) _ _ (c5 .held-at .ensures .0 x h) _ _ (c .before .x2 .given .1), onwards-refused _ _ _ _ _)
 
 pub field-parts-spec : {M : Type 1} → statement M
 field-parts-spec =

@@ -15,7 +15,7 @@ same-length : tie.Need-same-length
 same-length c = search needs
 
 returns : tie.Need-returns
-returns c = (λ x h. held-parts (now (c .before .before .before .before .before .before .before .before .args .text)) x (c .before .before .before .before .before .before .before .before .args .left) (c .before .before .before .before .before .before .before .before .args .from) (c .before .before .before .before .before .before .before .before .args .durative) (c .before .before .before .before .before .before .before .before .args .over) (now (c .before .before .before .before .before .before .before .before .args .code)) (c .before .before .before .before .before .before .before .before .args .used) (c .before .before .parts-at .result) _ (c .before .before .before .before .if1 .taken) (c .before .before .parts-at .ensures .0 x h), spent-more (c .before .before .parts-at .result) 2 _ _ _ (c .before .before .parts-at .ensures .1))
+returns c = let c2 = c .before .before in (λ x h. held-parts _ x (c2 .before .before .before .before .before .before .args .left) _ _ _ _ _ _ _ (c2 .before .before .if1 .taken) (c2 .parts-at .ensures .0 x h), spent-more _ 2 _ _ _ (c2 .parts-at .ensures .1))
 
 put-requires : tie.Need-put-requires
 put-requires c κs = search needs
@@ -24,13 +24,13 @@ add-body-at : tie.Need-add-body-at
 add-body-at c = search needs
 
 body-at-requires : tie.Need-body-at-requires
-body-at-requires c κs = (c .before .before .before .before .before .before .before .before .before .pre .0, c .before .before .before .before .before .before .before .before .before .pre .1, omega (arith, c .before .before .before .before .before .before .before .before .before .pre .2))
+body-at-requires c κs = let c9 = c .before .before .before .before .before .before .before .before .before in (c9 .pre .0, c9 .pre .1, omega (arith, c9 .pre .2))
 
 same-length-2 : tie.Need-same-length-2
 same-length-2 c = search needs
 
 returns-2 : tie.Need-returns-2
-returns-2 c = (λ x h. held-instant (now (c .before .before .before .before .before .before .before .before .before .before .before .before .args .text)) x (c .before .before .before .before .before .before .before .before .before .before .before .before .args .left) (c .before .before .before .before .before .before .before .before .before .before .before .before .args .from) (c .before .before .before .before .before .before .before .before .before .before .before .before .args .durative) (c .before .before .before .before .before .before .before .before .before .before .before .before .args .over) (now (c .before .before .before .before .before .before .before .before .before .before .before .before .args .code)) (c .before .before .before .before .before .before .before .before .before .before .before .before .args .used) (c .before .before .body-at .result) _ _ (c .before .before .before .before .before .before .before .before .if1 .left) (c .before .before .before .before .before .before .put .ensures) (c .before .before .body-at .ensures .0 x h), spent-under (c .before .before .body-at .result) _ _ _ (c .before .before .body-at .ensures .1))
+returns-2 c = let c2 = c .before .before in let c6 = c2 .before .before .before .before in (λ x h. held-instant _ x (c6 .before .before .before .before .before .before .args .left) _ _ _ _ _ _ _ _ (c6 .before .before .if1 .left) (c6 .put .ensures) (c2 .body-at .ensures .0 x h), spent-under _ _ _ _ (c2 .body-at .ensures .1))
 
 pub held-at-spec : {M : Type 1} → statement M
 held-at-spec =

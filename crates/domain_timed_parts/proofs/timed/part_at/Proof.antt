@@ -27,7 +27,7 @@ progress-of-requires : tie.Need-progress-of-requires
 progress-of-requires c κs = search needs
 
 returns : tie.Need-returns
-returns c = (λ x h. part-unopened (now (c .before .before .before .before .before .before .before .args .text)) (c .before .before .before .before .before .before .before .args .over) (bodyOf (c .before .before .before .before .before .before .before .args .over) (now (c .before .before .before .before .before .before .before .args .text)) x) (c .before .before .before .before .before .before .before .args .d) (c .before .before .before .before .before .before .before .args .left) (c .before .before .before .before .before .before .before .args .from) (now (c .before .before .before .before .before .before .before .args .code)) (c .before .before .before .before .before .before .before .args .used) (c .progress-of .result) _ _ (answer-refused (opening (now (c .before .before .before .before .before .before .before .args .text)) (c .before .before .before .before .before .before .before .args .d) (c .before .before .before .before .before .before .before .args .from)) _ _ (sym (c .before .before .before .opening .ensures .0) ∙ c .before .enum-told .given .1)) (c .progress-of .ensures ∙ ap (passed _) (c .before .enum-told .given .1)), spent-refused _ _ _ _ _ _ _ (c .progress-of .ensures ∙ ap (passed _) (c .before .enum-told .given .1)))
+returns c = (λ x h. part-unopened _ _ (bodyOf _ _ x) _ (c .before .before .before .before .before .before .before .args .left) _ _ _ _ _ _ (answer-refused (opening _ _ _) _ _ (sym (c .before .before .before .opening .ensures .0) ∙ c .before .enum-told .given .1)) (c .progress-of .ensures ∙ ap (passed _) (c .before .enum-told .given .1)), spent-refused _ _ _ _ _ _ _ (c .progress-of .ensures ∙ ap (passed _) (c .before .enum-told .given .1)))
 
 token-at-requires : tie.Need-token-at-requires
 token-at-requires c κs = search needs
@@ -36,7 +36,7 @@ enum-known-t : tie.Need-enum-known-t
 enum-known-t c = search needs
 
 sub-refusal : tie.Need-sub-refusal
-sub-refusal c = let deep = opened-deep (now (c .before .before .before .before .before .before .before .before .before .args .text)) (c .before .before .before .before .before .before .before .before .before .args .d) (c .before .before .before .before .before .before .before .before .before .args .from) _ _ (answer-done (opening (now (c .before .before .before .before .before .before .before .before .before .args .text)) (c .before .before .before .before .before .before .before .before .before .args .d) (c .before .before .before .before .before .before .before .before .before .args .from)) _ _ (sym (c .before .before .before .before .before .opening .ensures .0) ∙ c .before .before .before .o .given .1)) in omega arith
+sub-refusal c = let deep = opened-deep _ _ _ _ _ (answer-done (opening _ _ _) _ _ (sym (c .before .before .before .before .before .opening .ensures .0) ∙ c .before .before .before .o .given .1)) in omega arith
 
 refusal-requires : tie.Need-refusal-requires
 refusal-requires c κs = search needs
@@ -45,19 +45,19 @@ progress-of-requires-2 : tie.Need-progress-of-requires-2
 progress-of-requires-2 c κs = search needs
 
 returns-2 : tie.Need-returns-2
-returns-2 c = (λ x h. part-else (now (c .before .before .before .before .before .before .before .before .before .before .before .args .text)) (c .before .before .before .before .before .before .before .before .before .before .before .args .over) (bodyOf (c .before .before .before .before .before .before .before .before .before .before .before .args .over) (now (c .before .before .before .before .before .before .before .before .before .before .before .args .text)) x) (c .before .before .before .before .before .before .before .before .before .before .before .args .d) (c .before .before .before .before .before .before .before .before .before .before .before .args .left) (c .before .before .before .before .before .before .before .before .before .before .before .args .from) (now (c .before .before .before .before .before .before .before .before .before .before .before .args .code)) (c .before .before .before .before .before .before .before .before .before .before .before .args .used) _ _ (answer-done (opening (now (c .before .before .before .before .before .before .before .before .before .before .before .args .text)) (c .before .before .before .before .before .before .before .before .before .before .before .args .d) (c .before .before .before .before .before .before .before .before .before .before .before .args .from)) _ _ (sym (c .before .before .before .before .before .before .before .opening .ensures .0) ∙ c .before .before .before .before .before .o .given .1)) (c .before .before .before .token-at .result) (c .before .before .before .token-at .ensures) (c .before .before .match2 .keys2) (c .progress-of2 .result) (c .progress-of2 .ensures ∙ ap (passed _) (c .before .refusal .ensures)), spent-refused _ _ _ _ _ _ _ (c .progress-of2 .ensures ∙ ap (passed _) (c .before .refusal .ensures)))
+returns-2 c = let c2 = c .before .before in let c5 = c2 .before .before .before in (λ x h. part-else _ _ (bodyOf _ _ x) _ (c5 .before .before .before .before .before .before .args .left) _ _ _ _ _ (answer-done (opening _ _ _) _ _ (sym (c5 .before .before .opening .ensures .0) ∙ c5 .o .given .1)) _ (c2 .before .token-at .ensures) (c2 .match2 .keys2) _ (c .progress-of2 .ensures ∙ ap (passed _) (c .before .refusal .ensures)), spent-refused _ _ _ _ _ _ _ (c .progress-of2 .ensures ∙ ap (passed _) (c .before .refusal .ensures)))
 
 sub-part-behind : tie.Need-sub-part-behind
-sub-part-behind c = let deep = opened-deep (now (c .before .before .before .before .before .before .before .before .before .before .before .args .text)) (c .before .before .before .before .before .before .before .before .before .before .before .args .d) (c .before .before .before .before .before .before .before .before .before .before .before .args .from) _ _ (answer-done (opening (now (c .before .before .before .before .before .before .before .before .before .before .before .args .text)) (c .before .before .before .before .before .before .before .before .before .before .before .args .d) (c .before .before .before .before .before .before .before .before .before .before .before .args .from)) _ _ (sym (c .before .before .before .before .before .before .before .opening .ensures .0) ∙ c .before .before .before .before .before .o .given .1)) in omega arith
+sub-part-behind c = let deep = opened-deep _ _ _ _ _ (answer-done (opening _ _ _) _ _ (sym (c .before .before .before .before .before .before .before .opening .ensures .0) ∙ c .before .before .before .before .before .o .given .1)) in omega arith
 
 part-behind-requires : tie.Need-part-behind-requires
-part-behind-requires c κs = let q = ahead-done _ _ _ _ _ (c .before .before .before .before .before .before .o .given .1) (c .before .before .before .before .before .before .before .before .opening .ensures .1) in let w = word-in (now (c .before .before .before .before .before .before .before .before .before .before .before .before .args .text)) _ (q .1) _ _ _ (sym (c .before .before .before .before .token-at .ensures) ∙ c .before .before .t .given .1) in (w .2, c .before .before .before .before .before .before .before .before .before .before .before .before .pre .1, omega (arith, q .0, w .0, w .1, c .before .before .before .before .before .before .before .before .before .before .before .before .pre .2))
+part-behind-requires c κs = let c2 = c .before .before in let c4 = c2 .before .before in let c6 = c4 .before .before in let c12 = c6 .before .before .before .before .before .before in let q = ahead-done _ _ _ _ _ (c6 .o .given .1) (c6 .before .before .opening .ensures .1) in let w = word-in _ _ (q .1) _ _ _ (sym (c4 .token-at .ensures) ∙ c2 .t .given .1) in (w .2, c12 .pre .1, omega (arith, q .0, w .0, w .1, c12 .pre .2))
 
 same-length : tie.Need-same-length
 same-length c = search needs
 
 returns-3 : tie.Need-returns-3
-returns-3 c = let q = ahead-done _ _ _ _ _ (c .before .before .before .before .before .before .before .before .before .o .given .1) (c .before .before .before .before .before .before .before .before .before .before .before .opening .ensures .1) in let w = word-in (now (c .before .before .before .before .before .before .before .before .before .before .before .before .before .before .before .args .text)) _ (q .1) _ _ _ (sym (c .before .before .before .before .before .before .before .token-at .ensures) ∙ c .before .before .before .before .before .t .given .1) in (λ x h. part-headed (now (c .before .before .before .before .before .before .before .before .before .before .before .before .before .before .before .args .text)) (c .before .before .before .before .before .before .before .before .before .before .before .before .before .before .before .args .over) (bodyOf (c .before .before .before .before .before .before .before .before .before .before .before .before .before .before .before .args .over) (now (c .before .before .before .before .before .before .before .before .before .before .before .before .before .before .before .args .text)) x) (c .before .before .before .before .before .before .before .before .before .before .before .before .before .before .before .args .d) (c .before .before .before .before .before .before .before .before .before .before .before .before .before .before .before .args .left) (c .before .before .before .before .before .before .before .before .before .before .before .before .before .before .before .args .from) (now (c .before .before .before .before .before .before .before .before .before .before .before .before .before .before .before .args .code)) (c .before .before .before .before .before .before .before .before .before .before .before .before .before .before .before .args .used) _ _ (answer-done (opening (now (c .before .before .before .before .before .before .before .before .before .before .before .before .before .before .before .args .text)) (c .before .before .before .before .before .before .before .before .before .before .before .before .before .before .before .args .d) (c .before .before .before .before .before .before .before .before .before .before .before .before .before .before .before .args .from)) _ _ (sym (c .before .before .before .before .before .before .before .before .before .before .before .opening .ensures .0) ∙ c .before .before .before .before .before .before .before .before .before .o .given .1)) _ _ _ (sym (c .before .before .before .before .before .before .before .token-at .ensures) ∙ c .before .before .before .before .before .t .given .1) (c .before .before .part-behind .result) _ (c .before .before .part-behind .ensures .0 x h), spent-back (c .before .before .part-behind .result) _ _ _ _ (omega (arith, q .0, w .0, w .1)) (c .before .before .part-behind .ensures .1))
+returns-3 c = let c2 = c .before .before in let c5 = c2 .before .before .before in let c7 = c5 .before .before in let c9 = c7 .before .before in let q = ahead-done _ _ _ _ _ (c9 .o .given .1) (c9 .before .before .opening .ensures .1) in let w = word-in _ _ (q .1) _ _ _ (sym (c7 .token-at .ensures) ∙ c5 .t .given .1) in (λ x h. part-headed _ _ (bodyOf _ _ x) _ (c9 .before .before .before .before .before .before .args .left) _ _ _ _ _ (answer-done (opening _ _ _) _ _ (sym (c9 .before .before .opening .ensures .0) ∙ c9 .o .given .1)) _ _ _ (sym (c7 .token-at .ensures) ∙ c5 .t .given .1) _ _ (c2 .part-behind .ensures .0 x h), spent-back _ _ _ _ _ (omega (arith, q .0, w .0, w .1)) (c2 .part-behind .ensures .1))
 
 pub part-at-spec : {M : Type 1} → statement M
 part-at-spec =

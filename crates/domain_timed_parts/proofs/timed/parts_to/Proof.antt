@@ -23,7 +23,7 @@ abbrev μ-loop : tie.MeasureT-loop
 μ-loop text from d tables counts code₀ used left over at₀ free₀ more₀ code at free more = length text - at
 
 loop-holds : tie.Need-loop-holds Inv-loop μ-loop
-loop-holds c = (omega arith, c .before .before .before .pre .0, omega arith, omega arith, λ x k h e. onward-start (now (c .before .before .before .args .text)) (c .before .before .before .args .over) (bodyOf (c .before .before .before .args .over) (now (c .before .before .before .args .text)) x) (c .before .before .before .args .d) k (c .before .before .before .args .left) (c .before .before .before .args .from) (now (c .before .before .before .args .code)) (c .before .before .before .args .used) e, refl)
+loop-holds c = (omega arith, c .before .before .before .pre .0, omega arith, omega arith, λ x k h e. onward-start _ _ (bodyOf _ _ x) _ k (c .before .before .before .args .left) _ _ _ e, refl)
 
 token-at-requires : tie.Need-token-at-requires Inv-loop μ-loop
 token-at-requires c κs = tt
@@ -35,10 +35,10 @@ same-length : tie.Need-same-length Inv-loop μ-loop
 same-length c = search needs
 
 returns : tie.Need-returns Inv-loop μ-loop
-returns c = let q = close-in (now (c .before .before .before .before .before .before .before .before .args .text)) (c .before .before .before .before .loop .at) (c .before .before .before .before .loop .inv .1) _ _ (sym (c .before .before .before .token-at .ensures) ∙ c .before .t .given .1) in (λ x k h e. onward-close (now (c .before .before .before .before .before .before .before .before .args .text)) (c .before .before .before .before .before .before .before .before .args .over) (bodyOf (c .before .before .before .before .before .before .before .before .args .over) (now (c .before .before .before .before .before .before .before .before .args .text)) x) (c .before .before .before .before .before .before .before .before .args .d) k (c .before .before .before .before .before .before .before .before .args .left) (c .before .before .before .before .before .before .before .before .args .from) (now (c .before .before .before .before .before .before .before .before .args .code)) (c .before .before .before .before .before .before .before .before .args .used) (c .before .before .before .before .loop .more) (c .before .before .before .before .loop .at) (c .before .before .before .before .loop .code) (c .before .before .before .before .loop .free) (c .before .before .before .before .loop .inv .4 x k h e) _ _ (sym (c .before .before .before .token-at .ensures) ∙ c .before .t .given .1), spent-by 0 _ _ _ _ _ _ (omega (arith, q .0, c .before .before .before .before .loop .inv .0)) (q .1) (c .before .before .before .before .loop .inv .2) (omega (arith, q .0, c .before .before .before .before .loop .inv .3)))
+returns c = let c1 = c .before in let c3 = c1 .before .before in let q = close-in _ _ (c3 .before .loop .inv .1) _ _ (sym (c3 .token-at .ensures) ∙ c1 .t .given .1) in (λ x k h e. onward-close _ _ (bodyOf _ _ x) _ k (c3 .before .before .before .before .before .args .left) _ _ _ _ _ _ _ (c3 .before .loop .inv .4 x k h e) _ _ (sym (c3 .token-at .ensures) ∙ c1 .t .given .1), spent-by 0 _ _ _ _ _ _ (omega (arith, q .0, c3 .before .loop .inv .0)) (q .1) (c3 .before .loop .inv .2) (omega (arith, q .0, c3 .before .loop .inv .3)))
 
 part-at-requires : tie.Need-part-at-requires Inv-loop μ-loop
-part-at-requires c κs = (c .before .before .before .loop .inv .1, c .before .before .before .before .before .before .before .pre .1, omega (arith, c .before .before .before .loop .inv .0, c .before .before .before .loop .inv .1, c .before .before .before .loop .inv .3, c .before .before .before .before .before .before .before .pre .2))
+part-at-requires c κs = let c3 = c .before .before .before in (c3 .loop .inv .1, c3 .before .before .before .before .pre .1, omega (arith, c3 .loop .inv .0, c3 .loop .inv .1, c3 .loop .inv .3, c3 .before .before .before .before .pre .2))
 
 enum-known-x : tie.Need-enum-known-x Inv-loop μ-loop
 enum-known-x c = c .match2 .keys1
@@ -50,13 +50,13 @@ same-length-2 : tie.Need-same-length-2 Inv-loop μ-loop
 same-length-2 c = search needs
 
 returns-2 : tie.Need-returns-2 Inv-loop μ-loop
-returns-2 c = (λ x k h e. onward-refused (now (c .before .before .before .before .before .before .before .before .before .before .before .before .args .text)) (c .before .before .before .before .before .before .before .before .before .before .before .before .args .over) (bodyOf (c .before .before .before .before .before .before .before .before .before .before .before .before .args .over) (now (c .before .before .before .before .before .before .before .before .before .before .before .before .args .text)) x) (c .before .before .before .before .before .before .before .before .before .before .before .before .args .d) k (c .before .before .before .before .before .before .before .before .before .before .before .before .args .left) (c .before .before .before .before .before .before .before .before .before .before .before .before .args .from) (now (c .before .before .before .before .before .before .before .before .before .before .before .before .args .code)) (c .before .before .before .before .before .before .before .before .before .before .before .before .args .used) (c .before .before .before .before .before .before .before .before .loop .more) (c .before .before .before .before .before .before .before .before .loop .at) (c .before .before .before .before .before .before .before .before .loop .code) (c .before .before .before .before .before .before .before .before .loop .free) (c .before .before .before .before .before .before .before .before .loop .inv .4 x k h e) (c .before .before .before .before .before .before .before .token-at .result) (c .before .before .before .before .before .before .before .token-at .ensures) (c .before .before .before .before .before .before .match .keys2) (c .before .before .before .before .part-at .result) _ (c .before .before .before .before .part-at .ensures .0 x h) _ _ (c .enum-told .given .1), spent-refused _ _ _ _ _ _ _ (c .enum-told .given .1))
+returns-2 c = let c4 = c .before .before .before .before in let c6 = c4 .before .before in (λ x k h e. onward-refused _ _ (bodyOf _ _ x) _ k (c6 .before .before .before .before .before .before .args .left) _ _ _ _ _ _ _ (c6 .before .before .loop .inv .4 x k h e) _ (c6 .before .token-at .ensures) (c6 .match .keys2) _ _ (c4 .part-at .ensures .0 x h) _ _ (c .enum-told .given .1), spent-refused _ _ _ _ _ _ _ (c .enum-told .given .1))
 
 loop-less : tie.Need-loop-less Inv-loop μ-loop
 loop-less c = let w = spent-at 0 _ _ _ _ _ _ _ (c .before .x .given .1) (c .before .before .before .before .before .part-at .ensures .1) in omega (arith, w .0, w .1)
 
 loop-again : tie.Need-loop-again Inv-loop μ-loop
-loop-again c = let w = spent-at 0 _ _ _ _ _ _ _ (c .before .x .given .1) (c .before .before .before .before .before .part-at .ensures .1) in (omega (arith, w .0, c .before .before .before .before .before .before .before .before .before .loop .inv .0), w .1, omega (arith, w .2, c .before .before .before .before .before .before .before .before .before .loop .inv .2), omega (arith, w .3, c .before .before .before .before .before .before .before .before .before .loop .inv .3), λ x k h e. onward-more (now (c .before .before .before .before .before .before .before .before .before .before .before .before .before .args .text)) (c .before .before .before .before .before .before .before .before .before .before .before .before .before .args .over) (bodyOf (c .before .before .before .before .before .before .before .before .before .before .before .before .before .args .over) (now (c .before .before .before .before .before .before .before .before .before .before .before .before .before .args .text)) x) (c .before .before .before .before .before .before .before .before .before .before .before .before .before .args .d) k (c .before .before .before .before .before .before .before .before .before .before .before .before .before .args .left) (c .before .before .before .before .before .before .before .before .before .before .before .before .before .args .from) (now (c .before .before .before .before .before .before .before .before .before .before .before .before .before .args .code)) (c .before .before .before .before .before .before .before .before .before .before .before .before .before .args .used) (c .before .before .before .before .before .before .before .before .before .loop .more) (c .before .before .before .before .before .before .before .before .before .loop .at) (c .before .before .before .before .before .before .before .before .before .loop .code) (c .before .before .before .before .before .before .before .before .before .loop .free) (c .before .before .before .before .before .before .before .before .before .loop .inv .4 x k h e) (c .before .before .before .before .before .before .before .before .token-at .result) (c .before .before .before .before .before .before .before .before .token-at .ensures) (c .before .before .before .before .before .before .before .match .keys2) (c .before .before .before .before .before .part-at .result) _ (c .before .before .before .before .before .part-at .ensures .0 x h) _ _ _ (c .before .x .given .1) (w .0) (w .1), search needs)
+loop-again c = let c1 = c .before in let c5 = c1 .before .before .before .before in let c7 = c5 .before .before in let c9 = c7 .before .before in let w = spent-at 0 _ _ _ _ _ _ _ (c1 .x .given .1) (c5 .part-at .ensures .1) in (omega (arith, w .0, c9 .loop .inv .0), w .1, omega (arith, w .2, c9 .loop .inv .2), omega (arith, w .3, c9 .loop .inv .3), λ x k h e. onward-more _ _ (bodyOf _ _ x) _ k (c9 .before .before .before .before .args .left) _ _ _ _ _ _ _ (c9 .loop .inv .4 x k h e) _ (c7 .before .token-at .ensures) (c7 .match .keys2) _ _ (c5 .part-at .ensures .0 x h) _ _ _ (c1 .x .given .1) (w .0) (w .1), search needs)
 
 pub parts-to-spec : {M : Type 1} → statement M
 parts-to-spec =

@@ -20,7 +20,7 @@ refusal-requires : tie.Need-refusal-requires
 refusal-requires c κs = search needs
 
 returns : tie.Need-returns
-returns c = (behind-else (now (c .before .before .before .before .args .text)) (c .before .before .before .before .args .d) (c .before .before .before .before .args .from) (c .before .before .token-at .result) _ (c .before .before .token-at .ensures) (c .before .match .keys2) (c .refusal .ensures), ahead-refused _ _ _ _ _ (c .refusal .ensures))
+returns c = (behind-else _ _ _ _ _ (c .before .before .token-at .ensures) (c .before .match .keys2) (c .refusal .ensures), ahead-refused _ _ _ _ _ (c .refusal .ensures))
 
 word-of-requires : tie.Need-word-of-requires
 word-of-requires c κs = search needs
@@ -33,7 +33,7 @@ same-word-requires c κs = search needs
 
 returns-2 : tie.Need-returns-2
 unfolding bytes
-returns-2 c = let w = word-in (now (c .before .before .before .before .before .before .before .before .before .args .text)) (c .before .before .before .before .before .before .before .before .before .args .from) (c .before .before .before .before .before .before .before .before .before .pre) _ _ _ (sym (c .before .before .before .before .before .before .before .token-at .ensures) ∙ c .before .before .before .before .before .t .given .1) in (behind-start (now (c .before .before .before .before .before .before .before .before .before .args .text)) (c .before .before .before .before .before .before .before .before .before .args .d) (c .before .before .before .before .before .before .before .before .before .args .from) _ _ _ (sym (c .before .before .before .before .before .before .before .token-at .ensures) ∙ c .before .before .before .before .before .t .given .1) (rw (c .before .before .before .word-of .ensures ∙ word-is _ _ _ _ _ refl) at (sym (c .before .same-word .ensures) ∙ c .if1 .taken)), ahead-by _ _ _ _ (omega arith) (w .2))
+returns-2 c = let c3 = c .before .before .before in let c5 = c3 .before .before in let w = word-in _ _ (c5 .before .before .before .before .pre) _ _ _ (sym (c5 .before .before .token-at .ensures) ∙ c5 .t .given .1) in (behind-start _ _ _ _ _ _ (sym (c5 .before .before .token-at .ensures) ∙ c5 .t .given .1) (rw (c3 .word-of .ensures ∙ word-is _ _ _ _ _ refl) at (sym (c .before .same-word .ensures) ∙ c .if1 .taken)), ahead-by _ _ _ _ (omega arith) (w .2))
 
 word-of-requires-2 : tie.Need-word-of-requires-2
 word-of-requires-2 c κs = search needs
@@ -46,11 +46,11 @@ same-word-requires-2 c κs = search needs
 
 returns-3 : tie.Need-returns-3
 unfolding bytes
-returns-3 c = let w = word-in (now (c .before .before .before .before .before .before .before .before .before .before .before .before .before .args .text)) (c .before .before .before .before .before .before .before .before .before .before .before .before .before .args .from) (c .before .before .before .before .before .before .before .before .before .before .before .before .before .pre) _ _ _ (sym (c .before .before .before .before .before .before .before .before .before .before .before .token-at .ensures) ∙ c .before .before .before .before .before .before .before .before .before .t .given .1) in (behind-end (now (c .before .before .before .before .before .before .before .before .before .before .before .before .before .args .text)) (c .before .before .before .before .before .before .before .before .before .before .before .before .before .args .d) (c .before .before .before .before .before .before .before .before .before .before .before .before .before .args .from) _ _ _ (sym (c .before .before .before .before .before .before .before .before .before .before .before .token-at .ensures) ∙ c .before .before .before .before .before .before .before .before .before .t .given .1) (rw (c .before .before .before .before .before .before .before .word-of .ensures ∙ word-is _ _ _ _ _ refl) at (sym (c .before .before .before .before .before .same-word .ensures) ∙ c .before .before .before .before .if1 .left)) (rw (c .before .before .before .word-of2 .ensures ∙ word-is _ _ _ _ _ refl) at (sym (c .before .same-word2 .ensures) ∙ c .if2 .taken)), ahead-by _ _ _ _ (omega arith) (w .2))
+returns-3 c = let c1 = c .before in let c3 = c1 .before .before in let c4 = c3 .before in let c7 = c4 .before .before .before in let c9 = c7 .before .before in let w = word-in _ _ (c9 .before .before .before .before .pre) _ _ _ (sym (c9 .before .before .token-at .ensures) ∙ c9 .t .given .1) in (behind-end _ _ _ _ _ _ (sym (c9 .before .before .token-at .ensures) ∙ c9 .t .given .1) (rw (c7 .word-of .ensures ∙ word-is _ _ _ _ _ refl) at (sym (c4 .before .same-word .ensures) ∙ c4 .if1 .left)) (rw (c3 .word-of2 .ensures ∙ word-is _ _ _ _ _ refl) at (sym (c1 .same-word2 .ensures) ∙ c .if2 .taken)), ahead-by _ _ _ _ (omega arith) (w .2))
 
 returns-4 : tie.Need-returns-4
 unfolding bytes
-returns-4 c = (behind-other (now (c .before .before .before .before .before .before .before .before .before .before .before .before .before .args .text)) (c .before .before .before .before .before .before .before .before .before .before .before .before .before .args .d) (c .before .before .before .before .before .before .before .before .before .before .before .before .before .args .from) _ _ _ (sym (c .before .before .before .before .before .before .before .before .before .before .before .token-at .ensures) ∙ c .before .before .before .before .before .before .before .before .before .t .given .1) (rw (c .before .before .before .before .before .before .before .word-of .ensures ∙ word-is _ _ _ _ _ refl) at (sym (c .before .before .before .before .before .same-word .ensures) ∙ c .before .before .before .before .if1 .left)) (rw (c .before .before .before .word-of2 .ensures ∙ word-is _ _ _ _ _ refl) at (sym (c .before .same-word2 .ensures) ∙ c .if2 .left)), ahead-refused _ _ 3 _ _ refl)
+returns-4 c = let c3 = c .before .before .before in let c5 = c3 .before .before in (behind-other _ _ _ _ _ _ (sym (c5 .before .before .before .before .before .before .token-at .ensures) ∙ c5 .before .before .before .before .t .given .1) (rw (c5 .before .before .word-of .ensures ∙ word-is _ _ _ _ _ refl) at (sym (c5 .same-word .ensures) ∙ c3 .before .if1 .left)) (rw (c3 .word-of2 .ensures ∙ word-is _ _ _ _ _ refl) at (sym (c .before .same-word2 .ensures) ∙ c .if2 .left)), ahead-refused _ _ 3 _ _ refl)
 
 pub behind-at-spec : {M : Type 1} → statement M
 behind-at-spec =

@@ -21,11 +21,11 @@ enum-told c = search needs
 
 returns : tie.Need-returns
 unfolding bytes
-returns c = (over-refused (now (c .before .before .before .before .before .args .text)) (c .before .before .before .before .before .args .d) (c .before .before .before .before .before .args .from) (c .before .before .word-due .result) _ _ (c .before .before .word-due .ensures .0) (c .enum-told .given .1), ahead-refused _ _ _ _ _ (c .enum-told .given .1))
+returns c = (over-refused _ _ _ _ _ _ (c .before .before .word-due .ensures .0) (c .enum-told .given .1), ahead-refused _ _ _ _ _ (c .enum-told .given .1))
 
 returns-2 : tie.Need-returns-2
 unfolding bytes
-returns-2 c = let w = ahead-done _ _ _ _ _ (c .before .a .given .1) (c .before .before .before .word-due .ensures .1) in (over-read (now (c .before .before .before .before .before .before .args .text)) (c .before .before .before .before .before .before .args .d) (c .before .before .before .before .before .before .args .from) (c .before .before .before .word-due .result) _ _ (c .before .before .before .word-due .ensures .0) (c .before .a .given .1), ahead-by _ _ _ _ (w .0) (w .1))
+returns-2 c = let w = ahead-done _ _ _ _ _ (c .before .a .given .1) (c .before .before .before .word-due .ensures .1) in (over-read _ _ _ _ _ _ (c .before .before .before .word-due .ensures .0) (c .before .a .given .1), ahead-by _ _ _ _ (w .0) (w .1))
 
 pub behind-over-spec : {M : Type 1} → statement M
 behind-over-spec =

@@ -22,7 +22,7 @@ behind-at-requires c κs = search needs
 
 returns : tie.Need-returns
 unfolding bytes
-returns c = (time-at (now (c .before .before .before .before .before .before .args .text)) (c .before .before .before .before .before .before .args .d) (c .before .before .before .before .before .before .args .over) (c .before .before .before .before .before .before .args .p) (c .before .before .before .before .before .before .args .e) _ (rw (c .before .before .before .before .part-of .ensures) at (sym (c .before .before .same-word .ensures) ∙ c .before .if1 .taken)) (c .behind-at .ensures .0), c .behind-at .ensures .1)
+returns c = (time-at _ _ _ _ _ _ (rw (c .before .before .before .before .part-of .ensures) at (sym (c .before .before .same-word .ensures) ∙ c .before .if1 .taken)) (c .behind-at .ensures .0), c .behind-at .ensures .1)
 
 part-of-requires-2 : tie.Need-part-of-requires-2
 part-of-requires-2 c κs = search needs
@@ -38,15 +38,15 @@ behind-over-requires c κs = search needs
 
 returns-2 : tie.Need-returns-2
 unfolding bytes
-returns-2 c = (time-over (now (c .before .before .before .before .before .before .before .before .before .before .before .args .text)) (c .before .before .before .before .before .before .before .before .before .before .before .args .d) (c .before .before .before .before .before .before .before .before .before .before .before .args .over) (c .before .before .before .before .before .before .before .before .before .before .before .args .p) (c .before .before .before .before .before .before .before .before .before .before .before .args .e) (rw (c .before .before .before .before .before .before .before .before .before .part-of .ensures) at (sym (c .before .before .before .before .before .before .before .same-word .ensures) ∙ c .before .before .before .before .before .before .if1 .left)) _ (c .before .before .before .before .before .if2 .taken) (rw (c .before .before .before .before .part-of2 .ensures) at (sym (c .before .before .same-word2 .ensures) ∙ c .before .if3 .taken)) (c .behind-over .ensures .0), c .behind-over .ensures .1)
+returns-2 c = let c2 = c .before .before in let c4 = c2 .before .before in (time-over _ _ _ _ _ (rw (c4 .before .before .before .before .before .part-of .ensures) at (sym (c4 .before .before .before .same-word .ensures) ∙ c4 .before .before .if1 .left)) _ (c4 .before .if2 .taken) (rw (c4 .part-of2 .ensures) at (sym (c2 .same-word2 .ensures) ∙ c .before .if3 .taken)) (c .behind-over .ensures .0), c .behind-over .ensures .1)
 
 returns-3 : tie.Need-returns-3
 unfolding bytes
-returns-3 c = (time-neither (now (c .before .before .before .before .before .before .before .before .before .before .args .text)) (c .before .before .before .before .before .before .before .before .before .before .args .d) (c .before .before .before .before .before .before .before .before .before .before .args .over) (c .before .before .before .before .before .before .before .before .before .before .args .p) (c .before .before .before .before .before .before .before .before .before .before .args .e) (rw (c .before .before .before .before .before .before .before .before .part-of .ensures) at (sym (c .before .before .before .before .before .before .same-word .ensures) ∙ c .before .before .before .before .before .if1 .left)) (c .before .before .before .before .if2 .taken) (rw (c .before .before .before .part-of2 .ensures) at (sym (c .before .same-word2 .ensures) ∙ c .if3 .left)), ahead-refused _ _ 3 _ _ refl)
+returns-3 c = let c3 = c .before .before .before in (time-neither _ _ _ _ _ (rw (c3 .before .before .before .before .before .part-of .ensures) at (sym (c3 .before .before .before .same-word .ensures) ∙ c3 .before .before .if1 .left)) (c3 .before .if2 .taken) (rw (c3 .part-of2 .ensures) at (sym (c .before .same-word2 .ensures) ∙ c .if3 .left)), ahead-refused _ _ 3 _ _ refl)
 
 returns-4 : tie.Need-returns-4
 unfolding bytes
-returns-4 c = (time-effect (now (c .before .before .before .before .before .before .args .text)) (c .before .before .before .before .before .before .args .d) (c .before .before .before .before .before .before .args .over) (c .before .before .before .before .before .before .args .p) (c .before .before .before .before .before .before .args .e) (rw (c .before .before .before .before .part-of .ensures) at (sym (c .before .before .same-word .ensures) ∙ c .before .if1 .left)) (c .if2 .left), ahead-refused _ _ 3 _ _ refl)
+returns-4 c = (time-effect _ _ _ _ _ (rw (c .before .before .before .before .part-of .ensures) at (sym (c .before .before .same-word .ensures) ∙ c .before .if1 .left)) (c .if2 .left), ahead-refused _ _ 3 _ _ refl)
 
 pub time-of-spec : {M : Type 1} → statement M
 time-of-spec =

@@ -26,7 +26,7 @@ enum-told : tie.Need-enum-told
 enum-told c = search needs
 
 returns : tie.Need-returns
-returns c = (λ ts t i h. refuses _ _ _ _ _ _ (declaration-none (now (c .before .before .before .before .before .before .args .text)) ts (c .before .before .before .before .before .before .args .max) (c .before .before .before .before .before .before .args .most) t (c .before .before .before .before .before .before .args .from) _ _ (name-refused _ _ _ (sym (c .before .before .new-name .ensures .0) ∙ c .enum-told .given .1))) (c .enum-told .given .1), ahead-refused _ _ _ _ _ (c .enum-told .given .1))
+returns c = (λ ts t i h. refuses _ _ _ _ _ _ (declaration-none _ ts _ _ t _ _ _ (name-refused _ _ _ (sym (c .before .before .new-name .ensures .0) ∙ c .enum-told .given .1))) (c .enum-told .given .1), ahead-refused _ _ _ _ _ (c .enum-told .given .1))
 
 fresh-at-requires : tie.Need-fresh-at-requires
 fresh-at-requires c κs = search needs
@@ -41,7 +41,7 @@ same-length : tie.Need-same-length
 same-length c = search needs
 
 returns-2 : tie.Need-returns-2
-returns-2 c = (λ ts t i h. refuses _ _ _ _ _ _ (declaration-known (now (c .before .before .before .before .before .before .before .before .before .before .before .args .text)) ts (c .before .before .before .before .before .before .before .before .before .before .before .args .max) (c .before .before .before .before .before .before .before .before .before .before .before .args .most) t (c .before .before .before .before .before .before .before .before .before .before .before .args .from) (c .before .before .before .before .before .h .given .0 .1 .0) (c .before .before .before .before .before .h .given .0 .0) (named (now (c .before .before .before .before .before .before .before .before .before .before .before .args .text)) 13 (c .before .before .before .before .before .before .before .before .before .before .before .args .from) (c .before .before .before .before .before .h .given .0 .1 .0) (c .before .before .before .before .before .h .given .0 .0) (sym (c .before .before .before .before .before .before .before .new-name .ensures .0) ∙ c .before .before .before .before .before .h .given .1)) _ _ (answer-refused _ _ _ (sym (c .before .before .fresh-at .ensures .0 (c .before .before .before .before .before .before .before .before .before .before .before .args .max) t h) ∙ c .enum-told3 .given .1))) (c .enum-told3 .given .1), ahead-refused _ _ _ _ _ (c .enum-told3 .given .1))
+returns-2 c = let c2 = c .before .before in let c5 = c2 .before .before .before in let c11 = c5 .before .before .before .before .before .before in (λ ts t i h. refuses _ _ _ _ _ _ (declaration-known _ ts _ _ t _ (c5 .h .given .0 .1 .0) (c5 .h .given .0 .0) (named _ 13 (c11 .args .from) (c5 .h .given .0 .1 .0) (c5 .h .given .0 .0) (sym (c5 .before .before .new-name .ensures .0) ∙ c5 .h .given .1)) _ _ (answer-refused _ _ _ (sym (c2 .fresh-at .ensures .0 (c11 .args .max) t h) ∙ c .enum-told3 .given .1))) (c .enum-told3 .given .1), ahead-refused _ _ _ _ _ (c .enum-told3 .given .1))
 
 mul-width : tie.Need-mul-width
 mul-width c = search needs
@@ -51,14 +51,14 @@ array-borrow-prefix-table c = search needs
 
 slice-aggregate-signature-to : tie.Need-slice-aggregate-signature-to
 unfolding rowsOf padded
-slice-aggregate-signature-to c = sym (ap length (no-variables (c .before .before .before .before .before .before .before .before .before .before .before .before .args .most) (c .before .before .before .before .before .before .before .before .before .before .before .before .pre .3)) ∙ length-rows (c .before .before .before .before .before .before .before .before .before .before .before .before .args .most) [])
+slice-aggregate-signature-to c = sym (ap length (no-variables _ (c .before .before .before .before .before .before .before .before .before .before .before .before .pre .3)) ∙ length-rows _ [])
 
 slice-aggregate-signature-to-2 : tie.Need-slice-aggregate-signature-to-2
 slice-aggregate-signature-to-2 c = search needs
 
 signature-to-requires : tie.Need-signature-to-requires
 unfolding rowsOf padded
-signature-to-requires c κs = let q = ahead-done _ _ _ _ _ (c .before .before .before .before .before .before .before .h .given .1) (c .before .before .before .before .before .before .before .before .before .new-name .ensures .1) in (q .1, c .before .before .before .before .before .before .before .before .before .before .before .before .before .pre .1, (no-variables (c .before .before .before .before .before .before .before .before .before .before .before .before .before .args .most) (c .before .before .before .before .before .before .before .before .before .before .before .before .before .pre .3)), omega (arith, c .before .before .before .before .before .before .before .before .before .before .before .before .before .pre .3), omega (arith, c .before .before .before .before .before .before .before .before .before .before .before .before .before .pre .3))
+signature-to-requires c κs = let c7 = c .before .before .before .before .before .before .before in let c9 = c7 .before .before in let c13 = c9 .before .before .before .before in let q = ahead-done _ _ _ _ _ (c7 .h .given .1) (c9 .new-name .ensures .1) in (q .1, c13 .pre .1, (no-variables _ (c13 .pre .3)), omega (arith, c13 .pre .3), omega (arith, c13 .pre .3))
 
 enum-known-a : tie.Need-enum-known-a
 enum-known-a c = search needs
@@ -70,31 +70,31 @@ same-length-2 : tie.Need-same-length-2
 same-length-2 c = search needs
 
 returns-3 : tie.Need-returns-3
-returns-3 c = (λ ts t i h. refuses _ _ _ _ _ _ (declaration-refused (now (c .before .before .before .before .before .before .before .before .before .before .before .before .before .before .before .before .before .before .args .text)) ts (c .before .before .before .before .before .before .before .before .before .before .before .before .before .before .before .before .before .before .args .max) (c .before .before .before .before .before .before .before .before .before .before .before .before .before .before .before .before .before .before .args .most) t (c .before .before .before .before .before .before .before .before .before .before .before .before .before .before .before .before .before .before .args .from) (c .before .before .before .before .before .before .before .before .before .before .before .before .h .given .0 .1 .0) (c .before .before .before .before .before .before .before .before .before .before .before .before .h .given .0 .0) (named (now (c .before .before .before .before .before .before .before .before .before .before .before .before .before .before .before .before .before .before .args .text)) 13 (c .before .before .before .before .before .before .before .before .before .before .before .before .before .before .before .before .before .before .args .from) (c .before .before .before .before .before .before .before .before .before .before .before .before .h .given .0 .1 .0) (c .before .before .before .before .before .before .before .before .before .before .before .before .h .given .0 .0) (sym (c .before .before .before .before .before .before .before .before .before .before .before .before .before .before .new-name .ensures .0) ∙ c .before .before .before .before .before .before .before .before .before .before .before .before .h .given .1)) _ _ (answer-done _ _ _ (sym (c .before .before .before .before .before .before .before .before .before .fresh-at .ensures .0 (c .before .before .before .before .before .before .before .before .before .before .before .before .before .before .before .before .before .before .args .max) t h) ∙ c .before .before .before .before .before .before .before .enum-told2 .given .1)) _ _ (signed-refused _ (c .before .before .before .before .before .before .before .before .before .before .before .before .before .before .before .before .before .before .args .most) _ (0 ∷ 0 ∷ 0 ∷ 0 ∷ []) _ _ _ (c .before .before .before .before .signature-to .ensures .0 ts i) (c .enum-told4 .given .1))) (c .enum-told4 .given .1), ahead-refused _ _ _ _ _ (c .enum-told4 .given .1))
+returns-3 c = let c4 = c .before .before .before .before in let c7 = c4 .before .before .before in let c9 = c7 .before .before in let c12 = c9 .before .before .before in let c18 = c12 .before .before .before .before .before .before in (λ ts t i h. refuses _ _ _ _ _ _ (declaration-refused _ ts _ _ t _ (c12 .h .given .0 .1 .0) (c12 .h .given .0 .0) (named _ 13 (c18 .args .from) (c12 .h .given .0 .1 .0) (c12 .h .given .0 .0) (sym (c12 .before .before .new-name .ensures .0) ∙ c12 .h .given .1)) _ _ (answer-done _ _ _ (sym (c9 .fresh-at .ensures .0 (c18 .args .max) t h) ∙ c7 .enum-told2 .given .1)) _ _ (signed-refused _ _ _ (0 ∷ 0 ∷ 0 ∷ 0 ∷ []) _ _ _ (c4 .signature-to .ensures .0 ts i) (c .enum-told4 .given .1))) (c .enum-told4 .given .1), ahead-refused _ _ _ _ _ (c .enum-told4 .given .1))
 
 add-m : tie.Need-add-m
-add-m c = let b : (c .before .before .before .before .before .before .before .before .before .before .before .before .before .before .before .before .before .before .before .args .most) < 4 = omega (arith, c .before .before .before .before .before .before .before .before .before .before .before .before .before .before .before .before .before .before .before .pre .3) in let x = signed-done _ (c .before .before .before .before .before .before .before .before .before .before .before .before .before .before .before .before .before .before .before .args .most) _ (0 ∷ 0 ∷ 0 ∷ 0 ∷ []) _ _ _ (c .before .before .before .before .before .signature-to .ensures .0 (c .before .before .before .before .before .before .before .before .before .before .before .before .before .before .before .before .before .before .before .pre .1 .0) (c .before .before .before .before .before .before .before .before .before .before .before .before .before .before .before .before .before .before .before .pre .1 .1)) (c .before .a .given .1) b in omega (arith, x .fits)
+add-m c = let c5 = c .before .before .before .before .before in let c19 = c5 .before .before .before .before .before .before .before .before .before .before .before .before .before .before in let b : (c19 .args .most) < 4 = omega (arith, c19 .pre .3) in let x = signed-done _ _ _ (0 ∷ 0 ∷ 0 ∷ 0 ∷ []) _ _ _ (c5 .signature-to .ensures .0 (c19 .pre .1 .0) (c19 .pre .1 .1)) (c .before .a .given .1) b in omega (arith, x .fits)
 
 part-of-requires : tie.Need-part-of-requires
 part-of-requires c κs = search needs
 
 array-share-prefix-info : tie.Need-array-share-prefix-info
-array-share-prefix-info c = let b : (c .before .before .before .before .before .before .before .before .before .before .before .before .before .before .before .before .before .before .before .before .before .args .most) < 4 = omega (arith, c .before .before .before .before .before .before .before .before .before .before .before .before .before .before .before .before .before .before .before .before .before .pre .3) in let x = signed-done _ (c .before .before .before .before .before .before .before .before .before .before .before .before .before .before .before .before .before .before .before .before .before .args .most) _ (0 ∷ 0 ∷ 0 ∷ 0 ∷ []) _ _ _ (c .before .before .before .before .before .before .before .signature-to .ensures .0 (c .before .before .before .before .before .before .before .before .before .before .before .before .before .before .before .before .before .before .before .before .before .pre .1 .0) (c .before .before .before .before .before .before .before .before .before .before .before .before .before .before .before .before .before .before .before .before .before .pre .1 .1)) (c .before .before .before .a .given .1) b in x .room
+array-share-prefix-info c = let c3 = c .before .before .before in let c7 = c3 .before .before .before .before in let c21 = c7 .before .before .before .before .before .before .before .before .before .before .before .before .before .before in let b : (c21 .args .most) < 4 = omega (arith, c21 .pre .3) in let x = signed-done _ _ _ (0 ∷ 0 ∷ 0 ∷ 0 ∷ []) _ _ _ (c7 .signature-to .ensures .0 (c21 .pre .1 .0) (c21 .pre .1 .1)) (c3 .a .given .1) b in x .room
 
 slice-aggregate-enter : tie.Need-slice-aggregate-enter
-slice-aggregate-enter c = let b : (c .before .before .before .before .before .before .before .before .before .before .before .before .before .before .before .before .before .before .before .before .before .before .args .most) < 4 = omega (arith, c .before .before .before .before .before .before .before .before .before .before .before .before .before .before .before .before .before .before .before .before .before .before .pre .3) in let x = signed-done _ (c .before .before .before .before .before .before .before .before .before .before .before .before .before .before .before .before .before .before .before .before .before .before .args .most) _ (0 ∷ 0 ∷ 0 ∷ 0 ∷ []) _ _ _ (c .before .before .before .before .before .before .before .before .signature-to .ensures .0 (c .before .before .before .before .before .before .before .before .before .before .before .before .before .before .before .before .before .before .before .before .before .before .pre .1 .0) (c .before .before .before .before .before .before .before .before .before .before .before .before .before .before .before .before .before .before .before .before .before .before .pre .1 .1)) (c .before .before .before .before .a .given .1) b in sym (x .long)
+slice-aggregate-enter c = let c4 = c .before .before .before .before in let c8 = c4 .before .before .before .before in let c22 = c8 .before .before .before .before .before .before .before .before .before .before .before .before .before .before in let b : (c22 .args .most) < 4 = omega (arith, c22 .pre .3) in let x = signed-done _ _ _ (0 ∷ 0 ∷ 0 ∷ 0 ∷ []) _ _ _ (c8 .signature-to .ensures .0 (c22 .pre .1 .0) (c22 .pre .1 .1)) (c4 .a .given .1) b in sym (x .long)
 
 enter-requires : tie.Need-enter-requires
-enter-requires c κs = let b : (c .before .before .before .before .before .before .before .before .before .before .before .before .before .before .before .before .before .before .before .before .before .before .args .most) < 4 = omega (arith, c .before .before .before .before .before .before .before .before .before .before .before .before .before .before .before .before .before .before .before .before .before .before .pre .3) in let x = signed-done _ (c .before .before .before .before .before .before .before .before .before .before .before .before .before .before .before .before .before .before .before .before .before .before .args .most) _ (0 ∷ 0 ∷ 0 ∷ 0 ∷ []) _ _ _ (c .before .before .before .before .before .before .before .before .signature-to .ensures .0 (c .before .before .before .before .before .before .before .before .before .before .before .before .before .before .before .before .before .before .before .before .before .before .pre .1 .0) (c .before .before .before .before .before .before .before .before .before .before .before .before .before .before .before .before .before .before .before .before .before .before .pre .1 .1)) (c .before .before .before .before .a .given .1) b in (c .before .before .before .before .before .before .before .before .before .before .before .before .before .before .before .before .before .before .before .before .before .before .pre .2, room-done _ _ _ _ _ (c .before .before .before .before .before .before .before .before .before .before .before .enum-told2 .given .1) (c .before .before .before .before .before .before .before .before .before .before .before .before .before .fresh-at .ensures .1), rw (c .before .part-of .ensures) (name-short (now (c .before .before .before .before .before .before .before .before .before .before .before .before .before .before .before .before .before .before .before .before .before .before .args .text)) 13 (c .before .before .before .before .before .before .before .before .before .before .before .before .before .before .before .before .before .before .before .before .before .before .args .from) (c .before .before .before .before .before .before .before .before .before .before .before .before .before .before .before .before .h .given .0 .1 .0) (c .before .before .before .before .before .before .before .before .before .before .before .before .before .before .before .before .h .given .0 .0) (sym (c .before .before .before .before .before .before .before .before .before .before .before .before .before .before .before .before .before .before .new-name .ensures .0) ∙ c .before .before .before .before .before .before .before .before .before .before .before .before .before .before .before .before .h .given .1) (c .before .before .before .before .before .before .before .before .before .before .before .before .before .before .before .before .before .before .before .before .before .before .pre .0)), omega (arith, x .long, x .fits))
+enter-requires c κs = let c1 = c .before in let c4 = c1 .before .before .before in let c8 = c4 .before .before .before .before in let c11 = c8 .before .before .before in let c13 = c11 .before .before in let c16 = c13 .before .before .before in let c18 = c16 .before .before in let c22 = c18 .before .before .before .before in let b : (c22 .args .most) < 4 = omega (arith, c22 .pre .3) in let x = signed-done _ _ _ (0 ∷ 0 ∷ 0 ∷ 0 ∷ []) _ _ _ (c8 .signature-to .ensures .0 (c22 .pre .1 .0) (c22 .pre .1 .1)) (c4 .a .given .1) b in (c22 .pre .2, room-done _ _ _ _ _ (c11 .enum-told2 .given .1) (c13 .fresh-at .ensures .1), rw (c1 .part-of .ensures) (name-short _ 13 (c22 .args .from) (c16 .h .given .0 .1 .0) (c16 .h .given .0 .0) (sym (c18 .new-name .ensures .0) ∙ c16 .h .given .1) (c22 .pre .0)), omega (arith, x .long, x .fits))
 
 add-t32 : tie.Need-add-t32
-add-t32 c = let q : (c .before .before .before .before .before .before .before .before .before .before .before .before .before .before .before .before .before .before .before .before .before .before .before .before .before .args .n) < (c .before .before .before .before .before .before .before .before .before .before .before .before .before .before .before .before .before .before .before .before .before .before .before .before .before .args .max) = room-done _ _ _ _ _ (c .before .before .before .before .before .before .before .before .before .before .before .before .before .before .enum-told2 .given .1) (c .before .before .before .before .before .before .before .before .before .before .before .before .before .before .before .before .fresh-at .ensures .1) in omega (arith, c .before .before .before .before .before .before .before .before .before .before .before .before .before .before .before .before .before .before .before .before .before .before .before .before .before .fits)
+add-t32 c = let c14 = c .before .before .before .before .before .before .before .before .before .before .before .before .before .before in let c16 = c14 .before .before in let c25 = c16 .before .before .before .before .before .before .before .before .before in let q : (c25 .args .n) < (c25 .args .max) = room-done _ _ _ _ _ (c14 .enum-told2 .given .1) (c16 .fresh-at .ensures .1) in omega (arith, c25 .fits)
 
 same-length-3 : tie.Need-same-length-3
 same-length-3 c = search needs
 
 returns-4 : tie.Need-returns-4
-returns-4 c = let q = ahead-done _ _ _ _ _ (c .before .before .before .before .before .before .before .before .before .before .before .before .before .before .before .before .before .before .before .h .given .1) (c .before .before .before .before .before .before .before .before .before .before .before .before .before .before .before .before .before .before .before .before .before .new-name .ensures .1) in let p = ahead-done _ _ _ _ _ (c .before .before .before .before .before .before .before .a .given .1) (c .before .before .before .before .before .before .before .before .before .before .before .signature-to .ensures .1) in (λ ts t i h. let b : (c .before .before .before .before .before .before .before .before .before .before .before .before .before .before .before .before .before .before .before .before .before .before .before .before .before .args .most) < 4 = omega (arith, c .before .before .before .before .before .before .before .before .before .before .before .before .before .before .before .before .before .before .before .before .before .before .before .before .before .pre .3) in let x = signed-done _ (c .before .before .before .before .before .before .before .before .before .before .before .before .before .before .before .before .before .before .before .before .before .before .before .before .before .args .most) _ (0 ∷ 0 ∷ 0 ∷ 0 ∷ []) _ _ _ (c .before .before .before .before .before .before .before .before .before .before .before .signature-to .ensures .0 ts i) (c .before .before .before .before .before .before .before .a .given .1) b in reads _ _ _ _ _ _ (declaration-done (now (c .before .before .before .before .before .before .before .before .before .before .before .before .before .before .before .before .before .before .before .before .before .before .before .before .before .args .text)) ts (c .before .before .before .before .before .before .before .before .before .before .before .before .before .before .before .before .before .before .before .before .before .before .before .before .before .args .max) (c .before .before .before .before .before .before .before .before .before .before .before .before .before .before .before .before .before .before .before .before .before .before .before .before .before .args .most) t (c .before .before .before .before .before .before .before .before .before .before .before .before .before .before .before .before .before .before .before .before .before .before .before .before .before .args .from) (c .before .before .before .before .before .before .before .before .before .before .before .before .before .before .before .before .before .before .before .h .given .0 .1 .0) (c .before .before .before .before .before .before .before .before .before .before .before .before .before .before .before .before .before .before .before .h .given .0 .0) (named (now (c .before .before .before .before .before .before .before .before .before .before .before .before .before .before .before .before .before .before .before .before .before .before .before .before .before .args .text)) 13 (c .before .before .before .before .before .before .before .before .before .before .before .before .before .before .before .before .before .before .before .before .before .before .before .before .before .args .from) (c .before .before .before .before .before .before .before .before .before .before .before .before .before .before .before .before .before .before .before .h .given .0 .1 .0) (c .before .before .before .before .before .before .before .before .before .before .before .before .before .before .before .before .before .before .before .h .given .0 .0) (sym (c .before .before .before .before .before .before .before .before .before .before .before .before .before .before .before .before .before .before .before .before .before .new-name .ensures .0) ∙ c .before .before .before .before .before .before .before .before .before .before .before .before .before .before .before .before .before .before .before .h .given .1)) _ _ (answer-done _ _ _ (sym (c .before .before .before .before .before .before .before .before .before .before .before .before .before .before .before .before .fresh-at .ensures .0 (c .before .before .before .before .before .before .before .before .before .before .before .before .before .before .before .before .before .before .before .before .before .before .before .before .before .args .max) t h) ∙ c .before .before .before .before .before .before .before .before .before .before .before .before .before .before .enum-told2 .given .1)) (x .table) _ (x .is)) (rw (c .before .before .before .before .part-of .ensures, x .numbers) at (c .before .before .enter .ensures t h)), ahead-by _ _ _ _ (omega arith) (p .1))
+returns-4 c = let c2 = c .before .before in let c4 = c2 .before .before in let c7 = c4 .before .before .before in let c11 = c7 .before .before .before .before in let c14 = c11 .before .before .before in let c16 = c14 .before .before in let c19 = c16 .before .before .before in let c21 = c19 .before .before in let c25 = c21 .before .before .before .before in let q = ahead-done _ _ _ _ _ (c19 .h .given .1) (c21 .new-name .ensures .1) in let p = ahead-done _ _ _ _ _ (c7 .a .given .1) (c11 .signature-to .ensures .1) in (λ ts t i h. let b : (c25 .args .most) < 4 = omega (arith, c25 .pre .3) in let x = signed-done _ _ _ (0 ∷ 0 ∷ 0 ∷ 0 ∷ []) _ _ _ (c11 .signature-to .ensures .0 ts i) (c7 .a .given .1) b in reads _ _ _ _ _ _ (declaration-done _ ts _ _ t _ (c19 .h .given .0 .1 .0) (c19 .h .given .0 .0) (named _ 13 (c25 .args .from) (c19 .h .given .0 .1 .0) (c19 .h .given .0 .0) (sym (c21 .new-name .ensures .0) ∙ c19 .h .given .1)) _ _ (answer-done _ _ _ (sym (c16 .fresh-at .ensures .0 (c25 .args .max) t h) ∙ c14 .enum-told2 .given .1)) (x .table) _ (x .is)) (rw (c4 .part-of .ensures, x .numbers) at (c2 .enter .ensures t h)), ahead-by _ _ _ _ (omega arith) (p .1))
 
 pub declaration-at-spec : {M : Type 1} → statement M
 declaration-at-spec =

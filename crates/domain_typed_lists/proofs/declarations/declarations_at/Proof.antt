@@ -31,7 +31,7 @@ same-length : tie.Need-same-length Inv-loop μ-loop
 same-length c = search needs
 
 returns : tie.Need-returns Inv-loop μ-loop
-returns c = let r = close-in (now (c .before .before .before .before .before .before .before .before .args .text)) (c .before .before .before .before .loop .at) (c .before .before .before .before .loop .inv .1) _ _ (sym (c .before .before .before .token-at .ensures) ∙ c .before .c .given .1) in (λ ts t k i h. declaring-close (now (c .before .before .before .before .before .before .before .before .args .text)) ts (c .before .before .before .before .before .before .before .before .args .max) (c .before .before .before .before .before .before .before .before .args .most) t (c .before .before .before .before .before .before .before .before .args .from) (c .before .before .before .before .loop .rows) (c .before .before .before .before .loop .n) (c .before .before .before .before .loop .at) (c .before .before .before .before .loop .inv .3 ts t i h) _ _ (sym (c .before .before .before .token-at .ensures) ∙ c .before .c .given .1) k, ahead-by _ _ _ _ (omega (arith, c .before .before .before .before .loop .inv .0)) (r .1))
+returns c = let c3 = c .before .before .before in let r = close-in _ _ (c3 .before .loop .inv .1) _ _ (sym (c3 .token-at .ensures) ∙ c .before .c .given .1) in (λ ts t k i h. declaring-close _ ts _ _ t _ _ _ _ (c3 .before .loop .inv .3 ts t i h) _ _ (sym (c3 .token-at .ensures) ∙ c .before .c .given .1) k, ahead-by _ _ _ _ (omega (arith, c3 .before .loop .inv .0)) (r .1))
 
 opening-requires : tie.Need-opening-requires Inv-loop μ-loop
 opening-requires c κs = c .before .before .loop .inv .1
@@ -46,10 +46,10 @@ same-length-2 : tie.Need-same-length-2 Inv-loop μ-loop
 same-length-2 c = search needs
 
 returns-2 : tie.Need-returns-2 Inv-loop μ-loop
-returns-2 c = (λ ts t k i h. declaring-no-open (now (c .before .before .before .before .before .before .before .before .before .args .text)) ts (c .before .before .before .before .before .before .before .before .before .args .max) (c .before .before .before .before .before .before .before .before .before .args .most) t (c .before .before .before .before .before .before .before .before .before .args .from) (c .before .before .before .before .before .loop .rows) (c .before .before .before .before .before .loop .n) (c .before .before .before .before .before .loop .at) (c .before .before .before .before .before .loop .inv .3 ts t i h) (c .before .before .before .before .token-at .result) (c .before .before .before .before .token-at .ensures) (c .before .before .before .match .keys2) (c .before .before .opening .result) (c .before .before .opening .ensures .0) _ _ _ (c .enum-told .given .1) k, ahead-refused _ _ _ _ _ (c .enum-told .given .1))
+returns-2 c = let c2 = c .before .before in (λ ts t k i h. declaring-no-open _ ts _ _ t _ _ _ _ (c2 .before .before .before .loop .inv .3 ts t i h) _ (c2 .before .before .token-at .ensures) (c2 .before .match .keys2) _ (c2 .opening .ensures .0) _ _ _ (c .enum-told .given .1) k, ahead-refused _ _ _ _ _ (c .enum-told .given .1))
 
 declaration-at-requires : tie.Need-declaration-at-requires Inv-loop μ-loop
-declaration-at-requires c κs = ((ahead-done _ _ _ _ _ (c .before .before .o .given .1) (c .before .before .before .before .opening .ensures .1)) .1, c .before .before .before .before .before .before .before .before .before .before .before .pre .1, ((c .before .before .before .before .before .before .before .loop .inv .3 (c .before .before .before .before .before .before .before .before .before .before .before .pre .1 .0) (c .before .before .before .before .before .before .before .before .before .before .before .pre .2 .0) (c .before .before .before .before .before .before .before .before .before .before .before .pre .1 .1) (c .before .before .before .before .before .before .before .before .before .before .before .pre .2 .1)) .table, (c .before .before .before .before .before .before .before .loop .inv .3 (c .before .before .before .before .before .before .before .before .before .before .before .pre .1 .0) (c .before .before .before .before .before .before .before .before .before .before .before .pre .2 .0) (c .before .before .before .before .before .before .before .before .before .before .before .pre .1 .1) (c .before .before .before .before .before .before .before .before .before .before .before .pre .2 .1)) .holds), c .before .before .before .before .before .before .before .before .before .before .before .pre .3)
+declaration-at-requires c κs = let c2 = c .before .before in let c4 = c2 .before .before in let c7 = c4 .before .before .before in let c11 = c7 .before .before .before .before in ((ahead-done _ _ _ _ _ (c2 .o .given .1) (c4 .opening .ensures .1)) .1, c11 .pre .1, ((c7 .loop .inv .3 (c11 .pre .1 .0) (c11 .pre .2 .0) (c11 .pre .1 .1) (c11 .pre .2 .1)) .table, (c7 .loop .inv .3 (c11 .pre .1 .0) (c11 .pre .2 .0) (c11 .pre .1 .1) (c11 .pre .2 .1)) .holds), c11 .pre .3)
 
 enum-known-a : tie.Need-enum-known-a Inv-loop μ-loop
 enum-known-a c = c .match3 .keys1
@@ -61,13 +61,13 @@ same-length-3 : tie.Need-same-length-3 Inv-loop μ-loop
 same-length-3 c = search needs
 
 returns-3 : tie.Need-returns-3 Inv-loop μ-loop
-returns-3 c = (λ ts t k i h. declaring-refused (now (c .before .before .before .before .before .before .before .before .before .before .before .before .before .before .before .before .args .text)) ts (c .before .before .before .before .before .before .before .before .before .before .before .before .before .before .before .before .args .max) (c .before .before .before .before .before .before .before .before .before .before .before .before .before .before .before .before .args .most) t (c .before .before .before .before .before .before .before .before .before .before .before .before .before .before .before .before .args .from) (c .before .before .before .before .before .before .before .before .before .before .before .before .loop .rows) (c .before .before .before .before .before .before .before .before .before .before .before .before .loop .n) (c .before .before .before .before .before .before .before .before .before .before .before .before .loop .at) (c .before .before .before .before .before .before .before .before .before .before .before .before .loop .inv .3 ts t i h) (c .before .before .before .before .before .before .before .before .before .before .before .token-at .result) (c .before .before .before .before .before .before .before .before .before .before .before .token-at .ensures) (c .before .before .before .before .before .before .before .before .before .before .match .keys2) (c .before .before .before .before .before .before .before .before .before .opening .result) (c .before .before .before .before .before .before .before .before .before .opening .ensures .0) _ _ (c .before .before .before .before .before .before .before .o .given .1) (c .before .before .before .before .declaration-at .result) _ (c .before .before .before .before .declaration-at .ensures .0 ts (c .before .before .before .before .before .before .before .before .before .before .before .before .loop .inv .3 ts t i h .table) i (c .before .before .before .before .before .before .before .before .before .before .before .before .loop .inv .3 ts t i h .holds)) _ _ (c .enum-told2 .given .1) k, ahead-refused _ _ _ _ _ (c .enum-told2 .given .1))
+returns-3 c = let c4 = c .before .before .before .before in let c7 = c4 .before .before .before in let c9 = c7 .before .before in let c11 = c9 .before .before in (λ ts t k i h. declaring-refused _ ts _ _ t _ _ _ _ (c11 .before .loop .inv .3 ts t i h) _ (c11 .token-at .ensures) (c9 .before .match .keys2) _ (c9 .opening .ensures .0) _ _ (c7 .o .given .1) _ _ (c4 .declaration-at .ensures .0 ts (c11 .before .loop .inv .3 ts t i h .table) i (c11 .before .loop .inv .3 ts t i h .holds)) _ _ (c .enum-told2 .given .1) k, ahead-refused _ _ _ _ _ (c .enum-told2 .given .1))
 
 loop-less : tie.Need-loop-less Inv-loop μ-loop
-loop-less c = let r = ahead-done _ _ _ _ _ (c .before .before .before .before .before .before .before .before .o .given .1) (c .before .before .before .before .before .before .before .before .before .before .opening .ensures .1) in omega (arith, ahead-done _ _ _ _ _ (c .before .a .given .1) (c .before .before .before .before .before .declaration-at .ensures .1))
+loop-less c = let c5 = c .before .before .before .before .before in let r = ahead-done _ _ _ _ _ (c5 .before .before .before .o .given .1) (c5 .before .before .before .before .before .opening .ensures .1) in omega (arith, ahead-done _ _ _ _ _ (c .before .a .given .1) (c5 .declaration-at .ensures .1))
 
 loop-again : tie.Need-loop-again Inv-loop μ-loop
-loop-again c = let r = ahead-done _ _ _ _ _ (c .before .before .before .before .before .before .before .before .o .given .1) (c .before .before .before .before .before .before .before .before .before .before .opening .ensures .1) in let q = ahead-done _ _ _ _ _ (c .before .a .given .1) (c .before .before .before .before .before .declaration-at .ensures .1) in (omega (arith, c .before .before .before .before .before .before .before .before .before .before .before .before .before .loop .inv .0), q .1, search needs, λ ts t i h. declaring-more (now (c .before .before .before .before .before .before .before .before .before .before .before .before .before .before .before .before .before .args .text)) ts (c .before .before .before .before .before .before .before .before .before .before .before .before .before .before .before .before .before .args .max) (c .before .before .before .before .before .before .before .before .before .before .before .before .before .before .before .before .before .args .most) t (c .before .before .before .before .before .before .before .before .before .before .before .before .before .before .before .before .before .args .from) (c .before .before .before .before .before .before .before .before .before .before .before .before .before .loop .rows) (c .before .before .before .before .before .before .before .before .before .before .before .before .before .loop .n) (c .before .before .before .before .before .before .before .before .before .before .before .before .before .loop .at) (c .before .before .before .before .before .before .before .before .before .before .before .before .before .loop .inv .3 ts t i h) (c .before .before .before .before .before .before .before .before .before .before .before .before .token-at .result) (c .before .before .before .before .before .before .before .before .before .before .before .before .token-at .ensures) (c .before .before .before .before .before .before .before .before .before .before .before .match .keys2) (c .before .before .before .before .before .before .before .before .before .before .opening .result) (c .before .before .before .before .before .before .before .before .before .before .opening .ensures .0) _ _ (c .before .before .before .before .before .before .before .before .o .given .1) (c .before .before .before .before .before .declaration-at .result) _ (c .before .before .before .before .before .declaration-at .ensures .0 ts (c .before .before .before .before .before .before .before .before .before .before .before .before .before .loop .inv .3 ts t i h .table) i (c .before .before .before .before .before .before .before .before .before .before .before .before .before .loop .inv .3 ts t i h .holds)) _ _ (c .before .a .given .1) (omega arith) (q .1))
+loop-again c = let c1 = c .before in let c5 = c1 .before .before .before .before in let c8 = c5 .before .before .before in let c10 = c8 .before .before in let c12 = c10 .before .before in let r = ahead-done _ _ _ _ _ (c8 .o .given .1) (c10 .opening .ensures .1) in let q = ahead-done _ _ _ _ _ (c1 .a .given .1) (c5 .declaration-at .ensures .1) in (omega (arith, c12 .before .loop .inv .0), q .1, search needs, λ ts t i h. declaring-more _ ts _ _ t _ _ _ _ (c12 .before .loop .inv .3 ts t i h) _ (c12 .token-at .ensures) (c10 .before .match .keys2) _ (c10 .opening .ensures .0) _ _ (c8 .o .given .1) _ _ (c5 .declaration-at .ensures .0 ts (c12 .before .loop .inv .3 ts t i h .table) i (c12 .before .loop .inv .3 ts t i h .holds)) _ _ (c1 .a .given .1) (omega arith) (q .1))
 
 pub declarations-at-spec : {M : Type 1} → statement M
 declarations-at-spec =

@@ -22,10 +22,10 @@ same-length : tie.Need-same-length
 same-length c = search needs
 
 returns : tie.Need-returns
-returns c = (λ ts i. signs-refused _ _ _ _ _ _ _ (outcome-refused _ (c .before .before .before .before .before .before .before .before .before .before .args .most) _ _ _ _ (c .before .before .before .before .variables-to .ensures .0 ts i) (c .enum-told .given .1)) (c .enum-told .given .1), ahead-refused _ _ _ _ _ (c .enum-told .given .1))
+returns c = (λ ts i. signs-refused _ _ _ _ _ _ _ (outcome-refused _ _ _ _ _ _ (c .before .before .before .before .variables-to .ensures .0 ts i) (c .enum-told .given .1)) (c .enum-told .given .1), ahead-refused _ _ _ _ _ (c .enum-told .given .1))
 
 signature-requires : tie.Need-signature-requires
-signature-requires c κs = let x = (outcome-done _ (c .before .before .before .before .before .before .before .before .before .before .before .before .before .args .most) _ _ _ _ (c .before .before .before .before .before .before .before .variables-to .ensures .0 (c .before .before .before .before .before .before .before .before .before .before .before .before .before .pre .1 .0) (c .before .before .before .before .before .before .before .before .before .before .before .before .before .pre .1 .1)) (c .before .before .before .a .given .1)) in ((x .table, x .holds), omega (arith, x .holds .fits), omega (arith, x .holds .fits))
+signature-requires c κs = let c3 = c .before .before .before in let c7 = c3 .before .before .before .before in let c13 = c7 .before .before .before .before .before .before in let x = (outcome-done _ _ _ _ _ _ (c7 .variables-to .ensures .0 (c13 .pre .1 .0) (c13 .pre .1 .1)) (c3 .a .given .1)) in ((x .table, x .holds), omega (arith, x .holds .fits), omega (arith, x .holds .fits))
 
 same-length-2 : tie.Need-same-length-2
 same-length-2 c = search needs
@@ -35,7 +35,7 @@ same-length-3 c = search needs
 
 returns-2 : tie.Need-returns-2
 unfolding Ahead
-returns-2 c = (λ ts i. let x = (outcome-done _ (c .before .before .before .before .before .before .before .before .before .before .before .before .before .before .before .before .args .most) _ _ _ _ (c .before .before .before .before .before .before .before .before .before .before .variables-to .ensures .0 ts i) (c .before .before .before .before .before .before .a .given .1)) in signs-done (c .before .before .before .before .before .before .before .before .before .before .before .before .before .before .before .before .args .most) _ _ _ _ _ _ x (c .before .before .signature .ensures (x .table) (x .holds)), ahead-done _ _ _ _ _ (c .before .before .before .before .before .before .a .given .1) (c .before .before .before .before .before .before .before .before .before .before .variables-to .ensures .1))
+returns-2 c = let c2 = c .before .before in let c6 = c2 .before .before .before .before in (λ ts i. let x = (outcome-done _ _ _ _ _ _ (c6 .before .before .before .before .variables-to .ensures .0 ts i) (c6 .a .given .1)) in signs-done _ _ _ _ _ _ _ x (c2 .signature .ensures (x .table) (x .holds)), ahead-done _ _ _ _ _ (c6 .a .given .1) (c6 .before .before .before .before .variables-to .ensures .1))
 
 pub signature-to-spec : {M : Type 1} → statement M
 signature-to-spec =

@@ -26,17 +26,17 @@ refusal-requires : tie.Need-refusal-requires
 refusal-requires c κs = search needs
 
 returns-2 : tie.Need-returns-2
-returns-2 c = item-else (now (c .before .before .before .before .before .args .text)) (c .before .before .before .before .before .args .var) (c .before .before .before .before .before .args .from) (c .before .before .before .token-at .result) (c .refusal .result) (c .before .before .before .token-at .ensures) (c .before .before .match .keys2) (c .before .match2 .keys2) (c .refusal .ensures)
+returns-2 c = item-else _ _ _ _ _ (c .before .before .before .token-at .ensures) (c .before .before .match .keys2) (c .before .match2 .keys2) (c .refusal .ensures)
 
 word-of-requires : tie.Need-word-of-requires
 word-of-requires c κs = search needs
 
 item-of-requires : tie.Need-item-of-requires
-item-of-requires c κs = (word-in (now (c .before .before .before .before .before .before .before .args .text)) (c .before .before .before .before .before .before .before .args .from) (c .before .before .before .before .before .before .before .pre) _ _ _ (sym (c .before .before .before .before .before .token-at .ensures) ∙ c .before .before .t2 .given .1)) .1
+item-of-requires c κs = (word-in _ _ (c .before .before .before .before .before .before .before .pre) _ _ _ (sym (c .before .before .before .before .before .token-at .ensures) ∙ c .before .before .t2 .given .1)) .1
 
 returns-3 : tie.Need-returns-3
 unfolding item
-returns-3 c = rw (sym (c .before .before .before .before .before .before .token-at .ensures) ∙ c .before .before .before .t2 .given .1) (c .item-of .ensures (now (c .before .before .before .before .before .before .before .before .args .text)) (c .before .word-of .ensures ∙ word-is _ _ _ _ _ refl))
+returns-3 c = let c3 = c .before .before .before in rw (sym (c3 .before .before .before .token-at .ensures) ∙ c3 .t2 .given .1) (c .item-of .ensures (now (c3 .before .before .before .before .before .args .text)) (c .before .word-of .ensures ∙ word-is _ _ _ _ _ refl))
 
 pub item-at-spec : {M : Type 1} → statement M
 item-at-spec =

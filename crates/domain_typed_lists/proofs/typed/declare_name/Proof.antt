@@ -24,7 +24,7 @@ same-length : tie.Need-same-length
 same-length c = search needs
 
 returns : tie.Need-returns
-returns c = λ t h. refuses _ _ _ _ _ _ (declare-refused (c .before .before .before .before .before .before .args .max) t (c .before .before .before .before .before .before .args .place) (part (now (c .before .before .before .before .before .before .args .text)) (c .before .before .before .before .before .before .args .start) (c .before .before .before .before .before .before .args .end)) (c .before .before .before .before .before .before .args .end) _ _ (answer-refused _ _ _ (sym (c .before .before .fresh-at .ensures .0 (c .before .before .before .before .before .before .args .max) t h) ∙ c .enum-told .given .1))) (c .enum-told .given .1)
+returns c = let c2 = c .before .before in let c6 = c2 .before .before .before .before in λ t h. refuses _ _ _ _ _ _ (declare-refused (c6 .args .max) t (c6 .args .place) (part (now (c6 .args .text)) (c6 .args .start) (c6 .args .end)) (c6 .args .end) _ _ (answer-refused _ _ _ (sym (c2 .fresh-at .ensures .0 (c6 .args .max) t h) ∙ c .enum-told .given .1))) (c .enum-told .given .1)
 
 part-of-requires : tie.Need-part-of-requires
 part-of-requires c κs = search needs
@@ -33,16 +33,16 @@ slice-aggregate-enter : tie.Need-slice-aggregate-enter
 slice-aggregate-enter c = search needs
 
 enter-requires : tie.Need-enter-requires
-enter-requires c κs = (c .before .before .before .before .before .before .before .before .before .before .pre .1, room-done _ _ _ _ _ (c .before .before .before .before .f .given .1) (c .before .before .before .before .before .before .fresh-at .ensures .1), (rw (c .before .part-of .ensures) (c .before .before .before .before .before .before .before .before .before .before .pre .0)), omega arith)
+enter-requires c κs = let c4 = c .before .before .before .before in let c10 = c4 .before .before .before .before .before .before in (c10 .pre .1, room-done _ _ _ _ _ (c4 .f .given .1) (c4 .before .before .fresh-at .ensures .1), (rw (c .before .part-of .ensures) (c10 .pre .0)), omega arith)
 
 add-t19 : tie.Need-add-t19
-add-t19 c = let q = room-done _ _ _ _ _ (c .before .before .before .before .before .before .before .f .given .1) (c .before .before .before .before .before .before .before .before .before .fresh-at .ensures .1) in omega arith
+add-t19 c = let c7 = c .before .before .before .before .before .before .before in let q = room-done _ _ _ _ _ (c7 .f .given .1) (c7 .before .before .fresh-at .ensures .1) in omega arith
 
 same-length-2 : tie.Need-same-length-2
 same-length-2 c = search needs
 
 returns-2 : tie.Need-returns-2
-returns-2 c = λ t h. reads _ _ _ _ _ _ (declare-done (c .before .before .before .before .before .before .before .before .before .before .before .before .before .args .max) t (c .before .before .before .before .before .before .before .before .before .before .before .before .before .args .place) (part (now (c .before .before .before .before .before .before .before .before .before .before .before .before .before .args .text)) (c .before .before .before .before .before .before .before .before .before .before .before .before .before .args .start) (c .before .before .before .before .before .before .before .before .before .before .before .before .before .args .end)) (c .before .before .before .before .before .before .before .before .before .before .before .before .before .args .end) _ _ (answer-done _ _ _ (sym (c .before .before .before .before .before .before .before .before .before .fresh-at .ensures .0 (c .before .before .before .before .before .before .before .before .before .before .before .before .before .args .max) t h) ∙ c .before .before .before .before .before .before .before .f .given .1))) (rw (c .before .before .before .before .part-of .ensures) at (c .before .before .enter .ensures t h))
+returns-2 c = let c2 = c .before .before in let c4 = c2 .before .before in let c7 = c4 .before .before .before in let c9 = c7 .before .before in let c13 = c9 .before .before .before .before in λ t h. reads _ _ _ _ _ _ (declare-done (c13 .args .max) t (c13 .args .place) (part (now (c13 .args .text)) (c13 .args .start) (c13 .args .end)) (c13 .args .end) _ _ (answer-done _ _ _ (sym (c9 .fresh-at .ensures .0 (c13 .args .max) t h) ∙ c7 .f .given .1))) (rw (c4 .part-of .ensures) at (c2 .enter .ensures t h))
 
 pub declare-name-spec : {M : Type 1} → statement M
 declare-name-spec =

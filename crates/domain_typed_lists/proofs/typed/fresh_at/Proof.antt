@@ -26,15 +26,15 @@ enum-told-2 c = search needs
 
 returns : tie.Need-returns
 unfolding Room
-returns c = (λ m t h. sym (ap answerOf (fresh-known (c .before .before .before .before .before .before .args .max) t (c .before .before .before .before .before .before .args .place) (part (now (c .before .before .before .before .before .before .args .text)) (c .before .before .before .before .before .before .args .start) (c .before .before .before .before .before .before .args .end)) (c .before .before .before .before .before .before .args .end) _ (found m (now (c .before .before .before .before .before .before .args .rows)) (c .before .before .before .before .before .before .args .n) t _ _ (c .before .before .find .result) _ h (c .before .before .find .ensures) (c .before .before .before .part-of .ensures) (c .enum-told2 .given .1)))), tt)
+returns c = let c2 = c .before .before in let c3 = c2 .before in let c6 = c3 .before .before .before in (λ m t h. sym (ap answerOf (fresh-known (c6 .args .max) t (c6 .args .place) (part (now (c6 .args .text)) (c6 .args .start) (c6 .args .end)) (c6 .args .end) _ (found m (now (c6 .args .rows)) (c6 .args .n) t _ _ (c2 .find .result) _ h (c2 .find .ensures) (c3 .part-of .ensures) (c .enum-told2 .given .1)))), tt)
 
 returns-2 : tie.Need-returns-2
 unfolding Room
-returns-2 c = (λ m t h. sym (ap answerOf (fresh-full (c .before .before .before .before .before .before .before .args .max) t (c .before .before .before .before .before .before .before .args .place) (part (now (c .before .before .before .before .before .before .before .args .text)) (c .before .before .before .before .before .before .before .args .start) (c .before .before .before .before .before .before .before .args .end)) (c .before .before .before .before .before .before .before .args .end) (found m (now (c .before .before .before .before .before .before .before .args .rows)) (c .before .before .before .before .before .before .before .args .n) t _ _ (c .before .before .before .find .result) _ h (c .before .before .before .find .ensures) (c .before .before .before .before .part-of .ensures) (c .before .enum-told .given .1)) (omega (arith, h .count)))), tt)
+returns-2 c = let c1 = c .before in let c3 = c1 .before .before in let c4 = c3 .before in let c7 = c4 .before .before .before in (λ m t h. sym (ap answerOf (fresh-full (c7 .args .max) t (c7 .args .place) (part (now (c7 .args .text)) (c7 .args .start) (c7 .args .end)) (c7 .args .end) (found m (now (c7 .args .rows)) (c7 .args .n) t _ _ (c3 .find .result) _ h (c3 .find .ensures) (c4 .part-of .ensures) (c1 .enum-told .given .1)) (omega (arith, h .count)))), tt)
 
 returns-3 : tie.Need-returns-3
 unfolding Room
-returns-3 c = (λ m t h. sym (ap answerOf (fresh-new (c .before .before .before .before .before .before .before .args .max) t (c .before .before .before .before .before .before .before .args .place) (part (now (c .before .before .before .before .before .before .before .args .text)) (c .before .before .before .before .before .before .before .args .start) (c .before .before .before .before .before .before .before .args .end)) (c .before .before .before .before .before .before .before .args .end) (found m (now (c .before .before .before .before .before .before .before .args .rows)) (c .before .before .before .before .before .before .before .args .n) t _ _ (c .before .before .before .find .result) _ h (c .before .before .before .find .ensures) (c .before .before .before .before .part-of .ensures) (c .before .enum-told .given .1)) (omega (arith, h .count)))), c .if1 .left)
+returns-3 c = let c1 = c .before in let c3 = c1 .before .before in let c4 = c3 .before in let c7 = c4 .before .before .before in (λ m t h. sym (ap answerOf (fresh-new (c7 .args .max) t (c7 .args .place) (part (now (c7 .args .text)) (c7 .args .start) (c7 .args .end)) (c7 .args .end) (found m (now (c7 .args .rows)) (c7 .args .n) t _ _ (c3 .find .result) _ h (c3 .find .ensures) (c4 .part-of .ensures) (c1 .enum-told .given .1)) (omega (arith, h .count)))), c .if1 .left)
 
 pub fresh-at-spec : {M : Type 1} → statement M
 fresh-at-spec =

@@ -32,13 +32,13 @@ same-length : tie.Need-same-length Inv-loop μ-loop
 same-length c = search needs
 
 returns : tie.Need-returns Inv-loop μ-loop
-returns c = let r = item-close (now (c .before .before .before .before .before .before .before .before .args .text)) (c .before .before .before .before .before .before .before .before .args .var) (c .before .before .before .before .loop .at) (c .before .before .before .before .loop .inv .1) (c .before .before .before .item-at .result) (c .before .before .before .item-at .ensures) _ (c .before .next .given .1) in (λ ts t k i h. going-close (now (c .before .before .before .before .before .before .before .before .args .text)) (c .before .before .before .before .before .before .before .before .args .var) (c .before .before .before .before .before .before .before .before .args .own) ts (c .before .before .before .before .before .before .before .before .args .max) t (c .before .before .before .before .before .before .before .before .args .n) (c .before .before .before .before .before .before .before .before .args .at) (c .before .before .before .before .loop .rows) (c .before .before .before .before .loop .n) (c .before .before .before .before .loop .g) (c .before .before .before .before .loop .at) (c .before .before .before .before .loop .inv .3 ts t i h) _ (r .0) k, ahead-by _ _ _ _ (omega (arith, c .before .before .before .before .loop .inv .0)) (r .2))
+returns c = let c3 = c .before .before .before in let r = item-close _ _ _ (c3 .before .loop .inv .1) _ (c3 .item-at .ensures) _ (c .before .next .given .1) in (λ ts t k i h. going-close _ _ _ ts _ t _ _ _ _ _ _ (c3 .before .loop .inv .3 ts t i h) _ (r .0) k, ahead-by _ _ _ _ (omega (arith, c3 .before .loop .inv .0)) (r .2))
 
 enum-known-p : tie.Need-enum-known-p Inv-loop μ-loop
 enum-known-p c = c .match .keys2
 
 group-at-requires : tie.Need-group-at-requires Inv-loop μ-loop
-group-at-requires c κs = ((item-dash (now (c .before .before .before .before .before .before .before .before .before .args .text)) (c .before .before .before .before .before .before .before .before .before .args .var) (c .before .before .before .before .before .loop .at) (c .before .before .before .before .before .loop .inv .1) (c .before .before .before .before .item-at .result) (c .before .before .before .before .item-at .ensures) _ _ (c .before .before .p .given .1)) .2, c .before .before .before .before .before .before .before .before .before .pre .1, ((c .before .before .before .before .before .loop .inv .3 (c .before .before .before .before .before .before .before .before .before .pre .1 .0) (c .before .before .before .before .before .before .before .before .before .pre .2 .0) (c .before .before .before .before .before .before .before .before .before .pre .1 .1) (c .before .before .before .before .before .before .before .before .before .pre .2 .1)) .table, (c .before .before .before .before .before .loop .inv .3 (c .before .before .before .before .before .before .before .before .before .pre .1 .0) (c .before .before .before .before .before .before .before .before .before .pre .2 .0) (c .before .before .before .before .before .before .before .before .before .pre .1 .1) (c .before .before .before .before .before .before .before .before .before .pre .2 .1)) .holds), omega (arith, (c .before .before .before .before .before .loop .inv .3 (c .before .before .before .before .before .before .before .before .before .pre .1 .0) (c .before .before .before .before .before .before .before .before .before .pre .2 .0) (c .before .before .before .before .before .before .before .before .before .pre .1 .1) (c .before .before .before .before .before .before .before .before .before .pre .2 .1)) .holds .fits, c .before .before .before .before .before .before .before .before .before .pre .3))
+group-at-requires c κs = let c2 = c .before .before in let c4 = c2 .before .before in let c5 = c4 .before in let c9 = c5 .before .before .before .before in ((item-dash _ _ _ (c5 .loop .inv .1) _ (c4 .item-at .ensures) _ _ (c2 .p .given .1)) .2, c9 .pre .1, ((c5 .loop .inv .3 (c9 .pre .1 .0) (c9 .pre .2 .0) (c9 .pre .1 .1) (c9 .pre .2 .1)) .table, (c5 .loop .inv .3 (c9 .pre .1 .0) (c9 .pre .2 .0) (c9 .pre .1 .1) (c9 .pre .2 .1)) .holds), omega (arith, (c5 .loop .inv .3 (c9 .pre .1 .0) (c9 .pre .2 .0) (c9 .pre .1 .1) (c9 .pre .2 .1)) .holds .fits, c9 .pre .3))
 
 enum-known-a : tie.Need-enum-known-a Inv-loop μ-loop
 enum-known-a c = c .match2 .keys1
@@ -50,19 +50,19 @@ same-length-2 : tie.Need-same-length-2 Inv-loop μ-loop
 same-length-2 c = search needs
 
 returns-2 : tie.Need-returns-2 Inv-loop μ-loop
-returns-2 c = (λ ts t k i h. going-group-refused (now (c .before .before .before .before .before .before .before .before .before .before .before .before .before .before .args .text)) (c .before .before .before .before .before .before .before .before .before .before .before .before .before .before .args .var) (c .before .before .before .before .before .before .before .before .before .before .before .before .before .before .args .own) ts (c .before .before .before .before .before .before .before .before .before .before .before .before .before .before .args .max) t (c .before .before .before .before .before .before .before .before .before .before .before .before .before .before .args .n) (c .before .before .before .before .before .before .before .before .before .before .before .before .before .before .args .at) (c .before .before .before .before .before .before .before .before .before .before .loop .rows) (c .before .before .before .before .before .before .before .before .before .before .loop .n) (c .before .before .before .before .before .before .before .before .before .before .loop .g) (c .before .before .before .before .before .before .before .before .before .before .loop .at) (c .before .before .before .before .before .before .before .before .before .before .loop .inv .3 ts t i h) _ _ ((item-dash (now (c .before .before .before .before .before .before .before .before .before .before .before .before .before .before .args .text)) (c .before .before .before .before .before .before .before .before .before .before .before .before .before .before .args .var) (c .before .before .before .before .before .before .before .before .before .before .loop .at) (c .before .before .before .before .before .before .before .before .before .before .loop .inv .1) (c .before .before .before .before .before .before .before .before .before .item-at .result) (c .before .before .before .before .before .before .before .before .before .item-at .ensures) _ _ (c .before .before .before .before .before .before .before .p .given .1)) .0) (c .before .before .before .before .group-at .result) _ (c .before .before .before .before .group-at .ensures .0 ts (c .before .before .before .before .before .before .before .before .before .before .loop .inv .3 ts t i h .table) i (c .before .before .before .before .before .before .before .before .before .before .loop .inv .3 ts t i h .holds)) _ _ (c .enum-told .given .1) k, ahead-refused _ _ _ _ _ (c .enum-told .given .1))
+returns-2 c = let c4 = c .before .before .before .before in let c7 = c4 .before .before .before in let c9 = c7 .before .before in (λ ts t k i h. going-group-refused _ _ _ ts _ t _ _ _ _ _ _ (c9 .before .loop .inv .3 ts t i h) _ _ ((item-dash _ _ _ (c9 .before .loop .inv .1) _ (c9 .item-at .ensures) _ _ (c7 .p .given .1)) .0) _ _ (c4 .group-at .ensures .0 ts (c9 .before .loop .inv .3 ts t i h .table) i (c9 .before .loop .inv .3 ts t i h .holds)) _ _ (c .enum-told .given .1) k, ahead-refused _ _ _ _ _ (c .enum-told .given .1))
 
 loop-less : tie.Need-loop-less Inv-loop μ-loop
-loop-less c = let r = item-dash (now (c .before .before .before .before .before .before .before .before .before .before .before .before .before .before .before .args .text)) (c .before .before .before .before .before .before .before .before .before .before .before .before .before .before .before .args .var) (c .before .before .before .before .before .before .before .before .before .before .before .loop .at) (c .before .before .before .before .before .before .before .before .before .before .before .loop .inv .1) (c .before .before .before .before .before .before .before .before .before .before .item-at .result) (c .before .before .before .before .before .before .before .before .before .before .item-at .ensures) _ _ (c .before .before .before .before .before .before .before .before .p .given .1) in omega (arith, ahead-done _ _ _ _ _ (c .before .a .given .1) (c .before .before .before .before .before .group-at .ensures .1))
+loop-less c = let c5 = c .before .before .before .before .before in let c8 = c5 .before .before .before in let r = item-dash _ _ _ (c8 .before .before .before .loop .inv .1) _ (c8 .before .before .item-at .ensures) _ _ (c8 .p .given .1) in omega (arith, ahead-done _ _ _ _ _ (c .before .a .given .1) (c5 .group-at .ensures .1))
 
 loop-again : tie.Need-loop-again Inv-loop μ-loop
-loop-again c = let r = item-dash (now (c .before .before .before .before .before .before .before .before .before .before .before .before .before .before .before .args .text)) (c .before .before .before .before .before .before .before .before .before .before .before .before .before .before .before .args .var) (c .before .before .before .before .before .before .before .before .before .before .before .loop .at) (c .before .before .before .before .before .before .before .before .before .before .before .loop .inv .1) (c .before .before .before .before .before .before .before .before .before .before .item-at .result) (c .before .before .before .before .before .before .before .before .before .before .item-at .ensures) _ _ (c .before .before .before .before .before .before .before .before .p .given .1) in let q = ahead-done _ _ _ _ _ (c .before .a .given .1) (c .before .before .before .before .before .group-at .ensures .1) in (omega (arith, c .before .before .before .before .before .before .before .before .before .before .before .loop .inv .0), q .1, search needs, λ ts t i h. going-group (now (c .before .before .before .before .before .before .before .before .before .before .before .before .before .before .before .args .text)) (c .before .before .before .before .before .before .before .before .before .before .before .before .before .before .before .args .var) (c .before .before .before .before .before .before .before .before .before .before .before .before .before .before .before .args .own) ts (c .before .before .before .before .before .before .before .before .before .before .before .before .before .before .before .args .max) t (c .before .before .before .before .before .before .before .before .before .before .before .before .before .before .before .args .n) (c .before .before .before .before .before .before .before .before .before .before .before .before .before .before .before .args .at) (c .before .before .before .before .before .before .before .before .before .before .before .loop .rows) (c .before .before .before .before .before .before .before .before .before .before .before .loop .n) (c .before .before .before .before .before .before .before .before .before .before .before .loop .g) (c .before .before .before .before .before .before .before .before .before .before .before .loop .at) (c .before .before .before .before .before .before .before .before .before .before .before .loop .inv .3 ts t i h) _ _ ((item-dash (now (c .before .before .before .before .before .before .before .before .before .before .before .before .before .before .before .args .text)) (c .before .before .before .before .before .before .before .before .before .before .before .before .before .before .before .args .var) (c .before .before .before .before .before .before .before .before .before .before .before .loop .at) (c .before .before .before .before .before .before .before .before .before .before .before .loop .inv .1) (c .before .before .before .before .before .before .before .before .before .before .item-at .result) (c .before .before .before .before .before .before .before .before .before .before .item-at .ensures) _ _ (c .before .before .before .before .before .before .before .before .p .given .1)) .0) (c .before .before .before .before .before .group-at .result) _ (c .before .before .before .before .before .group-at .ensures .0 ts (c .before .before .before .before .before .before .before .before .before .before .before .loop .inv .3 ts t i h .table) i (c .before .before .before .before .before .before .before .before .before .before .before .loop .inv .3 ts t i h .holds)) _ _ (c .before .a .given .1) (omega arith) (q .1))
+loop-again c = let c1 = c .before in let c5 = c1 .before .before .before .before in let c8 = c5 .before .before .before in let c10 = c8 .before .before in let r = item-dash _ _ _ (c10 .before .loop .inv .1) _ (c10 .item-at .ensures) _ _ (c8 .p .given .1) in let q = ahead-done _ _ _ _ _ (c1 .a .given .1) (c5 .group-at .ensures .1) in (omega (arith, c10 .before .loop .inv .0), q .1, search needs, λ ts t i h. going-group _ _ _ ts _ t _ _ _ _ _ _ (c10 .before .loop .inv .3 ts t i h) _ _ ((item-dash _ _ _ (c10 .before .loop .inv .1) _ (c10 .item-at .ensures) _ _ (c8 .p .given .1)) .0) _ _ (c5 .group-at .ensures .0 ts (c10 .before .loop .inv .3 ts t i h .table) i (c10 .before .loop .inv .3 ts t i h .holds)) _ _ (c1 .a .given .1) (omega arith) (q .1))
 
 enum-known-place : tie.Need-enum-known-place Inv-loop μ-loop
 enum-known-place c = c .match .keys3
 
 declare-name-requires : tie.Need-declare-name-requires Inv-loop μ-loop
-declare-name-requires c κs = let r = item-name (now (c .before .before .before .before .before .before .before .before .before .args .text)) (c .before .before .before .before .before .before .before .before .before .args .var) (c .before .before .before .before .before .loop .at) (c .before .before .before .before .before .loop .inv .1) (c .before .before .before .before .item-at .result) (c .before .before .before .before .item-at .ensures) _ _ _ (c .before .before .place .given .1) in (r .3, ((c .before .before .before .before .before .loop .inv .3 (c .before .before .before .before .before .before .before .before .before .pre .1 .0) (c .before .before .before .before .before .before .before .before .before .pre .2 .0) (c .before .before .before .before .before .before .before .before .before .pre .1 .1) (c .before .before .before .before .before .before .before .before .before .pre .2 .1)) .table, (c .before .before .before .before .before .loop .inv .3 (c .before .before .before .before .before .before .before .before .before .pre .1 .0) (c .before .before .before .before .before .before .before .before .before .pre .2 .0) (c .before .before .before .before .before .before .before .before .before .pre .1 .1) (c .before .before .before .before .before .before .before .before .before .pre .2 .1)) .holds))
+declare-name-requires c κs = let c2 = c .before .before in let c4 = c2 .before .before in let c5 = c4 .before in let c9 = c5 .before .before .before .before in let r = item-name _ _ _ (c5 .loop .inv .1) _ (c4 .item-at .ensures) _ _ _ (c2 .place .given .1) in (r .3, ((c5 .loop .inv .3 (c9 .pre .1 .0) (c9 .pre .2 .0) (c9 .pre .1 .1) (c9 .pre .2 .1)) .table, (c5 .loop .inv .3 (c9 .pre .1 .0) (c9 .pre .2 .0) (c9 .pre .1 .1) (c9 .pre .2 .1)) .holds))
 
 enum-known-a-2 : tie.Need-enum-known-a-2 Inv-loop μ-loop
 enum-known-a-2 c = c .match3 .keys1
@@ -74,13 +74,13 @@ same-length-3 : tie.Need-same-length-3 Inv-loop μ-loop
 same-length-3 c = search needs
 
 returns-3 : tie.Need-returns-3 Inv-loop μ-loop
-returns-3 c = (λ ts t k i h. going-name-refused (now (c .before .before .before .before .before .before .before .before .before .before .before .before .before .before .args .text)) (c .before .before .before .before .before .before .before .before .before .before .before .before .before .before .args .var) (c .before .before .before .before .before .before .before .before .before .before .before .before .before .before .args .own) ts (c .before .before .before .before .before .before .before .before .before .before .before .before .before .before .args .max) t (c .before .before .before .before .before .before .before .before .before .before .before .before .before .before .args .n) (c .before .before .before .before .before .before .before .before .before .before .before .before .before .before .args .at) (c .before .before .before .before .before .before .before .before .before .before .loop .rows) (c .before .before .before .before .before .before .before .before .before .before .loop .n) (c .before .before .before .before .before .before .before .before .before .before .loop .g) (c .before .before .before .before .before .before .before .before .before .before .loop .at) (c .before .before .before .before .before .before .before .before .before .before .loop .inv .3 ts t i h) (c .before .before .before .before .before .before .before .place .given .0 .0) (c .before .before .before .before .before .before .before .place .given .0 .1 .0) (c .before .before .before .before .before .before .before .place .given .0 .1 .1 .0) ((item-name (now (c .before .before .before .before .before .before .before .before .before .before .before .before .before .before .args .text)) (c .before .before .before .before .before .before .before .before .before .before .before .before .before .before .args .var) (c .before .before .before .before .before .before .before .before .before .before .loop .at) (c .before .before .before .before .before .before .before .before .before .before .loop .inv .1) (c .before .before .before .before .before .before .before .before .before .item-at .result) (c .before .before .before .before .before .before .before .before .before .item-at .ensures) _ _ _ (c .before .before .before .before .before .before .before .place .given .1)) .0) (c .before .before .before .before .declare-name .result) _ (c .before .before .before .before .declare-name .ensures (c .before .before .before .before .before .before .before .before .before .before .loop .inv .3 ts t i h .table) (c .before .before .before .before .before .before .before .before .before .before .loop .inv .3 ts t i h .holds)) _ _ (c .enum-told2 .given .1) k, ahead-refused _ _ _ _ _ (c .enum-told2 .given .1))
+returns-3 c = let c4 = c .before .before .before .before in let c7 = c4 .before .before .before in let c9 = c7 .before .before in (λ ts t k i h. going-name-refused _ _ _ ts _ t _ _ _ _ _ _ (c9 .before .loop .inv .3 ts t i h) (c7 .place .given .0 .0) (c7 .place .given .0 .1 .0) (c7 .place .given .0 .1 .1 .0) ((item-name _ _ _ (c9 .before .loop .inv .1) _ (c9 .item-at .ensures) _ _ _ (c7 .place .given .1)) .0) _ _ (c4 .declare-name .ensures (c9 .before .loop .inv .3 ts t i h .table) (c9 .before .loop .inv .3 ts t i h .holds)) _ _ (c .enum-told2 .given .1) k, ahead-refused _ _ _ _ _ (c .enum-told2 .given .1))
 
 loop-less-2 : tie.Need-loop-less-2 Inv-loop μ-loop
-loop-less-2 c = let r = item-name (now (c .before .before .before .before .before .before .before .before .before .before .before .before .before .before .before .args .text)) (c .before .before .before .before .before .before .before .before .before .before .before .before .before .before .before .args .var) (c .before .before .before .before .before .before .before .before .before .before .before .loop .at) (c .before .before .before .before .before .before .before .before .before .before .before .loop .inv .1) (c .before .before .before .before .before .before .before .before .before .before .item-at .result) (c .before .before .before .before .before .before .before .before .before .before .item-at .ensures) _ _ _ (c .before .before .before .before .before .before .before .before .place .given .1) in omega arith
+loop-less-2 c = let c8 = c .before .before .before .before .before .before .before .before in let r = item-name _ _ _ (c8 .before .before .before .loop .inv .1) _ (c8 .before .before .item-at .ensures) _ _ _ (c8 .place .given .1) in omega arith
 
 loop-again-2 : tie.Need-loop-again-2 Inv-loop μ-loop
-loop-again-2 c = let r = item-name (now (c .before .before .before .before .before .before .before .before .before .before .before .before .before .before .before .args .text)) (c .before .before .before .before .before .before .before .before .before .before .before .before .before .before .before .args .var) (c .before .before .before .before .before .before .before .before .before .before .before .loop .at) (c .before .before .before .before .before .before .before .before .before .before .before .loop .inv .1) (c .before .before .before .before .before .before .before .before .before .before .item-at .result) (c .before .before .before .before .before .before .before .before .before .before .item-at .ensures) _ _ _ (c .before .before .before .before .before .before .before .before .place .given .1) in (omega (arith, c .before .before .before .before .before .before .before .before .before .before .before .loop .inv .0), r .2, search needs, λ ts t i h. going-name (now (c .before .before .before .before .before .before .before .before .before .before .before .before .before .before .before .args .text)) (c .before .before .before .before .before .before .before .before .before .before .before .before .before .before .before .args .var) (c .before .before .before .before .before .before .before .before .before .before .before .before .before .before .before .args .own) ts (c .before .before .before .before .before .before .before .before .before .before .before .before .before .before .before .args .max) t (c .before .before .before .before .before .before .before .before .before .before .before .before .before .before .before .args .n) (c .before .before .before .before .before .before .before .before .before .before .before .before .before .before .before .args .at) (c .before .before .before .before .before .before .before .before .before .before .before .loop .rows) (c .before .before .before .before .before .before .before .before .before .before .before .loop .n) (c .before .before .before .before .before .before .before .before .before .before .before .loop .g) (c .before .before .before .before .before .before .before .before .before .before .before .loop .at) (c .before .before .before .before .before .before .before .before .before .before .before .loop .inv .3 ts t i h) (c .before .before .before .before .before .before .before .before .place .given .0 .0) (c .before .before .before .before .before .before .before .before .place .given .0 .1 .0) (c .before .before .before .before .before .before .before .before .place .given .0 .1 .1 .0) ((item-name (now (c .before .before .before .before .before .before .before .before .before .before .before .before .before .before .before .args .text)) (c .before .before .before .before .before .before .before .before .before .before .before .before .before .before .before .args .var) (c .before .before .before .before .before .before .before .before .before .before .before .loop .at) (c .before .before .before .before .before .before .before .before .before .before .before .loop .inv .1) (c .before .before .before .before .before .before .before .before .before .before .item-at .result) (c .before .before .before .before .before .before .before .before .before .before .item-at .ensures) _ _ _ (c .before .before .before .before .before .before .before .before .place .given .1)) .0) (c .before .before .before .before .before .declare-name .result) _ (c .before .before .before .before .before .declare-name .ensures (c .before .before .before .before .before .before .before .before .before .before .before .loop .inv .3 ts t i h .table) (c .before .before .before .before .before .before .before .before .before .before .before .loop .inv .3 ts t i h .holds)) _ _ (c .before .a2 .given .1) (r .1) (r .2))
+loop-again-2 c = let c1 = c .before in let c5 = c1 .before .before .before .before in let c8 = c5 .before .before .before in let c10 = c8 .before .before in let r = item-name _ _ _ (c10 .before .loop .inv .1) _ (c10 .item-at .ensures) _ _ _ (c8 .place .given .1) in (omega (arith, c10 .before .loop .inv .0), r .2, search needs, λ ts t i h. going-name _ _ _ ts _ t _ _ _ _ _ _ (c10 .before .loop .inv .3 ts t i h) (c8 .place .given .0 .0) (c8 .place .given .0 .1 .0) (c8 .place .given .0 .1 .1 .0) ((item-name _ _ _ (c10 .before .loop .inv .1) _ (c10 .item-at .ensures) _ _ _ (c8 .place .given .1)) .0) _ _ (c5 .declare-name .ensures (c10 .before .loop .inv .3 ts t i h .table) (c10 .before .loop .inv .3 ts t i h .holds)) _ _ (c1 .a2 .given .1) (r .1) (r .2))
 
 enum-known-a-3 : tie.Need-enum-known-a-3 Inv-loop μ-loop
 enum-known-a-3 c = c .match .keys4
@@ -89,7 +89,7 @@ same-length-4 : tie.Need-same-length-4 Inv-loop μ-loop
 same-length-4 c = search needs
 
 returns-4 : tie.Need-returns-4 Inv-loop μ-loop
-returns-4 c = let w = item-other (now (c .before .before .before .before .before .before .before .before .args .text)) (c .before .before .before .before .before .before .before .before .args .var) (c .before .before .before .before .loop .at) (c .before .before .before .before .loop .inv .1) (c .before .before .before .item-at .result) (c .before .before .before .item-at .ensures) _ (c .before .a3 .given .1) in (λ ts t k i h. rw (w .2) (going-refused (now (c .before .before .before .before .before .before .before .before .args .text)) (c .before .before .before .before .before .before .before .before .args .var) (c .before .before .before .before .before .before .before .before .args .own) ts (c .before .before .before .before .before .before .before .before .args .max) t (c .before .before .before .before .before .before .before .before .args .n) (c .before .before .before .before .before .before .before .before .args .at) (c .before .before .before .before .loop .rows) (c .before .before .before .before .loop .n) (c .before .before .before .before .loop .g) (c .before .before .before .before .loop .at) (c .before .before .before .before .loop .inv .3 ts t i h) (w .0) (w .1) _ (w .3) k), ahead-refused _ _ _ _ _ (w .2))
+returns-4 c = let c3 = c .before .before .before in let w = item-other _ _ _ (c3 .before .loop .inv .1) _ (c3 .item-at .ensures) _ (c .before .a3 .given .1) in (λ ts t k i h. rw (w .2) (going-refused _ _ _ ts _ t _ _ _ _ _ _ (c3 .before .loop .inv .3 ts t i h) (w .0) (w .1) _ (w .3) k), ahead-refused _ _ _ _ _ (w .2))
 
 pub typed-list-spec : {M : Type 1} → statement M
 typed-list-spec =

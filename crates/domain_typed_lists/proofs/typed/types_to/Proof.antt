@@ -29,14 +29,14 @@ slice-aggregate-typed-list c = search needs
 
 typed-list-requires : tie.Need-typed-list-requires
 unfolding rowsOf padded bytes
-typed-list-requires c κs = (c .before .before .before .before .before .before .before .before .before .before .pre .0, ([], (holds-none 17 _ refl)), ((entry (bytes "object") (0 ∷ []) ∷ []), c .before .before .before .before .enter .ensures [] (holds-none 17 (now (c .before .before .before .before .before .before .before .before .before .before .args .rows)) (c .before .before .before .before .before .before .before .before .before .before .pre .1))), omega arith)
+typed-list-requires c κs = let c4 = c .before .before .before .before in let c10 = c4 .before .before .before .before .before .before in (c10 .pre .0, ([], (holds-none 17 _ refl)), ((entry (bytes "object") (0 ∷ []) ∷ []), c4 .enter .ensures [] (holds-none 17 (now (c10 .args .rows)) (c10 .pre .1))), omega arith)
 
 same-length : tie.Need-same-length
 same-length c = search needs
 
 returns : tie.Need-returns
 unfolding rowsOf padded bytes typesTo
-returns c = (c .before .before .typed-list .ensures .0 [] (entry (bytes "object") (0 ∷ []) ∷ []) (length (now (c .before .before .before .before .before .before .before .before .before .before .before .before .before .args .text)) + 1) (holds-none 17 _ refl) (c .before .before .before .before .before .before .before .enter .ensures [] (holds-none 17 (now (c .before .before .before .before .before .before .before .before .before .before .before .before .before .args .rows)) (c .before .before .before .before .before .before .before .before .before .before .before .before .before .pre .1))) (omega arith), c .before .before .typed-list .ensures .1)
+returns c = let c2 = c .before .before in let c7 = c2 .before .before .before .before .before in let c13 = c7 .before .before .before .before .before .before in (c2 .typed-list .ensures .0 [] (entry (bytes "object") (0 ∷ []) ∷ []) _ (holds-none 17 _ refl) (c7 .enter .ensures [] (holds-none 17 (now (c13 .args .rows)) (c13 .pre .1))) (omega arith), c2 .typed-list .ensures .1)
 
 pub types-to-spec : {M : Type 1} → statement M
 types-to-spec =

@@ -11,14 +11,14 @@ use Rattle.domain_typed_lists.proofs.typed.variables_to.Statement.{stat
 use Rattle.domain_typed_lists.proofs.typed.variables_to.Tie as tie
 
 typed-list-requires : tie.Need-typed-list-requires
-typed-list-requires c κs = (c .before .before .before .before .pre .0, c .before .before .before .before .pre .1, ([], (holds-none (c .before .before .before .before .args .most) (now (c .before .before .before .before .args .rows)) (c .before .before .before .before .pre .2))), c .before .before .before .before .pre .3)
+typed-list-requires c κs = let c4 = c .before .before .before .before in (c4 .pre .0, c4 .pre .1, ([], (holds-none _ _ (c4 .pre .2))), c4 .pre .3)
 
 same-length : tie.Need-same-length
 same-length c = search needs
 
 returns : tie.Need-returns
 unfolding variablesTo
-returns c = (λ ts i. c .before .before .typed-list .ensures .0 ts [] (length (now (c .before .before .before .before .before .before .before .args .text)) + 1) i (holds-none (c .before .before .before .before .before .before .before .args .most) (now (c .before .before .before .before .before .before .before .args .rows)) (c .before .before .before .before .before .before .before .pre .2)) (omega arith), c .before .before .typed-list .ensures .1)
+returns c = let c2 = c .before .before in (λ ts i. c2 .typed-list .ensures .0 ts [] (length (now (c2 .before .before .before .before .before .args .text)) + 1) i (holds-none _ _ (c2 .before .before .before .before .before .pre .2)) (omega arith), c2 .typed-list .ensures .1)
 
 pub variables-to-spec : {M : Type 1} → statement M
 variables-to-spec = tie.close (tie.spec typed-list-requires same-length returns)

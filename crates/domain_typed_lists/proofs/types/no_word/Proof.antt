@@ -20,10 +20,10 @@ refusal-requires : tie.Need-refusal-requires
 refusal-requires c κs = search needs
 
 returns : tie.Need-returns
-returns c = (λ at. other-else (now (c .before .before .before .before .args .text)) (c .before .before .before .before .args .from) at (c .before .before .token-at .result) (c .refusal .result) (c .before .before .token-at .ensures) (c .before .match .keys2) (c .refusal .ensures), below-refused _ _ _ _ (c .refusal .ensures))
+returns c = (λ at. other-else _ _ at _ _ (c .before .before .token-at .ensures) (c .before .match .keys2) (c .refusal .ensures), below-refused _ _ _ _ (c .refusal .ensures))
 
 add-spot-at : tie.Need-add-spot-at
-add-spot-at c = let w = bracket-in (now (c .before .before .before .before .before .args .text)) (c .before .before .before .before .before .args .from) _ _ (c .before .before .before .before .before .pre) (sym (c .before .before .before .token-at .ensures) ∙ c .before .t .given .1) in omega (arith, w)
+add-spot-at c = let w = bracket-in _ _ _ _ (c .before .before .before .before .before .pre) (sym (c .before .before .before .token-at .ensures) ∙ c .before .t .given .1) in omega (arith, w)
 
 slice-aggregate-spot-at : tie.Need-slice-aggregate-spot-at
 slice-aggregate-spot-at c = search needs
@@ -39,11 +39,11 @@ enum-told c = search needs
 
 returns-2 : tie.Need-returns-2
 unfolding bytes
-returns-2 c = (λ at. other-bracket (now (c .before .before .before .before .before .before .before .before .before .args .text)) (c .before .before .before .before .before .before .before .before .before .args .from) at _ _ (sym (c .before .before .before .before .before .before .before .token-at .ensures) ∙ c .before .before .before .before .before .t .given .1) (sym (c .before .before .spot-at .ensures) ∙ c .enum-told .given .1), below-refused _ _ _ _ refl)
+returns-2 c = (λ at. other-bracket _ _ at _ _ (sym (c .before .before .before .before .before .before .before .token-at .ensures) ∙ c .before .before .before .before .before .t .given .1) (sym (c .before .before .spot-at .ensures) ∙ c .enum-told .given .1), below-refused _ _ _ _ refl)
 
 returns-3 : tie.Need-returns-3
 unfolding bytes
-returns-3 c = (λ at. other-either (now (c .before .before .before .before .before .before .before .before .before .before .args .text)) (c .before .before .before .before .before .before .before .before .before .before .args .from) at _ _ (sym (c .before .before .before .before .before .before .before .before .token-at .ensures) ∙ c .before .before .before .before .before .before .t .given .1) _ _ (sym (c .before .before .before .spot-at .ensures) ∙ c .before .o .given .1), below-refused _ _ _ _ refl)
+returns-3 c = let c3 = c .before .before .before in (λ at. other-either _ _ at _ _ (sym (c3 .before .before .before .before .before .token-at .ensures) ∙ c3 .before .before .before .t .given .1) _ _ (sym (c3 .spot-at .ensures) ∙ c .before .o .given .1), below-refused _ _ _ _ refl)
 
 pub no-word-spec : {M : Type 1} → statement M
 no-word-spec =

@@ -23,7 +23,7 @@ use Rattle.plan_running.specs.Running.{rulesIn}
 use Rattle.plan_waiting.specs.Lent.{queueIn}
 use Rattle.plan_waiting.specs.declared.Queue.{Queue}
 use Rattle.plan_waiting.proofs.Soundness.{sound-step-of}
-use Rattle.plan_feeding.specs.declared.Progress.{Progress}
+use Rattle.plan_feeding.specs.declared.PlanProgress.{PlanProgress}
 use Rattle.plan_feeding.specs.Feeding.{checkIn}
 use Rattle.plan_meaning.proofs.Places.{line-places}
 use Rattle.plan_lines.proofs.Names.{signed-length}
@@ -129,7 +129,7 @@ returns-2 c =
       λ g s. taken-refusal (rules (start v) g s) (first (start v)) (before (start v)) (a .p) (pre .3) (a .acting) (v .line-at .result)
           (found (start v)) (lined v) (r .result) (e .0 .0) (e .0 .1 .0) (e .1) (r .ensures),
       rw (r .ensures) (pre .2),
-      ap (λ (w : Progress). w .number) (r .ensures),
+      ap (λ (w : PlanProgress). w .number) (r .ensures),
       pre .6,
     )
 

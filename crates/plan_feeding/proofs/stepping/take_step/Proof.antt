@@ -15,7 +15,7 @@ use Rattle.plan_running.specs.Running.{rulesIn}
 use Rattle.plan_waiting.specs.Lent.{queueIn}
 use Rattle.plan_waiting.specs.declared.Queue.{Queue}
 use Rattle.plan_waiting.proofs.LentPlaces.{slots-long}
-use Rattle.plan_feeding.specs.declared.Progress.{Progress}
+use Rattle.plan_feeding.specs.declared.PlanProgress.{PlanProgress}
 use Rattle.plan_feeding.proofs.Taking.{points-few, crowded, admitted}
 use borrow.Author.Needs.{needs}
 use Rattle.plan_feeding.proofs.stepping.take_step.Statement.{statement}
@@ -88,8 +88,8 @@ returns c =
           (d .ensures .0 g es s h k) (long v) (few v) (r .ensures)
           (omega (arith, c .before .before .if1 .taken, c .before .before .before .points-of .ensures)) (start v .pre .2),
       λ n h k. d .ensures .1 n h,
-      ap (λ (w : Progress). w .used) (r .ensures),
-      ap (λ (w : Progress). w .number) (r .ensures),
+      ap (λ (w : PlanProgress). w .used) (r .ensures),
+      ap (λ (w : PlanProgress). w .number) (r .ensures),
       λ m h k. rw (r .ensures) h,
       d .ensures .2,
     )
@@ -120,8 +120,8 @@ returns-2 c =
           (d .ensures .0 g es s h k) (long v) (few v) (queueIn (e .last .0) (e .last .1 .0) (e .result)) (r .ensures)
           (omega (arith, c .before .before .before .before .if1 .left, c .before .before .before .before .before .points-of .ensures)) (e .ensures .0) (start v .pre .1),
       λ n h k. e .ensures .1 n (d .ensures .1 n h) k,
-      ap (λ (w : Progress). w .used) (r .ensures),
-      ap (λ (w : Progress). w .number) (r .ensures),
+      ap (λ (w : PlanProgress). w .used) (r .ensures),
+      ap (λ (w : PlanProgress). w .number) (r .ensures),
       λ m h k. rw (r .ensures) k,
       d .ensures .2,
     )

@@ -11,7 +11,7 @@ find-requires : tie.Need-find-requires
 find-requires c κs = search needs
 
 returns : tie.Need-returns
-returns c = c .find .ensures ∙ lookup-signed (now (c .before .before .before .args .heads)) (c .before .before .before .args .acting) (now (c .before .before .before .args .w)) (omega (arith, c .before .before .before .pre))
+returns c = c .find .ensures ∙ lookup-signed _ _ _ (omega (arith, c .before .before .before .pre))
 
 pub action-of-spec : {M : Type 1} → statement M
 action-of-spec = tie.close (tie.spec find-requires returns)

@@ -10,10 +10,10 @@ kept-in-requires : tie.Need-kept-in-requires
 kept-in-requires c κs = search needs
 
 returns : tie.Need-returns
-returns c = (omega (arith, c .before .kept-in .ensures .2, arity-signed (now (c .before .before .before .args .heads)) (c .before .before .before .args .acting) (c .before .before .before .args .i)), omega arith)
+returns c = let c3 = c .before .before .before in (omega (arith, c .before .kept-in .ensures .2, arity-signed (now (c3 .args .heads)) (c3 .args .acting) (c3 .args .i)), omega arith)
 
 returns-2 : tie.Need-returns-2
-returns-2 c = (omega (arith, c .before .kept-in .ensures .2, arity-signed (now (c .before .before .before .args .heads)) (c .before .before .before .args .acting) (c .before .before .before .args .i)), omega arith)
+returns-2 c = let c3 = c .before .before .before in (omega (arith, c .before .kept-in .ensures .2, arity-signed (now (c3 .args .heads)) (c3 .args .acting) (c3 .args .i)), omega arith)
 
 pub arity-spec : {M : Type 1} → statement M
 arity-spec = tie.close (tie.spec kept-in-requires returns returns-2)

@@ -20,13 +20,13 @@ byte-requires : tie.Need-byte-requires
 byte-requires c κs = search needs
 
 returns : tie.Need-returns
-returns c = rw (c .byte .ensures, byte-is (now (c .before .before .before .before .before .args .starts)) (3 * c .before .before .before .before .before .args .i)) (lasting-read (now (c .before .before .before .before .before .args .code)) _)
+returns c = rw (c .byte .ensures, byte-is _ (3 * c .before .before .before .before .before .args .i)) (lasting-read _ _)
 
 byte-requires-2 : tie.Need-byte-requires-2
 byte-requires-2 c κs = search needs
 
 returns-2 : tie.Need-returns-2
-returns-2 c = rw (c .byte2 .ensures, byte-past (now (c .before .before .before .before .args .starts)) (3 * c .before .before .before .before .args .i) (c .before .if1 .left)) (lasting-read (now (c .before .before .before .before .args .code)) 0)
+returns-2 c = rw (c .byte2 .ensures, byte-past _ (3 * c .before .before .before .before .args .i) (c .before .if1 .left)) (lasting-read _ 0)
 
 pub is-lasting-spec : {M : Type 1} → statement M
 is-lasting-spec =

@@ -14,10 +14,10 @@ kept-in-requires : tie.Need-kept-in-requires
 kept-in-requires c κs = search needs
 
 returns : tie.Need-returns
-returns c = c .kept-in .ensures .2 ∙ wanted-signed (now (c .before .before .before .args .heads)) (c .before .before .before .args .acting) (c .before .before .before .args .i) (c .before .before .before .args .j) (c .before .before .before .pre .1)
+returns c = c .kept-in .ensures .2 ∙ wanted-signed _ _ _ _ (c .before .before .before .pre .1)
 
 returns-2 : tie.Need-returns-2
-returns-2 c = absurd (let z : ⊥ = omega (arith, c .before .before .pre .1, arity-signed (now (c .before .before .args .heads)) (c .before .before .args .acting) (c .before .before .args .i)) in z)
+returns-2 c = let c2 = c .before .before in absurd (let z : ⊥ = omega (arith, c2 .pre .1, arity-signed (now (c2 .args .heads)) (c2 .args .acting) (c2 .args .i)) in z)
 
 pub wanted-spec : {M : Type 1} → statement M
 wanted-spec = tie.close (tie.spec add-kept-in kept-in-requires returns returns-2)

@@ -19,7 +19,7 @@ refusal-requires : tie.Need-refusal-requires
 refusal-requires c κs = search needs
 
 returns : tie.Need-returns
-returns c = named-else (now (c .before .before .before .before .before .args .text)) (signedIn (now (c .before .before .before .before .before .args .heads)) (c .before .before .before .before .before .args .acting)) (c .before .before .plan-token-at .result) (c .refusal .result) (c .before .match .keys2) (c .refusal .ensures) ∙ ap answerOf (named-at (now (c .before .before .before .before .before .args .text)) (signedIn (now (c .before .before .before .before .before .args .heads)) (c .before .before .before .before .before .args .acting)) (c .before .before .plan-token-at .result) (c .before .before .before .before .before .args .from) (c .before .before .plan-token-at .ensures))
+returns c = named-else _ (signedIn _ _) _ _ (c .before .match .keys2) (c .refusal .ensures) ∙ ap answerOf (named-at _ (signedIn _ _) _ _ (c .before .before .plan-token-at .ensures))
 
 word-of-requires : tie.Need-word-of-requires
 word-of-requires c κs = search needs
@@ -34,10 +34,10 @@ enum-told : tie.Need-enum-told
 enum-told c = search needs
 
 returns-2 : tie.Need-returns-2
-returns-2 c = named-missing (now (c .before .before .before .before .before .before .before .before .before .before .args .text)) (signedIn (now (c .before .before .before .before .before .before .before .before .before .before .args .heads)) (c .before .before .before .before .before .before .before .before .before .before .args .acting)) (c .before .before .before .before .before .before .before .plan-token-at .result) _ _ _ (c .before .before .before .before .before .t .given .1) (rw (c .before .before .before .word-of .ensures ∙ word-is _ _ _ _ _ refl) at (sym (c .before .before .action-of .ensures) ∙ c .enum-told .given .1)) ∙ ap answerOf (named-at (now (c .before .before .before .before .before .before .before .before .before .before .args .text)) (signedIn (now (c .before .before .before .before .before .before .before .before .before .before .args .heads)) (c .before .before .before .before .before .before .before .before .before .before .args .acting)) (c .before .before .before .before .before .before .before .plan-token-at .result) (c .before .before .before .before .before .before .before .before .before .before .args .from) (c .before .before .before .before .before .before .before .plan-token-at .ensures))
+returns-2 c = let c2 = c .before .before in named-missing _ (signedIn _ _) _ _ _ _ (c2 .before .before .before .t .given .1) (rw (c2 .before .word-of .ensures ∙ word-is _ _ _ _ _ refl) at (sym (c2 .action-of .ensures) ∙ c .enum-told .given .1)) ∙ ap answerOf (named-at _ (signedIn _ _) _ _ (c2 .before .before .before .before .before .plan-token-at .ensures))
 
 returns-3 : tie.Need-returns-3
-returns-3 c = named-found (now (c .before .before .before .before .before .before .before .before .before .before .before .args .text)) (signedIn (now (c .before .before .before .before .before .before .before .before .before .before .before .args .heads)) (c .before .before .before .before .before .before .before .before .before .before .before .args .acting)) (c .before .before .before .before .before .before .before .before .plan-token-at .result) _ _ _ _ (c .before .before .before .before .before .before .t .given .1) (rw (c .before .before .before .before .word-of .ensures ∙ word-is _ _ _ _ _ refl) at (sym (c .before .before .before .action-of .ensures) ∙ c .before .f .given .1)) ∙ ap answerOf (named-at (now (c .before .before .before .before .before .before .before .before .before .before .before .args .text)) (signedIn (now (c .before .before .before .before .before .before .before .before .before .before .before .args .heads)) (c .before .before .before .before .before .before .before .before .before .before .before .args .acting)) (c .before .before .before .before .before .before .before .before .plan-token-at .result) (c .before .before .before .before .before .before .before .before .before .before .before .args .from) (c .before .before .before .before .before .before .before .before .plan-token-at .ensures))
+returns-3 c = let c3 = c .before .before .before in named-found _ (signedIn _ _) _ _ _ _ _ (c3 .before .before .before .t .given .1) (rw (c3 .before .word-of .ensures ∙ word-is _ _ _ _ _ refl) at (sym (c3 .action-of .ensures) ∙ c .before .f .given .1)) ∙ ap answerOf (named-at _ (signedIn _ _) _ _ (c3 .before .before .before .before .before .plan-token-at .ensures))
 
 pub action-at-spec : {M : Type 1} → statement M
 action-at-spec =

@@ -7,10 +7,10 @@ use Rattle.plan_lines.proofs.reading.amount_of.Statement.{statement}
 use Rattle.plan_lines.proofs.reading.amount_of.Tie as tie
 
 cast-result : tie.Need-cast-result
-cast-result c = rw (toZ-ofZ w64 (c .args .z) (c .fits .z)) (plain-fits (c .args .z) (c .pre))
+cast-result c = rw (toZ-ofZ w64 _ (c .fits .z)) (plain-fits _ (c .pre))
 
 returns : tie.Need-returns
-returns c = rw (toZ-ofZ w64 (c .args .z) (c .fits .z)) (refl, c .pre .1)
+returns c = rw (toZ-ofZ w64 _ (c .fits .z)) (refl, c .pre .1)
 
 pub amount-of-spec : {M : Type 1} → statement M
 amount-of-spec = tie.close (tie.spec cast-result returns)

@@ -19,13 +19,13 @@ refusal-requires : tie.Need-refusal-requires
 refusal-requires c κs = search needs
 
 returns : tie.Need-returns
-returns c = duration-else (now (c .before .before .before .before .args .text)) (c .before .before .before .before .args .from) (c .before .before .plan-token-at .result) (c .refusal .result) (c .before .before .plan-token-at .ensures) (c .before .match .keys2) (c .refusal .ensures)
+returns c = duration-else _ _ _ _ (c .before .before .plan-token-at .ensures) (c .before .match .keys2) (c .refusal .ensures)
 
 amount-of-requires : tie.Need-amount-of-requires
-amount-of-requires c κs = rw (toZ-ofZ w64 (c .before .t .given .0 .0) (record { sfits = c .known-told .given .0 .1 })) (plain-at _ _ _ _ (sym (c .before .before .before .plan-token-at .ensures) ∙ c .before .t .given .1) (plan-small (now (c .before .before .before .before .before .args .text)) (c .before .before .before .before .before .args .from)))
+amount-of-requires c κs = rw (toZ-ofZ w64 (c .before .t .given .0 .0) (record { sfits = c .known-told .given .0 .1 })) (plain-at _ _ _ _ (sym (c .before .before .before .plan-token-at .ensures) ∙ c .before .t .given .1) (plan-small _ _))
 
 returns-2 : tie.Need-returns-2
-returns-2 c = duration-zero (now (c .before .before .before .before .before .before .before .args .text)) (c .before .before .before .before .before .before .before .args .from) _ _ _ _ (sym (c .before .before .before .before .before .plan-token-at .ensures) ∙ c .before .before .before .t .given .1) (rw (toZ-ofZ w64 (c .before .before .before .t .given .0 .0) (record { sfits = c .before .before .known-told .given .0 .1 })) at (c .before .amount-of .ensures .0)) (c .if1 .taken)
+returns-2 c = let c2 = c .before .before in duration-zero _ _ _ _ _ _ (sym (c2 .before .before .before .plan-token-at .ensures) ∙ c2 .before .t .given .1) (rw (toZ-ofZ w64 (c2 .before .t .given .0 .0) (record { sfits = c2 .known-told .given .0 .1 })) at (c .before .amount-of .ensures .0)) (c .if1 .taken)
 
 mark-due-requires : tie.Need-mark-due-requires
 mark-due-requires c κs = search needs
@@ -37,7 +37,7 @@ enum-told : tie.Need-enum-told
 enum-told c = search needs
 
 returns-3 : tie.Need-returns-3
-returns-3 c = duration-open (now (c .before .before .before .before .before .before .before .before .before .before .args .text)) (c .before .before .before .before .before .before .before .before .before .before .args .from) _ _ _ _ (sym (c .before .before .before .before .before .before .before .before .plan-token-at .ensures) ∙ c .before .before .before .before .before .before .t .given .1) (rw (toZ-ofZ w64 (c .before .before .before .before .before .before .t .given .0 .0) (record { sfits = c .before .before .before .before .before .known-told .given .0 .1 })) at (c .before .before .before .before .amount-of .ensures .0)) (c .before .before .before .if1 .left) (c .before .before .mark-due .result) _ _ (c .before .before .mark-due .ensures) (c .enum-told .given .1)
+returns-3 c = let c2 = c .before .before in let c4 = c2 .before .before in duration-open _ _ _ _ _ _ (sym (c4 .before .before .before .before .plan-token-at .ensures) ∙ c4 .before .before .t .given .1) (rw (toZ-ofZ w64 (c4 .before .before .t .given .0 .0) (record { sfits = c4 .before .known-told .given .0 .1 })) at (c4 .amount-of .ensures .0)) (c2 .before .if1 .left) _ _ _ (c2 .mark-due .ensures) (c .enum-told .given .1)
 
 end-due-requires : tie.Need-end-due-requires
 end-due-requires c κs = search needs
@@ -49,10 +49,10 @@ enum-told-2 : tie.Need-enum-told-2
 enum-told-2 c = search needs
 
 returns-4 : tie.Need-returns-4
-returns-4 c = duration-on (now (c .before .before .before .before .before .before .before .before .before .before .before .before .before .before .args .text)) (c .before .before .before .before .before .before .before .before .before .before .before .before .before .before .args .from) _ _ _ _ (sym (c .before .before .before .before .before .before .before .before .before .before .before .before .plan-token-at .ensures) ∙ c .before .before .before .before .before .before .before .before .before .before .t .given .1) (rw (toZ-ofZ w64 (c .before .before .before .before .before .before .before .before .before .before .t .given .0 .0) (record { sfits = c .before .before .before .before .before .before .before .before .before .known-told .given .0 .1 })) at (c .before .before .before .before .before .before .before .before .amount-of .ensures .0)) (c .before .before .before .before .before .before .before .if1 .left) _ _ (sym (c .before .before .before .before .before .before .mark-due .ensures) ∙ c .before .before .before .before .m .given .1) (c .before .before .end-due .result) _ _ (c .before .before .end-due .ensures) (c .enum-told2 .given .1)
+returns-4 c = let c2 = c .before .before in let c4 = c2 .before .before in let c6 = c4 .before .before in let c8 = c6 .before .before in duration-on _ _ _ _ _ _ (sym (c8 .before .before .before .before .plan-token-at .ensures) ∙ c8 .before .before .t .given .1) (rw (toZ-ofZ w64 (c8 .before .before .t .given .0 .0) (record { sfits = c8 .before .known-told .given .0 .1 })) at (c8 .amount-of .ensures .0)) (c6 .before .if1 .left) _ _ (sym (c6 .mark-due .ensures) ∙ c4 .m .given .1) _ _ _ (c2 .end-due .ensures) (c .enum-told2 .given .1)
 
 returns-5 : tie.Need-returns-5
-returns-5 c = duration-read (now (c .before .before .before .before .before .before .before .before .before .before .before .before .before .before .before .args .text)) (c .before .before .before .before .before .before .before .before .before .before .before .before .before .before .before .args .from) _ _ _ _ (sym (c .before .before .before .before .before .before .before .before .before .before .before .before .before .plan-token-at .ensures) ∙ c .before .before .before .before .before .before .before .before .before .before .before .t .given .1) (rw (toZ-ofZ w64 (c .before .before .before .before .before .before .before .before .before .before .before .t .given .0 .0) (record { sfits = c .before .before .before .before .before .before .before .before .before .before .known-told .given .0 .1 })) at (c .before .before .before .before .before .before .before .before .before .amount-of .ensures .0)) (c .before .before .before .before .before .before .before .before .if1 .left) _ _ (sym (c .before .before .before .before .before .before .before .mark-due .ensures) ∙ c .before .before .before .before .before .m .given .1) _ _ (sym (c .before .before .before .end-due .ensures) ∙ c .before .e .given .1) (c .before .before .before .before .before .before .before .before .before .amount-of .ensures .1)
+returns-5 c = let c1 = c .before in let c3 = c1 .before .before in let c5 = c3 .before .before in let c7 = c5 .before .before in let c9 = c7 .before .before in duration-read _ _ _ _ _ _ (sym (c9 .before .before .before .before .plan-token-at .ensures) ∙ c9 .before .before .t .given .1) (rw (toZ-ofZ w64 (c9 .before .before .t .given .0 .0) (record { sfits = c9 .before .known-told .given .0 .1 })) at (c9 .amount-of .ensures .0)) (c7 .before .if1 .left) _ _ (sym (c7 .mark-due .ensures) ∙ c5 .m .given .1) _ _ (sym (c3 .end-due .ensures) ∙ c1 .e .given .1) (c9 .amount-of .ensures .1)
 
 pub duration-at-spec : {M : Type 1} → statement M
 duration-at-spec =

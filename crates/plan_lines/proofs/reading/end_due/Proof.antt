@@ -16,10 +16,10 @@ refusal-requires : tie.Need-refusal-requires
 refusal-requires c κs = search needs
 
 returns : tie.Need-returns
-returns c = end-else (now (c .before .before .before .before .args .text)) (c .before .before .before .before .args .from) (c .before .before .plan-token-at .result) (c .refusal .result) (c .before .before .plan-token-at .ensures) (c .before .match .keys2) (c .refusal .ensures)
+returns c = end-else _ _ _ _ (c .before .before .plan-token-at .ensures) (c .before .match .keys2) (c .refusal .ensures)
 
 returns-2 : tie.Need-returns-2
-returns-2 c = end-read (now (c .before .before .before .before .before .args .text)) (c .before .before .before .before .before .args .from) _ (sym (c .before .before .before .plan-token-at .ensures) ∙ c .before .t .given .1)
+returns-2 c = end-read _ _ _ (sym (c .before .before .before .plan-token-at .ensures) ∙ c .before .t .given .1)
 
 pub end-due-spec : {M : Type 1} → statement M
 end-due-spec =

@@ -16,13 +16,13 @@ refusal-requires : tie.Need-refusal-requires
 refusal-requires c κs = search needs
 
 returns : tie.Need-returns
-returns c = mark-else (now (c .before .before .before .before .args .text)) (c .before .before .before .before .args .from) (c .before .before .before .before .args .b) (c .before .before .plan-token-at .result) (c .refusal .result) (c .before .before .plan-token-at .ensures) (c .before .match .keys2) (c .refusal .ensures)
+returns c = mark-else _ _ _ _ _ (c .before .before .plan-token-at .ensures) (c .before .match .keys2) (c .refusal .ensures)
 
 returns-2 : tie.Need-returns-2
-returns-2 c = mark-read (now (c .before .before .before .before .before .before .args .text)) (c .before .before .before .before .before .before .args .from) (c .before .before .before .before .before .before .args .b) _ _ _ (sym (c .before .before .before .before .plan-token-at .ensures) ∙ c .before .before .t .given .1) (c .if1 .taken)
+returns-2 c = mark-read _ _ _ _ _ _ (sym (c .before .before .before .before .plan-token-at .ensures) ∙ c .before .before .t .given .1) (c .if1 .taken)
 
 returns-3 : tie.Need-returns-3
-returns-3 c = mark-other (now (c .before .before .before .before .before .before .args .text)) (c .before .before .before .before .before .before .args .from) (c .before .before .before .before .before .before .args .b) _ _ _ (sym (c .before .before .before .before .plan-token-at .ensures) ∙ c .before .before .t .given .1) (c .if1 .left)
+returns-3 c = mark-other _ _ _ _ _ _ (sym (c .before .before .before .before .plan-token-at .ensures) ∙ c .before .before .t .given .1) (c .if1 .left)
 
 pub mark-due-spec : {M : Type 1} → statement M
 mark-due-spec =

@@ -15,7 +15,7 @@ refusal-requires : tie.Need-refusal-requires
 refusal-requires c κs = search needs
 
 returns : tie.Need-returns
-returns c = named-else (now (c .before .before .before .before .args .text)) (objectsIn (now (c .before .before .before .before .args .tables)) (c .before .before .before .before .args .counts)) (c .before .before .before .before .args .t) (c .refusal .result) (c .before .match .keys2) (c .refusal .ensures)
+returns c = let c4 = c .before .before .before .before in named-else (now (c4 .args .text)) (objectsIn (now (c4 .args .tables)) (c4 .args .counts)) (c4 .args .t) (c .refusal .result) (c .before .match .keys2) (c .refusal .ensures)
 
 word-of-requires : tie.Need-word-of-requires
 word-of-requires c κs = search needs
@@ -30,10 +30,10 @@ enum-told : tie.Need-enum-told
 enum-told c = search needs
 
 returns-2 : tie.Need-returns-2
-returns-2 c = named-missing (now (c .before .before .before .before .before .before .before .before .before .args .text)) (objectsIn (now (c .before .before .before .before .before .before .before .before .before .args .tables)) (c .before .before .before .before .before .before .before .before .before .args .counts)) (c .before .before .before .before .before .before .before .before .before .args .t) _ _ _ (c .before .before .before .before .before .t .given .1) (rw (c .before .before .before .word-of .ensures ∙ word-is _ _ _ _ _ refl) at (sym (c .before .before .object-of .ensures) ∙ c .enum-told .given .1))
+returns-2 c = let c2 = c .before .before in let c5 = c2 .before .before .before in let c9 = c5 .before .before .before .before in named-missing (now (c9 .args .text)) (objectsIn (now (c9 .args .tables)) (c9 .args .counts)) (c9 .args .t) _ _ _ (c5 .t .given .1) (rw (c2 .before .word-of .ensures ∙ word-is _ _ _ _ _ refl) at (sym (c2 .object-of .ensures) ∙ c .enum-told .given .1))
 
 returns-3 : tie.Need-returns-3
-returns-3 c = named-found (now (c .before .before .before .before .before .before .before .before .before .before .args .text)) (objectsIn (now (c .before .before .before .before .before .before .before .before .before .before .args .tables)) (c .before .before .before .before .before .before .before .before .before .before .args .counts)) (c .before .before .before .before .before .before .before .before .before .before .args .t) _ _ _ _ (c .before .before .before .before .before .before .t .given .1) (rw (c .before .before .before .before .word-of .ensures ∙ word-is _ _ _ _ _ refl) at (sym (c .before .before .before .object-of .ensures) ∙ c .before .f .given .1))
+returns-3 c = let c1 = c .before in let c3 = c1 .before .before in let c6 = c3 .before .before .before in let c10 = c6 .before .before .before .before in named-found (now (c10 .args .text)) (objectsIn (now (c10 .args .tables)) (c10 .args .counts)) (c10 .args .t) _ _ _ _ (c6 .t .given .1) (rw (c3 .before .word-of .ensures ∙ word-is _ _ _ _ _ refl) at (sym (c3 .object-of .ensures) ∙ c1 .f .given .1))
 
 pub object-at-spec : {M : Type 1} → statement M
 object-at-spec =

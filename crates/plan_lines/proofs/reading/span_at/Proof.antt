@@ -15,10 +15,10 @@ enum-known-t : tie.Need-enum-known-t
 enum-known-t c = search needs
 
 returns : tie.Need-returns
-returns c = lasting-missing (now (c .before .before .before .before .before .before .args .text)) (c .before .before .before .before .before .before .args .from) (c .before .before .before .before .before .before .args .lasting) _ (sym (c .before .before .before .before .plan-token-at .ensures) ∙ c .before .before .t .given .1) (c .if1 .taken)
+returns c = lasting-missing _ _ _ _ (sym (c .before .before .before .before .plan-token-at .ensures) ∙ c .before .before .t .given .1) (c .if1 .taken)
 
 returns-2 : tie.Need-returns-2
-returns-2 c = (lasting-none (now (c .before .before .before .before .before .before .args .text)) (c .before .before .before .before .before .before .args .from) (c .before .before .before .before .before .before .args .lasting) _ (sym (c .before .before .before .before .plan-token-at .ensures) ∙ c .before .before .t .given .1) (c .if1 .left), omega arith)
+returns-2 c = (lasting-none _ _ _ _ (sym (c .before .before .before .before .plan-token-at .ensures) ∙ c .before .before .t .given .1) (c .if1 .left), omega arith)
 
 enum-known-t-2 : tie.Need-enum-known-t-2
 enum-known-t-2 c = search needs
@@ -27,19 +27,19 @@ refusal-requires : tie.Need-refusal-requires
 refusal-requires c κs = search needs
 
 returns-3 : tie.Need-returns-3
-returns-3 c = lasting-else (now (c .before .before .before .before .before .args .text)) (c .before .before .before .before .before .args .from) (c .before .before .before .before .before .args .lasting) (c .before .before .before .plan-token-at .result) (c .refusal .result) (c .before .before .before .plan-token-at .ensures) (c .before .before .match .keys2) (c .before .match2 .keys2) (c .refusal .ensures)
+returns-3 c = lasting-else _ _ _ _ _ (c .before .before .before .plan-token-at .ensures) (c .before .before .match .keys2) (c .before .match2 .keys2) (c .refusal .ensures)
 
 returns-4 : tie.Need-returns-4
-returns-4 c = (lasting-other (now (c .before .before .before .before .before .before .before .args .text)) (c .before .before .before .before .before .before .before .args .from) _ _ _ (sym (c .before .before .before .before .before .plan-token-at .ensures) ∙ c .before .before .t2 .given .1) (c .before .before .before .before .before .before .before .args .lasting) (c .if2 .taken), tt)
+returns-4 c = (lasting-other _ _ _ _ _ (sym (c .before .before .before .before .before .plan-token-at .ensures) ∙ c .before .before .t2 .given .1) _ (c .if2 .taken), tt)
 
 duration-at-requires : tie.Need-duration-at-requires
 duration-at-requires c κs = search needs
 
 returns-5 : tie.Need-returns-5
-returns-5 c = (c .duration-at .ensures .0 ∙ ap spanAnswer (lasting-read (now (c .before .before .before .before .before .before .before .before .before .args .text)) (c .before .before .before .before .before .before .before .before .before .args .from) _ _ _ (sym (c .before .before .before .before .before .before .before .plan-token-at .ensures) ∙ c .before .before .before .before .t2 .given .1) (c .before .before .before .before .before .before .before .before .before .args .lasting) (c .before .before .if2 .left) (c .before .if3 .taken)), c .duration-at .ensures .1)
+returns-5 c = (c .duration-at .ensures .0 ∙ ap spanAnswer (lasting-read _ _ _ _ _ (sym (c .before .before .before .before .before .before .before .plan-token-at .ensures) ∙ c .before .before .before .before .t2 .given .1) _ (c .before .before .if2 .left) (c .before .if3 .taken)), c .duration-at .ensures .1)
 
 returns-6 : tie.Need-returns-6
-returns-6 c = (lasting-needless (now (c .before .before .before .before .before .before .before .before .args .text)) (c .before .before .before .before .before .before .before .before .args .from) _ _ _ (sym (c .before .before .before .before .before .before .plan-token-at .ensures) ∙ c .before .before .before .t2 .given .1) (c .before .before .before .before .before .before .before .before .args .lasting) (c .before .if2 .left) (c .if3 .left), tt)
+returns-6 c = (lasting-needless _ _ _ _ _ (sym (c .before .before .before .before .before .before .plan-token-at .ensures) ∙ c .before .before .before .t2 .given .1) _ (c .before .if2 .left) (c .if3 .left), tt)
 
 pub span-at-spec : {M : Type 1} → statement M
 span-at-spec =

@@ -15,16 +15,16 @@ refusal-requires : tie.Need-refusal-requires
 refusal-requires c κs = search needs
 
 returns : tie.Need-returns
-returns c = start-else (c .before .before .args .before) (c .before .before .args .t) (c .refusal .result) (c .before .match .keys2) (c .refusal .ensures)
+returns c = start-else _ _ _ (c .before .match .keys2) (c .refusal .ensures)
 
 amount-of-requires : tie.Need-amount-of-requires
-amount-of-requires c κs = rw (toZ-ofZ w64 (c .before .t .given .0 .0) (record { sfits = c .known-told .given .0 .1 })) (plain-at (c .before .before .before .args .t) _ _ _ (c .before .t .given .1) (c .before .before .before .pre))
+amount-of-requires c κs = rw (toZ-ofZ w64 (c .before .t .given .0 .0) (record { sfits = c .known-told .given .0 .1 })) (plain-at _ _ _ _ (c .before .t .given .1) (c .before .before .before .pre))
 
 returns-2 : tie.Need-returns-2
-returns-2 c = start-below (c .before .before .before .before .before .args .before) (c .before .before .before .before .before .args .t) _ _ _ _ (c .before .before .before .t .given .1) (rw (toZ-ofZ w64 (c .before .before .before .t .given .0 .0) (record { sfits = c .before .before .known-told .given .0 .1 })) at (c .before .amount-of .ensures .0)) (c .if1 .taken)
+returns-2 c = start-below _ _ _ _ _ _ (c .before .before .before .t .given .1) (rw (toZ-ofZ w64 (c .before .before .before .t .given .0 .0) (record { sfits = c .before .before .known-told .given .0 .1 })) at (c .before .amount-of .ensures .0)) (c .if1 .taken)
 
 returns-3 : tie.Need-returns-3
-returns-3 c = start-read (c .before .before .before .before .before .args .before) (c .before .before .before .before .before .args .t) _ _ _ _ (c .before .before .before .t .given .1) (rw (toZ-ofZ w64 (c .before .before .before .t .given .0 .0) (record { sfits = c .before .before .known-told .given .0 .1 })) at (c .before .amount-of .ensures .0)) (omega (arith, c .if1 .left)) (c .before .amount-of .ensures .1)
+returns-3 c = start-read _ _ _ _ _ _ (c .before .before .before .t .given .1) (rw (toZ-ofZ w64 (c .before .before .before .t .given .0 .0) (record { sfits = c .before .before .known-told .given .0 .1 })) at (c .before .amount-of .ensures .0)) (omega (arith, c .if1 .left)) (c .before .amount-of .ensures .1)
 
 pub start-at-spec : {M : Type 1} → statement M
 start-at-spec =

@@ -15,10 +15,10 @@ enum-told : tie.Need-enum-told
 enum-told c = search needs
 
 returns : tie.Need-returns
-returns c = line-blank (now (c .before .before .before .before .before .before .before .before .args .text)) (knownIn (now (c .before .before .before .before .before .before .before .before .args .tables)) (c .before .before .before .before .before .before .before .before .args .counts) (now (c .before .before .before .before .before .before .before .before .args .heads)) (c .before .before .before .before .before .before .before .before .args .acting) (now (c .before .before .before .before .before .before .before .before .args .code)) (now (c .before .before .before .before .before .before .before .before .args .starts))) (c .before .before .before .before .before .before .before .before .args .number) (c .before .before .before .before .before .before .before .before .args .before) 0 (c .before .before .before .before .before .before .before .before .args .acting) _ (sym (c .before .before .plan-token-at .ensures) ∙ c .enum-told .given .1)
+returns c = line-blank _ (knownIn _ _ _ _ _ _) _ _ 0 (c .before .before .before .before .before .before .before .before .args .acting) _ (sym (c .before .before .plan-token-at .ensures) ∙ c .enum-told .given .1)
 
 start-at-requires : tie.Need-start-at-requires
-start-at-requires c κs = rw (c .before .plan-token-at .ensures) (plan-small (now (c .before .before .before .before .before .before .before .args .text)) 0)
+start-at-requires c κs = rw (c .before .plan-token-at .ensures) (plan-small _ 0)
 
 enum-known-s : tie.Need-enum-known-s
 enum-known-s c = search needs
@@ -30,13 +30,13 @@ refused-requires : tie.Need-refused-requires
 refused-requires c κs = search needs
 
 returns-2 : tie.Need-returns-2
-returns-2 c = lined-refused (c .before .before .before .before .before .before .before .before .before .before .before .args .acting) (c .refused .result) _ _ _ (c .before .enum-told2 .given .1) (c .refused .ensures) _ (start-refused (now (c .before .before .before .before .before .before .before .before .before .before .before .args .text)) (knownIn (now (c .before .before .before .before .before .before .before .before .before .before .before .args .tables)) (c .before .before .before .before .before .before .before .before .before .before .before .args .counts) (now (c .before .before .before .before .before .before .before .before .before .before .before .args .heads)) (c .before .before .before .before .before .before .before .before .before .before .before .args .acting) (now (c .before .before .before .before .before .before .before .before .before .before .before .args .code)) (now (c .before .before .before .before .before .before .before .before .before .before .before .args .starts))) (c .before .before .before .before .before .before .before .before .before .before .before .args .number) (c .before .before .before .before .before .before .before .before .before .before .before .args .before) 0 (c .before .before .before .before .before .before .before .before .before .before .before .args .acting) (c .before .before .before .before .before .plan-token-at .result) (c .before .before .before .before .before .plan-token-at .ensures) (c .before .before .before .before .match .keys2) _ _ (sym (c .before .before .before .start-at .ensures .0) ∙ c .before .enum-told2 .given .1))
+returns-2 c = let c3 = c .before .before .before in lined-refused _ _ _ _ _ (c .before .enum-told2 .given .1) (c .refused .ensures) _ (start-refused _ (knownIn _ _ _ _ _ _) _ _ 0 (c3 .before .before .before .before .before .before .before .before .args .acting) _ (c3 .before .before .plan-token-at .ensures) (c3 .before .match .keys2) _ _ (sym (c3 .start-at .ensures .0) ∙ c .before .enum-told2 .given .1))
 
 act-at-requires : tie.Need-act-at-requires
-act-at-requires c κs = (c .before .before .before .before .before .before .before .before .before .before .before .pre .0, c .before .before .before .before .before .before .before .before .before .before .before .pre .1, amount-done (c .before .before .before .start-at .result) _ _ (c .before .s .given .1) (c .before .before .before .start-at .ensures .1))
+act-at-requires c κs = let c3 = c .before .before .before in let c11 = c3 .before .before .before .before .before .before .before .before in (c11 .pre .0, c11 .pre .1, amount-done _ _ _ (c .before .s .given .1) (c3 .start-at .ensures .1))
 
 returns-3 : tie.Need-returns-3
-returns-3 c = line-stepped (now (c .before .before .before .before .before .before .before .before .before .before .before .before .args .text)) (knownIn (now (c .before .before .before .before .before .before .before .before .before .before .before .before .args .tables)) (c .before .before .before .before .before .before .before .before .before .before .before .before .args .counts) (now (c .before .before .before .before .before .before .before .before .before .before .before .before .args .heads)) (c .before .before .before .before .before .before .before .before .before .before .before .before .args .acting) (now (c .before .before .before .before .before .before .before .before .before .before .before .before .args .code)) (now (c .before .before .before .before .before .before .before .before .before .before .before .before .args .starts))) (c .before .before .before .before .before .before .before .before .before .before .before .before .args .number) (c .before .before .before .before .before .before .before .before .before .before .before .before .args .before) 0 (c .before .before .before .before .before .before .before .before .before .before .before .before .args .acting) (c .before .before .before .before .before .before .plan-token-at .result) (c .before .before .before .before .before .before .plan-token-at .ensures) (c .before .before .before .before .before .match .keys2) _ _ _ (sym (c .before .before .before .before .start-at .ensures .0) ∙ c .before .before .s .given .1) (c .act-at .ensures)
+returns-3 c = let c2 = c .before .before in let c4 = c2 .before .before in line-stepped _ (knownIn _ _ _ _ _ _) _ _ 0 (c4 .before .before .before .before .before .before .before .before .args .acting) _ (c4 .before .before .plan-token-at .ensures) (c4 .before .match .keys2) _ _ _ (sym (c4 .start-at .ensures .0) ∙ c2 .s .given .1) (c .act-at .ensures)
 
 pub line-at-spec : {M : Type 1} → statement M
 line-at-spec =

@@ -20,7 +20,7 @@ abbrev μ-loop : tie.MeasureT-loop
 μ-loop words objects n t rows₀ whos₀ i₀ j₀ rows whos i j = n - i
 
 loop-holds : tie.Need-loop-holds Inv-loop μ-loop
-loop-holds c = (omega arith, lay-none (isOpen (c .args .t)) endWhen (slots (now (c .args .words)) (now (c .args .objects))) (now (c .args .rows)) (now (c .args .whos)))
+loop-holds c = (omega arith, lay-none (isOpen _) endWhen (slots _ _) _ _)
 
 slot-at-requires : tie.Need-slot-at-requires Inv-loop μ-loop
 slot-at-requires c κs =

@@ -22,7 +22,7 @@ abbrev μ-loop : tie.MeasureT-loop
 μ-loop words objects n t rows₀ whos₀ i₀ j₀ rows whos i j = n - i
 
 loop-holds : tie.Need-loop-holds Inv-loop μ-loop
-loop-holds c = (omega arith, lay-none (isAt (c .args .t)) pointWhen (slots (now (c .args .words)) (now (c .args .objects))) (now (c .args .rows)) (now (c .args .whos)))
+loop-holds c = (omega arith, lay-none (isAt _) pointWhen (slots _ _) _ _)
 
 time-at-requires : tie.Need-time-at-requires Inv-loop μ-loop
 time-at-requires c κs =

@@ -36,10 +36,10 @@ time-at-requires c κs =
     (omega arith, sifted-timed q (at .words) (at .objects) (at .inv .1) (slots-long (now (a .words)) (now (a .objects))) (c .before .before .before .pre) (c .before .loop-test .taken))
 
 copy-to-requires : tie.Need-copy-to-requires Inv-loop μ-loop
-copy-to-requires c κs = let few = c .before .before .before .before .before .before .before .pre .1 .0 in (omega arith, omega (arith, c .before .before .before .before .before .before .loop .inv .1 .behind))
+copy-to-requires c κs = let c6 = c .before .before .before .before .before .before in let few = c6 .before .pre .1 .0 in (omega arith, omega (arith, c6 .loop .inv .1 .behind))
 
 add-j : tie.Need-add-j Inv-loop μ-loop
-add-j c = let few = c .before .before .before .before .before .before .before .before .pre .1 .0 in omega (arith, c .before .before .before .before .before .before .before .loop .inv .1 .behind)
+add-j c = let c7 = c .before .before .before .before .before .before .before in let few = c7 .before .pre .1 .0 in omega (arith, c7 .loop .inv .1 .behind)
 
 add-i : tie.Need-add-i Inv-loop μ-loop
 add-i c = let few = c .before .before .before .before .before .pre .1 .0 in omega arith

@@ -24,7 +24,7 @@ loop-holds c = (omega arith, λ o. refl)
 
 time-at-requires : tie.Need-time-at-requires Inv-loop μ-loop
 time-at-requires c κs = let few = c .before .before .pre .1 .1 .0 in
-    (omega arith, timed-place (now (c .before .before .args .words)) (c .before .before .args .n) (c .before .loop .i) (c .before .before .pre) (c .loop-test .taken))
+    (omega arith, timed-place _ _ _ (c .before .before .pre) (c .loop-test .taken))
 
 add-i : tie.Need-add-i Inv-loop μ-loop
 add-i c = let few = c .before .before .before .before .pre .1 .1 .0 in omega arith

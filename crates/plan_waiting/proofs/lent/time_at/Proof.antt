@@ -40,13 +40,13 @@ element-copy-out-result-2 c = search needs
 add-result-3 : tie.Need-add-result-3
 add-result-3 c = let w = now (c .before .before .before .before .args .words) in
     let t = c .before .before .before .before .pre .1 in
-    omega (arith, word-start w (c .before .before .before .before .args .i) t, word-duration w (c .before .before .before .before .args .i) t)
+    omega (arith, word-start w _ t, word-duration w _ t)
 
 returns : tie.Need-returns
-returns c = let w = now (c .before .before .before .before .args .words) in
-    let i = c .before .before .before .before .args .i in
-    let t = c .before .before .before .before .pre .1 in
-    (λ o. sym (end-there w i o (c .before .before .if1 .taken)), omega (arith, word-start w i t, word-duration w i t))
+returns c = let c2 = c .before .before in let w = now (c2 .before .before .args .words) in
+    let i = c2 .before .before .args .i in
+    let t = c2 .before .before .pre .1 in
+    (λ o. sym (end-there w i o (c2 .if1 .taken)), omega (arith, word-start w i t, word-duration w i t))
 
 add-result-4 : tie.Need-add-result-4
 add-result-4 c = search needs
@@ -58,9 +58,9 @@ element-copy-out-result-3 : tie.Need-element-copy-out-result-3
 element-copy-out-result-3 c = search needs
 
 returns-2 : tie.Need-returns-2
-returns-2 c = let w = now (c .before .before .before .args .words) in
-    let i = c .before .before .before .args .i in
-    (λ o. sym (start-there w i o (c .before .if1 .left)), omega (arith, word-start w i (c .before .before .before .pre .1)))
+returns-2 c = let c3 = c .before .before .before in let w = now (c3 .args .words) in
+    let i = c3 .args .i in
+    (λ o. sym (start-there w i o (c .before .if1 .left)), omega (arith, word-start w i (c3 .pre .1)))
 
 pub time-at-spec : {M : Type 1} → statement M
 time-at-spec =

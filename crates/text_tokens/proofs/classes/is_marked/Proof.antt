@@ -10,13 +10,13 @@ begins-with-requires : tie.Need-begins-with-requires
 begins-with-requires c κs = search needs
 
 returns : tie.Need-returns
-returns c = rw (sym (c .before .begins-with .ensures) ∙ not-true (c .before .begins-with .result) (c .if1 .taken))
+returns c = rw (sym (c .before .begins-with .ensures) ∙ not-true _ (c .if1 .taken))
 
 is-name-requires : tie.Need-is-name-requires
 is-name-requires c κs = search needs
 
 returns-2 : tie.Need-returns-2
-returns-2 c = c .is-name .ensures ∙ rw (sym (c .before .before .begins-with .ensures) ∙ not-false (c .before .before .begins-with .result) (c .before .if1 .left))
+returns-2 c = c .is-name .ensures ∙ rw (sym (c .before .before .begins-with .ensures) ∙ not-false _ (c .before .if1 .left))
 
 pub is-marked-spec : {M : Type 1} → statement M
 is-marked-spec = tie.close (tie.spec begins-with-requires returns is-name-requires returns-2)

@@ -26,7 +26,7 @@ is-digit-requires : tie.Need-is-digit-requires Inv-loop μ-loop
 is-digit-requires c κs = tt
 
 returns : tie.Need-returns Inv-loop μ-loop
-returns c = sym (c .before .before .before .before .loop .inv ∙ digits-end (now (c .before .before .before .before .before .before .args .w)) (c .before .before .before .before .loop .at) (c .before .before .before .loop-test .taken) (sym (c .before .is-digit .ensures) ∙ not-true (c .before .is-digit .result) (c .if1 .taken)))
+returns c = sym (c .before .before .before .before .loop .inv ∙ digits-end _ _ (c .before .before .before .loop-test .taken) (sym (c .before .is-digit .ensures) ∙ not-true _ (c .if1 .taken)))
 
 add-at : tie.Need-add-at Inv-loop μ-loop
 add-at c = omega arith
@@ -35,10 +35,10 @@ loop-less : tie.Need-loop-less Inv-loop μ-loop
 loop-less c = omega arith
 
 loop-again : tie.Need-loop-again Inv-loop μ-loop
-loop-again c = c .before .before .before .before .loop .inv ∙ digits-more (now (c .before .before .before .before .before .before .args .w)) (c .before .before .before .before .loop .at) (c .before .before .before .loop-test .taken) (sym (c .before .is-digit .ensures) ∙ not-false (c .before .is-digit .result) (c .if1 .left))
+loop-again c = c .before .before .before .before .loop .inv ∙ digits-more _ _ (c .before .before .before .loop-test .taken) (sym (c .before .is-digit .ensures) ∙ not-false _ (c .if1 .left))
 
 returns-2 : tie.Need-returns-2 Inv-loop μ-loop
-returns-2 c = sym (c .before .loop .inv ∙ digits-over (now (c .before .before .before .args .w)) (c .before .loop .at) (c .loop-test .left))
+returns-2 c = sym (c .before .loop .inv ∙ digits-over _ _ (c .loop-test .left))
 
 pub digits-end-spec : {M : Type 1} → statement M
 digits-end-spec =

@@ -26,7 +26,7 @@ number-from-requires-2 : tie.Need-number-from-requires-2
 number-from-requires-2 c κs = search needs
 
 signed-of-requires-2 : tie.Need-signed-of-requires-2
-signed-of-requires-2 c κs = rw (c .number-from2 .ensures) (number-small (now (c .before .before .before .before .args .w)))
+signed-of-requires-2 c κs = rw (c .number-from2 .ensures) (number-small _)
 
 returns-2 : tie.Need-returns-2
 unfolding numberOf

@@ -29,7 +29,7 @@ digit-requires : tie.Need-digit-requires Inv-loop μ-loop
 digit-requires c κs = tt
 
 add-v : tie.Need-add-v Inv-loop μ-loop
-add-v c = omega (arith, c .before .before .before .loop .inv .2, c .digit .ensures .1, ten-to (c .before .before .before .loop .at - c .before .before .before .before .before .args .from) 8 (omega arith))
+add-v c = let c3 = c .before .before .before in omega (arith, c3 .loop .inv .2, c .digit .ensures .1, ten-to (c3 .loop .at - c3 .before .before .args .from) 8 (omega arith))
 
 add-at : tie.Need-add-at Inv-loop μ-loop
 add-at c = omega arith
@@ -38,10 +38,10 @@ loop-less : tie.Need-loop-less Inv-loop μ-loop
 loop-less c = omega arith
 
 loop-again : tie.Need-loop-again Inv-loop μ-loop
-loop-again c = let e : c .before .before .before .loop .at + 1 - c .before .before .before .before .before .args .from ≡ c .before .before .before .loop .at - c .before .before .before .before .before .args .from + 1 = omega arith in (omega arith, omega arith, rw e (grows (c .before .before .before .loop .v) (c .digit .result) (c .before .before .before .loop .at - c .before .before .before .before .before .args .from) (c .before .before .before .loop .inv .2) (c .digit .ensures .1)), c .before .before .before .loop .inv .3 ∙ decimal-next (now (c .before .before .before .before .before .args .w)) (c .before .before .before .loop .v) (c .before .before .before .loop .at) (c .before .before .before .before .before .args .to) (omega arith) (omega arith) ∙ rw (c .digit .ensures .0))
+loop-again c = let c3 = c .before .before .before in let c5 = c3 .before .before in let e : c3 .loop .at + 1 - c5 .args .from ≡ c3 .loop .at - c5 .args .from + 1 = omega arith in (omega arith, omega arith, rw e (grows (c3 .loop .v) (c .digit .result) (c3 .loop .at - c5 .args .from) (c3 .loop .inv .2) (c .digit .ensures .1)), c3 .loop .inv .3 ∙ decimal-next (now (c5 .args .w)) (c3 .loop .v) (c3 .loop .at) (c5 .args .to) (omega arith) (omega arith) ∙ rw (c .digit .ensures .0))
 
 returns : tie.Need-returns Inv-loop μ-loop
-returns c = (sym (c .before .loop .inv .3 ∙ decimal-end (now (c .before .before .before .args .w)) (c .before .loop .v) (c .before .loop .at) (c .before .before .before .args .to) (c .loop-test .left)), omega (arith, c .before .loop .inv .2, ten-to (c .before .loop .at - c .before .before .before .args .from) 9 (omega arith)))
+returns c = let c1 = c .before in (sym (c1 .loop .inv .3 ∙ decimal-end (now (c1 .before .before .args .w)) (c1 .loop .v) (c1 .loop .at) (c1 .before .before .args .to) (c .loop-test .left)), omega (arith, c1 .loop .inv .2, ten-to (c1 .loop .at - c1 .before .before .args .from) 9 (omega arith)))
 
 pub value-spec : {M : Type 1} → statement M
 value-spec =

@@ -17,7 +17,7 @@ abbrev μ-loop : tie.MeasureT-loop
 μ-loop text from at₀ comment₀ at comment = length text - at
 
 loop-holds : tie.Need-loop-holds Inv-loop μ-loop
-loop-holds c = gap-start (now (c .before .args .text)) (c .before .args .from)
+loop-holds c = gap-start _ _
 
 shared-slice-read-gap-step : tie.Need-shared-slice-read-gap-step Inv-loop μ-loop
 shared-slice-read-gap-step c = omega arith
@@ -35,7 +35,7 @@ enum-told-3 : tie.Need-enum-told-3 Inv-loop μ-loop
 enum-told-3 c = c .match .keys3
 
 returns : tie.Need-returns Inv-loop μ-loop
-returns c = sym (c .before .before .before .before .before .loop .inv ∙ gap-token (now (c .before .before .before .before .before .before .before .args .text)) (c .before .before .before .before .before .loop .comment) (c .before .before .before .before .before .loop .at) (c .before .before .before .before .loop-test .taken) (sym (c .before .before .gap-step .ensures) ∙ c .enum-told3 .given .1))
+returns c = sym (c .before .before .before .before .before .loop .inv ∙ gap-token _ _ _ (c .before .before .before .before .loop-test .taken) (sym (c .before .before .gap-step .ensures) ∙ c .enum-told3 .given .1))
 
 add-at : tie.Need-add-at Inv-loop μ-loop
 add-at c = omega arith
@@ -44,10 +44,10 @@ loop-less : tie.Need-loop-less Inv-loop μ-loop
 loop-less c = omega arith
 
 loop-again : tie.Need-loop-again Inv-loop μ-loop
-loop-again c = ⊎-elim (λ w. rw (w .2) (c .before .before .before .before .loop .inv ∙ gap-plain (now (c .before .before .before .before .before .before .args .text)) (c .before .before .before .before .loop .comment) (c .before .before .before .before .loop .at) (c .before .before .before .loop-test .taken) (sym (c .before .gap-step .ensures) ∙ w .1 .given .1))) (λ w. rw (w .2) (c .before .before .before .before .loop .inv ∙ gap-comment (now (c .before .before .before .before .before .before .args .text)) (c .before .before .before .before .loop .comment) (c .before .before .before .before .loop .at) (c .before .before .before .loop-test .taken) (sym (c .before .gap-step .ensures) ∙ w .1 .given .1))) (c .match .came)
+loop-again c = let c3 = c .before .before .before in ⊎-elim (λ w. rw (w .2) (c3 .before .loop .inv ∙ gap-plain _ _ _ (c3 .loop-test .taken) (sym (c .before .gap-step .ensures) ∙ w .1 .given .1))) (λ w. rw (w .2) (c3 .before .loop .inv ∙ gap-comment _ _ _ (c3 .loop-test .taken) (sym (c .before .gap-step .ensures) ∙ w .1 .given .1))) (c .match .came)
 
 returns-2 : tie.Need-returns-2 Inv-loop μ-loop
-returns-2 c = sym (c .before .loop .inv ∙ gap-over (now (c .before .before .before .args .text)) (c .before .loop .comment) (c .before .loop .at) (c .loop-test .left))
+returns-2 c = sym (c .before .loop .inv ∙ gap-over _ _ _ (c .loop-test .left))
 
 pub gap-end-spec : {M : Type 1} → statement M
 gap-end-spec =

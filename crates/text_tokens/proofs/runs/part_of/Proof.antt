@@ -15,7 +15,7 @@ slice-aggregate-result : tie.Need-slice-aggregate-result
 slice-aggregate-result c = search needs
 
 returns : tie.Need-returns
-returns c = sym (part-none (now (c .before .before .before .args .text)) (c .before .before .before .args .from) (c .before .before .before .args .to) (omega arith))
+returns c = let c3 = c .before .before .before in sym (part-none (now (c3 .args .text)) (c3 .args .from) (c3 .args .to) (omega arith))
 
 sub-result : tie.Need-sub-result
 sub-result c = search needs
@@ -27,13 +27,13 @@ part-result-end : tie.Need-part-result-end
 part-result-end c = search needs
 
 returns-2 : tie.Need-returns-2
-returns-2 c = let q : c .before .before .before .args .from ≤ length (now (c .before .before .before .args .text)) = omega arith in sym (part-rest (now (c .before .before .before .args .text)) (c .before .before .before .args .from) (c .before .before .before .args .to) (omega arith) ∙ sym (take-all (length (now (c .before .before .before .args .text)) - c .before .before .before .args .from) (drop (c .before .before .before .args .from) (now (c .before .before .before .args .text))) (simp length-drop (omega arith))))
+returns-2 c = let c3 = c .before .before .before in let q : c3 .args .from ≤ length (now (c3 .args .text)) = omega arith in sym (part-rest (now (c3 .args .text)) (c3 .args .from) (c3 .args .to) (omega arith) ∙ sym (take-all (length (now (c3 .args .text)) - c3 .args .from) (drop (c3 .args .from) (now (c3 .args .text))) (simp length-drop (omega arith))))
 
 slice-aggregate-result-2 : tie.Need-slice-aggregate-result-2
 slice-aggregate-result-2 c = search needs
 
 returns-3 : tie.Need-returns-3
-returns-3 c = sym (part-short (now (c .before .before .before .args .text)) (c .before .before .before .args .from) (c .before .before .before .args .to) (omega arith))
+returns-3 c = let c3 = c .before .before .before in sym (part-short (now (c3 .args .text)) (c3 .args .from) (c3 .args .to) (omega arith))
 
 part-result-start-2 : tie.Need-part-result-start-2
 part-result-start-2 c = search needs

@@ -26,7 +26,7 @@ in-run-requires : tie.Need-in-run-requires Inv-loop μ-loop
 in-run-requires c κs = tt
 
 returns : tie.Need-returns Inv-loop μ-loop
-returns c = sym (c .before .before .before .before .loop .inv ∙ run-ends (now (c .before .before .before .before .before .before .args .text)) (c .before .before .before .before .before .before .args .stop) (c .before .before .before .before .loop .at) (c .before .before .before .loop-test .taken) (sym (c .before .in-run .ensures) ∙ not-true (c .before .in-run .result) (c .if1 .taken)))
+returns c = sym (c .before .before .before .before .loop .inv ∙ run-ends _ _ _ (c .before .before .before .loop-test .taken) (sym (c .before .in-run .ensures) ∙ not-true _ (c .if1 .taken)))
 
 add-at : tie.Need-add-at Inv-loop μ-loop
 add-at c = omega arith
@@ -35,10 +35,10 @@ loop-less : tie.Need-loop-less Inv-loop μ-loop
 loop-less c = omega arith
 
 loop-again : tie.Need-loop-again Inv-loop μ-loop
-loop-again c = c .before .before .before .before .loop .inv ∙ run-more (now (c .before .before .before .before .before .before .args .text)) (c .before .before .before .before .before .before .args .stop) (c .before .before .before .before .loop .at) (c .before .before .before .loop-test .taken) (sym (c .before .in-run .ensures) ∙ not-false (c .before .in-run .result) (c .if1 .left))
+loop-again c = c .before .before .before .before .loop .inv ∙ run-more _ _ _ (c .before .before .before .loop-test .taken) (sym (c .before .in-run .ensures) ∙ not-false _ (c .if1 .left))
 
 returns-2 : tie.Need-returns-2 Inv-loop μ-loop
-returns-2 c = sym (c .before .loop .inv ∙ run-over (now (c .before .before .before .args .text)) (c .before .before .before .args .stop) (c .before .loop .at) (c .loop-test .left))
+returns-2 c = sym (c .before .loop .inv ∙ run-over _ _ _ (c .loop-test .left))
 
 pub run-end-spec : {M : Type 1} → statement M
 run-end-spec =

@@ -47,19 +47,19 @@ enum-told-6 c = search needs
 
 returns-2 : tie.Need-returns-2
 unfolding domainWord
-returns-2 c = c .number-token .ensures ∙ rw (sym (c .before .before .before .before .before .is-listed .ensures) ∙ c .before .before .before .before .if1 .left, sym (c .before .before .before .class-of .ensures) ∙ c .before .enum-told .given .1)
+returns-2 c = let c3 = c .before .before .before in c .number-token .ensures ∙ rw (sym (c3 .before .before .is-listed .ensures) ∙ c3 .before .if1 .left, sym (c3 .class-of .ensures) ∙ c .before .enum-told .given .1)
 
 returns-3 : tie.Need-returns-3
 unfolding domainWord
-returns-3 c = c .sized .ensures ∙ rw (sym (c .before .before .before .before .before .is-listed .ensures) ∙ c .before .before .before .before .if1 .left, sym (c .before .before .before .class-of .ensures) ∙ c .before .enum-told2 .given .1)
+returns-3 c = let c3 = c .before .before .before in c .sized .ensures ∙ rw (sym (c3 .before .before .is-listed .ensures) ∙ c3 .before .if1 .left, sym (c3 .class-of .ensures) ∙ c .before .enum-told2 .given .1)
 
 returns-4 : tie.Need-returns-4
 unfolding domainWord
-returns-4 c = c .sized2 .ensures ∙ rw (sym (c .before .before .before .before .before .is-listed .ensures) ∙ c .before .before .before .before .if1 .left, sym (c .before .before .before .class-of .ensures) ∙ c .before .enum-told3 .given .1)
+returns-4 c = let c3 = c .before .before .before in c .sized2 .ensures ∙ rw (sym (c3 .before .before .is-listed .ensures) ∙ c3 .before .if1 .left, sym (c3 .class-of .ensures) ∙ c .before .enum-told3 .given .1)
 
 returns-5 : tie.Need-returns-5
 unfolding domainWord
-returns-5 c = c .sized3 .ensures ∙ rw (sym (c .before .before .before .before .before .is-listed .ensures) ∙ c .before .before .before .before .if1 .left, sym (c .before .before .before .class-of .ensures) ∙ c .before .enum-told4 .given .1)
+returns-5 c = let c3 = c .before .before .before in c .sized3 .ensures ∙ rw (sym (c3 .before .before .is-listed .ensures) ∙ c3 .before .if1 .left, sym (c3 .class-of .ensures) ∙ c .before .enum-told4 .given .1)
 
 returns-6 : tie.Need-returns-6
 unfolding domainWord

@@ -13,7 +13,7 @@ judged-requires : tie.Need-judged-requires
 judged-requires c κs = search needs
 
 returns : tie.Need-returns
-returns c = plan-end (now (c .before .before .before .before .args .line)) (c .before .before .before .before .args .from) (c .before .before .gap-end .result) (c .before .before .gap-end .ensures) (c .judged .result) (c .before .if1 .taken) (c .judged .ensures)
+returns c = plan-end _ _ _ (c .before .before .gap-end .ensures) _ (c .before .if1 .taken) (c .judged .ensures)
 
 shared-slice-read-b : tie.Need-shared-slice-read-b
 shared-slice-read-b c = search needs
@@ -28,7 +28,7 @@ judged-requires-2 : tie.Need-judged-requires-2
 judged-requires-2 c κs = search needs
 
 returns-2 : tie.Need-returns-2
-returns-2 c = plan-colon (now (c .before .before .before .before .before .before .args .line)) (c .before .before .before .before .before .before .args .from) (c .before .before .before .before .gap-end .result) (c .before .before .before .before .gap-end .ensures) (c .judged2 .result) (c .before .before .before .if1 .left) (c .before .if2 .taken) (c .judged2 .ensures)
+returns-2 c = plan-colon _ _ _ (c .before .before .before .before .gap-end .ensures) _ (c .before .before .before .if1 .left) (c .before .if2 .taken) (c .judged2 .ensures)
 
 kind-of-requires : tie.Need-kind-of-requires
 kind-of-requires c κs = search needs
@@ -70,13 +70,13 @@ judged-requires-5 : tie.Need-judged-requires-5
 judged-requires-5 c κs = search needs
 
 returns-3 : tie.Need-returns-3
-returns-3 c = plan-bad (now (c .before .before .before .before .before .before .before .before .before .args .line)) (c .before .before .before .before .before .before .before .before .before .args .from) (c .before .before .before .before .before .before .before .gap-end .result) (c .before .before .before .before .before .before .before .gap-end .ensures) (c .judged3 .result) (c .before .before .before .before .before .before .if1 .left) (c .before .before .before .before .if2 .left) (sym (c .before .before .before .kind-of .ensures) ∙ c .before .enum-told .given .1) (c .judged3 .ensures)
+returns-3 c = let c3 = c .before .before .before in plan-bad _ _ _ (c3 .before .before .before .before .gap-end .ensures) _ (c3 .before .before .before .if1 .left) (c3 .before .if2 .left) (sym (c3 .kind-of .ensures) ∙ c .before .enum-told .given .1) (c .judged3 .ensures)
 
 returns-4 : tie.Need-returns-4
-returns-4 c = plan-bracket (now (c .before .before .before .before .before .before .before .before .before .before .args .line)) (c .before .before .before .before .before .before .before .before .before .before .args .from) (c .before .before .before .before .before .before .before .before .gap-end .result) (c .before .before .before .before .before .before .before .before .gap-end .ensures) (c .judged4 .result) (c .before .before .before .before .before .before .before .if1 .left) (c .before .before .before .before .before .if2 .left) (c .before .plan-bracket .result) (sym (c .before .before .before .before .kind-of .ensures) ∙ c .before .before .enum-told2 .given .1) (c .before .plan-bracket .ensures) (c .judged4 .ensures)
+returns-4 c = let c2 = c .before .before in let c4 = c2 .before .before in plan-bracket _ _ _ (c4 .before .before .before .before .gap-end .ensures) _ (c4 .before .before .before .if1 .left) (c4 .before .if2 .left) _ (sym (c4 .kind-of .ensures) ∙ c2 .enum-told2 .given .1) (c .before .plan-bracket .ensures) (c .judged4 .ensures)
 
 returns-5 : tie.Need-returns-5
-returns-5 c = plan-run (now (c .before .before .before .before .before .before .before .before .before .before .before .args .line)) (c .before .before .before .before .before .before .before .before .before .before .before .args .from) (c .before .before .before .before .before .before .before .before .before .gap-end .result) (c .before .before .before .before .before .before .before .before .before .gap-end .ensures) (c .judged5 .result) (c .before .before .before .before .before .before .before .before .if1 .left) (c .before .before .before .before .before .before .if2 .left) (c .before .plan-word .result) (c .before .before .before .run-end .result) (rw (c .before .before .before .before .before .kind-of .ensures) at (c .before .before .before .before .match .keys3)) (c .before .before .before .run-end .ensures) (rw (c .before .before .part-of .ensures) at (c .before .plan-word .ensures)) (c .judged5 .ensures)
+returns-5 c = let c1 = c .before in let c3 = c1 .before .before in let c5 = c3 .before .before in plan-run _ _ _ (c5 .before .before .before .before .gap-end .ensures) _ (c5 .before .before .before .if1 .left) (c5 .before .if2 .left) _ _ (rw (c5 .kind-of .ensures) at (c3 .before .match .keys3)) (c3 .run-end .ensures) (rw (c1 .before .part-of .ensures) at (c1 .plan-word .ensures)) (c .judged5 .ensures)
 
 pub plan-token-at-spec : {M : Type 1} → statement M
 plan-token-at-spec =

@@ -13,10 +13,10 @@ is-past-requires : tie.Need-is-past-requires
 is-past-requires c κs = search needs
 
 returns : tie.Need-returns
-returns c = spot-past (now (c .before .before .before .before .before .args .text)) (c .before .before .before .before .before .args .from) (c .before .before .gap-end .result) (c .before .before .gap-end .ensures) (now (c .before .before .before .before .before .args .w)) (sym (c .before .is-past .ensures) ∙ c .if1 .taken)
+returns c = spot-past _ _ _ (c .before .before .gap-end .ensures) _ (sym (c .before .is-past .ensures) ∙ c .if1 .taken)
 
 returns-2 : tie.Need-returns-2
-returns-2 c = spot-end (now (c .before .before .before .before .before .before .args .text)) (c .before .before .before .before .before .before .args .from) (c .before .before .before .gap-end .result) (c .before .before .before .gap-end .ensures) (now (c .before .before .before .before .before .before .args .w)) (sym (c .before .before .is-past .ensures) ∙ c .before .if1 .left) (c .if2 .taken)
+returns-2 c = spot-end _ _ _ (c .before .before .before .gap-end .ensures) _ (sym (c .before .before .is-past .ensures) ∙ c .before .if1 .left) (c .if2 .taken)
 
 add-run-end : tie.Need-add-run-end
 add-run-end c = search needs
@@ -31,10 +31,10 @@ same-word-requires : tie.Need-same-word-requires
 same-word-requires c κs = search needs
 
 returns-3 : tie.Need-returns-3
-returns-3 c = spot-found (now (c .before .before .before .before .before .before .before .before .before .before .args .text)) (c .before .before .before .before .before .before .before .before .before .before .args .from) (c .before .before .before .before .before .before .before .gap-end .result) (c .before .before .before .before .before .before .before .gap-end .ensures) (sym (c .before .before .before .before .before .before .is-past .ensures) ∙ c .before .before .before .before .before .if1 .left) (c .before .before .before .before .if2 .left) (now (c .before .before .before .before .before .before .before .before .before .before .args .w)) (c .before .before .before .run-end .result) (c .before .before .before .run-end .ensures) (rw (c .before .before .part-of .ensures) at (sym (c .before .same-word .ensures) ∙ c .if3 .taken))
+returns-3 c = let c2 = c .before .before in let c4 = c2 .before .before in spot-found _ _ _ (c4 .before .before .before .gap-end .ensures) (sym (c4 .before .before .is-past .ensures) ∙ c4 .before .if1 .left) (c4 .if2 .left) _ _ (c2 .before .run-end .ensures) (rw (c2 .part-of .ensures) at (sym (c .before .same-word .ensures) ∙ c .if3 .taken))
 
 returns-4 : tie.Need-returns-4
-returns-4 c = spot-other (now (c .before .before .before .before .before .before .before .before .before .before .args .text)) (c .before .before .before .before .before .before .before .before .before .before .args .from) (c .before .before .before .before .before .before .before .gap-end .result) (c .before .before .before .before .before .before .before .gap-end .ensures) (sym (c .before .before .before .before .before .before .is-past .ensures) ∙ c .before .before .before .before .before .if1 .left) (c .before .before .before .before .if2 .left) (now (c .before .before .before .before .before .before .before .before .before .before .args .w)) (c .before .before .before .run-end .result) (c .before .before .before .run-end .ensures) (rw (c .before .before .part-of .ensures) at (sym (c .before .same-word .ensures) ∙ c .if3 .left))
+returns-4 c = let c2 = c .before .before in let c4 = c2 .before .before in spot-other _ _ _ (c4 .before .before .before .gap-end .ensures) (sym (c4 .before .before .is-past .ensures) ∙ c4 .before .if1 .left) (c4 .if2 .left) _ _ (c2 .before .run-end .ensures) (rw (c2 .part-of .ensures) at (sym (c .before .same-word .ensures) ∙ c .if3 .left))
 
 pub spot-at-spec : {M : Type 1} → statement M
 spot-at-spec =
