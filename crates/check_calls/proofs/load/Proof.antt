@@ -15,13 +15,13 @@ check-for-requires : tie.Need-check-for-requires
 check-for-requires c κs = search needs
 
 returns : tie.Need-returns
-returns c = opened-refused (now (c .before .before .before .before .before .args .domain)) (now (c .before .before .before .before .before .args .problem)) (c .before .before .load .result) (c .before .before .load .ensures) (c .before .match .keys2) (c .check-for .result) (c .check-for .ensures)
+returns c = opened-refused _ _ _ (c .before .before .load .ensures) (c .before .match .keys2) _ (c .check-for .ensures)
 
 check-for-requires-2 : tie.Need-check-for-requires-2
 check-for-requires-2 c κs = search needs
 
 returns-2 : tie.Need-returns-2
-returns-2 c = opened-loaded (now (c .before .before .before .before .before .before .args .domain)) (now (c .before .before .before .before .before .before .args .problem)) (c .before .before .before .load .result) (c .before .before .before .load .ensures) (c .before .enum-told .given .1) (c .check-for2 .result) (c .check-for2 .ensures)
+returns-2 c = opened-loaded _ _ _ (c .before .before .before .load .ensures) (c .before .enum-told .given .1) _ (c .check-for2 .ensures)
 
 pub load-spec : {M : Type 1} → statement M
 load-spec =

@@ -28,7 +28,7 @@ write-refusal-requires-2 : tie.Need-write-refusal-requires-2
 write-refusal-requires-2 c κs = search needs
 
 returns : tie.Need-returns
-returns c = line-loaded (c .before .before .before .args .answer) (now (c .before .before .before .args .line)) (c .enum-told .given .1)
+returns c = line-loaded _ _ (c .enum-told .given .1)
 
 same-length : tie.Need-same-length
 same-length c = search needs

@@ -34,7 +34,7 @@ answered-requires : tie.Need-answered-requires
 answered-requires c κs = search needs
 
 returns : tie.Need-returns
-returns c = let s = (c .before .before .before .before .before .before .before .before .before .before .before .before .before .before .before .before .before .before .before .before .before .before .before .before .before .before .before .before .before .before .before .before) in let e = c .before .before .before .before .before .before .before .before .end-plan in c .answered .ensures ∙ finish-stopped (s .args .t1) (s .pre .0) (s .pre .1) (s .pre .2) (stateIn (e .last .1 .1 .1 .1 .1 .1 .1 .1 .0) (e .last .1 .1 .1 .1 .1 .1 .1 .1 .1 .0)) (e .result) (e .ensures anyState) (c .before .before .before .before .if1 .taken) (c .before .before .refused-check .result) (c .before .before .refused-check .ensures) (c .before .standing-answer .result) (c .before .standing-answer .ensures)
+returns c = let c2 = c .before .before in let c8 = c2 .before .before .before .before .before .before in let s = (c8 .before .before .before .before .before .before .before .before .before .before .before .before .before .before .before .before .before .before .before .before .before .before .before .before) in let e = c8 .end-plan in c .answered .ensures ∙ finish-stopped (s .args .t1) (s .pre .0) (s .pre .1) (s .pre .2) (stateIn (e .last .1 .1 .1 .1 .1 .1 .1 .1 .0) (e .last .1 .1 .1 .1 .1 .1 .1 .1 .1 .0)) (e .result) (e .ensures anyState) (c2 .before .before .if1 .taken) _ (c2 .refused-check .ensures) _ (c .before .standing-answer .ensures)
 
 nobody-requires : tie.Need-nobody-requires
 nobody-requires c κs = search needs
@@ -46,7 +46,7 @@ answered-requires-2 : tie.Need-answered-requires-2
 answered-requires-2 c κs = search needs
 
 returns-2 : tie.Need-returns-2
-returns-2 c = let s = (c .before .before .before .before .before .before .before .before .before .before .before .before .before .before .before .before .before .before .before .before .before .before .before .before .before .before .before .before .before .before .before .before) in let e = c .before .before .before .before .before .before .before .before .end-plan in c .answered2 .ensures ∙ finish-goes (s .args .t1) (s .pre .0) (s .pre .1) (s .pre .2) (stateIn (e .last .1 .1 .1 .1 .1 .1 .1 .1 .0) (e .last .1 .1 .1 .1 .1 .1 .1 .1 .1 .0)) (e .result) (e .ensures anyState) (c .before .before .before .before .if1 .left) (c .before .before .before .nobody .result) (replicate 257 0) (c .before .end .result) (c .before .before .before .nobody .ensures) (zeros-padded 257) (c .before .end .ensures)
+returns-2 c = let c3 = c .before .before .before in let s = (c3 .before .before .before .before .before .before .before .before .before .before .before .before .before .before .before .before .before .before .before .before .before .before .before .before .before .before .before .before .before) in let e = c3 .before .before .before .before .before .end-plan in c .answered2 .ensures ∙ finish-goes (s .args .t1) (s .pre .0) (s .pre .1) (s .pre .2) (stateIn (e .last .1 .1 .1 .1 .1 .1 .1 .1 .0) (e .last .1 .1 .1 .1 .1 .1 .1 .1 .1 .0)) (e .result) (e .ensures anyState) (c3 .before .if1 .left) _ (replicate 257 0) _ (c3 .nobody .ensures) (zeros-padded 257) (c .before .end .ensures)
 
 pub close-spec : {M : Type 1} → statement M
 close-spec =

@@ -10,7 +10,7 @@ use Rattle.check_calls.proofs.Check.feed.Statement.{statement}
 use Rattle.check_calls.proofs.Check.feed.Tie as tie
 
 good : (c : tie.Else1) → wellFormed (c .before .before .before .args .self) ≡ true
-good c = sym (c .before .is-formed .ensures) ∙ not-false (c .before .is-formed .result) (c .if1 .left)
+good c = sym (c .before .is-formed .ensures) ∙ not-false _ (c .if1 .left)
 
 is-formed-requires : tie.Need-is-formed-requires
 is-formed-requires c κs = search needs
@@ -20,14 +20,14 @@ answered-requires c κs = search needs
 
 returns : tie.Need-returns
 unfolding feedOf
-returns c = c .answered .ensures ∙ unformed (c .before .before .before .before .args .self) _ (sym (c .before .before .is-formed .ensures) ∙ not-true (c .before .before .is-formed .result) (c .before .if1 .taken))
+returns c = c .answered .ensures ∙ unformed _ _ (sym (c .before .before .is-formed .ensures) ∙ not-true _ (c .before .if1 .taken))
 
 answered-requires-2 : tie.Need-answered-requires-2
 answered-requires-2 c κs = search needs
 
 returns-2 : tie.Need-returns-2
 unfolding feedOf
-returns-2 c = c .answered2 .ensures ∙ late (c .before .before .before .before .before .args .self) _ (good (c .before .before)) (c .before .if2 .taken)
+returns-2 c = c .answered2 .ensures ∙ late _ _ (good (c .before .before)) (c .before .if2 .taken)
 
 standing-answer-requires : tie.Need-standing-answer-requires
 standing-answer-requires c κs = search needs
@@ -36,7 +36,7 @@ answered-requires-3 : tie.Need-answered-requires-3
 answered-requires-3 c κs = search needs
 
 returns-3 : tie.Need-returns-3
-returns-3 c = c .answered3 .ensures ∙ feed-stands (c .before .before .before .before .before .before .before .args .self) (good (c .before .before .before .before)) (c .before .before .before .if2 .left) (c .before .before .if3 .taken) (c .before .standing-answer .result) (c .before .standing-answer .ensures) (now (c .before .before .before .before .before .before .before .args .part))
+returns-3 c = c .answered3 .ensures ∙ feed-stands _ (good (c .before .before .before .before)) (c .before .before .before .if2 .left) (c .before .before .if3 .taken) _ (c .before .standing-answer .ensures) _
 
 take-requires : tie.Need-take-requires
 take-requires c κs = (good (c .before .before), c .before .if2 .left, c .if3 .left)

@@ -10,7 +10,7 @@ use Rattle.check_calls.proofs.Check.result.Statement.{statement}
 use Rattle.check_calls.proofs.Check.result.Tie as tie
 
 good : (c : tie.Else1) → wellFormed (c .before .before .before .args .self) ≡ true
-good c = sym (c .before .is-formed .ensures) ∙ not-false (c .before .is-formed .result) (c .if1 .left)
+good c = sym (c .before .is-formed .ensures) ∙ not-false _ (c .if1 .left)
 
 is-formed-requires : tie.Need-is-formed-requires
 is-formed-requires c κs = search needs
@@ -20,21 +20,21 @@ answered-requires c κs = search needs
 
 returns : tie.Need-returns
 unfolding resultOf
-returns c = beside (c .answered .ensures) _ ∙ unformed (c .before .before .before .before .args .self) (now (c .before .before .before .before .args .line)) _ (sym (c .before .before .is-formed .ensures) ∙ not-true (c .before .before .is-formed .result) (c .before .if1 .taken))
+returns c = beside (c .answered .ensures) _ ∙ unformed _ _ _ (sym (c .before .before .is-formed .ensures) ∙ not-true _ (c .before .if1 .taken))
 
 answered-requires-2 : tie.Need-answered-requires-2
 answered-requires-2 c κs = search needs
 
 returns-2 : tie.Need-returns-2
 unfolding resultOf
-returns-2 c = beside (c .answered2 .ensures) _ ∙ early (c .before .before .before .before .before .args .self) (now (c .before .before .before .before .before .args .line)) _ (good (c .before .before)) (not-true (c .before .before .before .before .before .args .self .finished) (c .before .if2 .taken))
+returns-2 c = beside (c .answered2 .ensures) _ ∙ early _ _ _ (good (c .before .before)) (not-true _ (c .before .if2 .taken))
 
 answered-requires-3 : tie.Need-answered-requires-3
 answered-requires-3 c κs = search needs
 
 returns-3 : tie.Need-returns-3
 unfolding resultOf
-returns-3 c = beside (c .answered3 .ensures) _ ∙ short (c .before .before .before .before .before .before .args .self) (now (c .before .before .before .before .before .before .args .line)) 64 (lineIn (c .before .before .before .before .before .before .args .self .progress)) (c .before .if3 .taken) ∙ done (c .before .before .before .before .before .before .args .self) (now (c .before .before .before .before .before .before .args .line)) _ (good (c .before .before .before)) (not-false (c .before .before .before .before .before .before .args .self .finished) (c .before .before .if2 .left))
+returns-3 c = let c1 = c .before in let c2 = c1 .before in let c6 = c2 .before .before .before .before in beside (c .answered3 .ensures) _ ∙ short (c6 .args .self) (now (c6 .args .line)) 64 (lineIn (c6 .args .self .progress)) (c1 .if3 .taken) ∙ done (c6 .args .self) (now (c6 .args .line)) _ (good (c2 .before)) (not-false (c6 .args .self .finished) (c2 .if2 .left))
 
 write-line-requires : tie.Need-write-line-requires
 write-line-requires c κs = search needs
@@ -47,7 +47,7 @@ same-length c = search needs
 
 returns-4 : tie.Need-returns-4
 unfolding resultOf
-returns-4 c = beside (c .answered4 .ensures) _ ∙ written (c .before .before .before .before .before .before .before .before .before .before .args .self) (now (c .before .before .before .before .before .before .before .before .before .before .args .line)) 64 (lineIn (c .before .before .before .before .before .before .before .before .before .before .args .self .progress)) (c .before .before .before .before .before .if3 .left) (c .before .before .before .write-line .result) _ (c .before .before .before .write-line .ensures .1) (c .before .before .before .write-line .ensures .0) ∙ done (c .before .before .before .before .before .before .before .before .before .before .args .self) (now (c .before .before .before .before .before .before .before .before .before .before .args .line)) _ (good (c .before .before .before .before .before .before .before)) (not-false (c .before .before .before .before .before .before .before .before .before .before .args .self .finished) (c .before .before .before .before .before .before .if2 .left))
+returns-4 c = let c3 = c .before .before .before in let c5 = c3 .before .before in let c6 = c5 .before in let c10 = c6 .before .before .before .before in beside (c .answered4 .ensures) _ ∙ written (c10 .args .self) (now (c10 .args .line)) 64 (lineIn (c10 .args .self .progress)) (c5 .if3 .left) (c3 .write-line .result) _ (c3 .write-line .ensures .1) (c3 .write-line .ensures .0) ∙ done (c10 .args .self) (now (c10 .args .line)) _ (good (c6 .before)) (not-false (c10 .args .self .finished) (c6 .if2 .left))
 
 pub result-spec : {M : Type 1} → statement M
 result-spec =

@@ -37,7 +37,7 @@ answered-requires : tie.Need-answered-requires
 answered-requires c κs = search needs
 
 returns : tie.Need-returns
-returns c = let s = (c .before .before .before .before .before .before .before .before .before .before .before .before .before .before .before .before .before .before .before .before .before .before .before .before .before .before .before .before .before .before .before .before .before) in let t = c .before .before .before .before .before .before .before .before .before .before .take-part in c .answered .ensures ∙ feed-stopped (s .args .t1) (s .pre .0) (s .pre .1) (s .pre .2) (now (s .args .part)) (stateIn (t .last .1 .1 .1 .1 .1 .1 .1 .0) (t .last .1 .1 .1 .1 .1 .1 .1 .1 .0)) (t .last .1 .1 .1 .1 .1 .1 .1 .1 .1 .1 .0) (t .result .queue) (t .result .progress) (t .ensures .0 (conditionAt (s .args .t1 .model .goal) 0 .tree) anyState) (c .before .before .before .before .if1 .taken) (c .before .before .refused-check .result) (c .before .before .refused-check .ensures) (c .before .standing-answer .result) (c .before .standing-answer .ensures)
+returns c = let c2 = c .before .before in let c10 = c2 .before .before .before .before .before .before .before .before in let s = (c10 .before .before .before .before .before .before .before .before .before .before .before .before .before .before .before .before .before .before .before .before .before .before .before) in let t = c10 .take-part in c .answered .ensures ∙ feed-stopped (s .args .t1) (s .pre .0) (s .pre .1) (s .pre .2) (now (s .args .part)) (stateIn (t .last .1 .1 .1 .1 .1 .1 .1 .0) (t .last .1 .1 .1 .1 .1 .1 .1 .1 .0)) (t .last .1 .1 .1 .1 .1 .1 .1 .1 .1 .1 .0) (t .result .queue) (t .result .progress) (t .ensures .0 (conditionAt (s .args .t1 .model .goal) 0 .tree) anyState) (c2 .before .before .if1 .taken) _ (c2 .refused-check .ensures) _ (c .before .standing-answer .ensures)
 
 tidy-requires : tie.Need-tidy-requires
 tidy-requires c κs = search needs
@@ -55,7 +55,7 @@ answered-requires-2 : tie.Need-answered-requires-2
 answered-requires-2 c κs = search needs
 
 returns-2 : tie.Need-returns-2
-returns-2 c = let s = (c .before .before .before .before .before .before .before .before .before .before .before .before .before .before .before .before .before .before .before .before .before .before .before .before .before .before .before .before .before .before .before .before .before .before) in let t = c .before .before .before .before .before .before .before .before .before .before .before .take-part in c .answered2 .ensures ∙ feed-goes (s .args .t1) (s .pre .0) (s .pre .1) (s .pre .2) (now (s .args .part)) (stateIn (t .last .1 .1 .1 .1 .1 .1 .1 .0) (t .last .1 .1 .1 .1 .1 .1 .1 .1 .0)) (t .last .1 .1 .1 .1 .1 .1 .1 .1 .1 .1 .0) (t .result .queue) (t .result .progress) (t .ensures .0 (conditionAt (s .args .t1 .model .goal) 0 .tree) anyState) (c .before .before .before .before .before .if1 .left) (t .ensures .1 .2) (t .ensures .2) (c .before .before .before .before .tidy .result) (c .before .before .tidy-line .result) (c .before .settle .result) (c .before .before .before .before .tidy .ensures) (c .before .before .tidy-line .ensures) (c .before .settle .ensures)
+returns-2 c = let c2 = c .before .before in let c4 = c2 .before .before in let c11 = c4 .before .before .before .before .before .before .before in let s = (c11 .before .before .before .before .before .before .before .before .before .before .before .before .before .before .before .before .before .before .before .before .before .before .before) in let t = c11 .take-part in c .answered2 .ensures ∙ feed-goes (s .args .t1) (s .pre .0) (s .pre .1) (s .pre .2) (now (s .args .part)) (stateIn (t .last .1 .1 .1 .1 .1 .1 .1 .0) (t .last .1 .1 .1 .1 .1 .1 .1 .1 .0)) (t .last .1 .1 .1 .1 .1 .1 .1 .1 .1 .1 .0) (t .result .queue) (t .result .progress) (t .ensures .0 (conditionAt (s .args .t1 .model .goal) 0 .tree) anyState) (c4 .before .if1 .left) (t .ensures .1 .2) (t .ensures .2) _ _ _ (c4 .tidy .ensures) (c2 .tidy-line .ensures) (c .before .settle .ensures)
 
 pub take-spec : {M : Type 1} → statement M
 take-spec =

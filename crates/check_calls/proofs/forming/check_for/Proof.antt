@@ -12,11 +12,11 @@ begin-requires : tie.Need-begin-requires
 begin-requires c κs = search needs
 
 returns : tie.Need-returns
-returns c = λ i.
+returns c = let c5 = c .before .before .before .before .before in λ i.
     record {
-      model = c .before .before .before .before .before .args .loaded .model;
-      facts = c .before .before .before .before .before .args .loaded .facts;
-      numbers = c .before .before .before .before .before .args .loaded .numbers;
+      model = c5 .args .loaded .model;
+      facts = c5 .args .loaded .facts;
+      numbers = c5 .args .loaded .numbers;
       queue = c .before .nobody .ensures i;
       line = zeros-padded 257 i;
       progress = c .begin .ensures i;

@@ -44,7 +44,7 @@ returns-4 c =
 
 returns-5 : tie.Need-returns-5
 unfolding sizesFit
-returns-5 c = rw (lt-leb (c .before .before .args .counts .types) 17 (c .if1 .left))
+returns-5 c = rw (lt-leb _ 17 (c .if1 .left))
 
 pub sizes-fit-spec : {M : Type 1} → statement M
 sizes-fit-spec = tie.close (tie.spec returns returns-2 returns-3 returns-4 returns-5)

@@ -12,7 +12,7 @@ returns c = rw (c .before .if1 .taken, c .if2 .taken)
 
 returns-2 : tie.Need-returns-2
 unfolding listedInPlan
-returns-2 c = rw (c .before .if1 .taken, ne-eqb (c .before .before .args .line) 1000001 (c .if2 .left))
+returns-2 c = rw (c .before .if1 .taken, ne-eqb _ 1000001 (c .if2 .left))
 
 is-line-requires : tie.Need-is-line-requires
 is-line-requires c κs = search needs

@@ -14,7 +14,7 @@ is-row-requires c κs = search needs
 
 returns-2 : tie.Need-returns-2
 unfolding listedRow
-returns-2 c = rw (ne-eqb (c .before .before .args .k) 14 (c .before .if1 .left)) (c .is-row .ensures)
+returns-2 c = rw (ne-eqb _ 14 (c .before .if1 .left)) (c .is-row .ensures)
 
 pub is-row-at-spec : {M : Type 1} → statement M
 is-row-at-spec = tie.close (tie.spec returns is-row-requires returns-2)

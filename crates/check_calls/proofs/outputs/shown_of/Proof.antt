@@ -15,7 +15,7 @@ returns c =
     shown-in (a .z) _ (cc (toZ-ofZ w64 (a .z) (c .before .before .fits .z))) (toZ-ofZ w64 (a .z) (c .before .before .fits .z))
 
 returns-2 : tie.Need-returns-2
-returns-2 c = shown-out (c .before .before .args .z) (cc (toZ-ofZ w64 (c .before .before .args .z) (c .before .before .fits .z)))
+returns-2 c = shown-out _ (cc (toZ-ofZ w64 _ (c .before .before .fits .z)))
 
 pub shown-of-spec : {M : Type 1} → statement M
 shown-of-spec = tie.close (tie.spec is-inside-requires returns returns-2)

@@ -8,7 +8,7 @@ use Rattle.check_calls.proofs.outputs.write_refusal.Statement.{statemen
 use Rattle.check_calls.proofs.outputs.write_refusal.Tie as tie
 
 returns : tie.Need-returns
-returns c = rw (lt-ltb (length (now (c .before .before .before .args .line))) 64 (c .if1 .taken))
+returns c = rw (lt-ltb _ 64 (c .if1 .taken))
 
 refusal-line-requires : tie.Need-refusal-line-requires
 refusal-line-requires c κs = search needs

@@ -36,22 +36,22 @@ same-word-requires-3 c κs = search needs
 
 returns-3 : tie.Need-returns-3
 unfolding argumentOf bytes
-returns-3 c = rw (sym (c .before .before .before .before .before .before .before .same-word .ensures) ∙ c .before .before .before .before .before .before .if1 .left, sym (c .before .before .before .before .same-word2 .ensures) ∙ c .before .before .before .if2 .left, sym (c .before .same-word3 .ensures) ∙ c .if3 .taken)
+returns-3 c = let c3 = c .before .before .before in rw (sym (c3 .before .before .before .before .same-word .ensures) ∙ c3 .before .before .before .if1 .left, sym (c3 .before .same-word2 .ensures) ∙ c3 .if2 .left, sym (c .before .same-word3 .ensures) ∙ c .if3 .taken)
 
 begins-with-requires : tie.Need-begins-with-requires
 begins-with-requires c κs = search needs
 
 returns-4 : tie.Need-returns-4
 unfolding argumentOf bytes
-returns-4 c = rw (sym (c .before .before .before .before .before .before .before .before .before .same-word .ensures) ∙ c .before .before .before .before .before .before .before .before .if1 .left, sym (c .before .before .before .before .before .before .same-word2 .ensures) ∙ c .before .before .before .before .before .if2 .left, sym (c .before .before .before .same-word3 .ensures) ∙ c .before .before .if3 .left, sym (c .before .begins-with .ensures) ∙ not-true (c .before .begins-with .result) (c .if4 .taken))
+returns-4 c = let c2 = c .before .before in let c5 = c2 .before .before .before in rw (sym (c5 .before .before .before .before .same-word .ensures) ∙ c5 .before .before .before .if1 .left, sym (c5 .before .same-word2 .ensures) ∙ c5 .if2 .left, sym (c2 .before .same-word3 .ensures) ∙ c2 .if3 .left, sym (c .before .begins-with .ensures) ∙ not-true _ (c .if4 .taken))
 
 returns-5 : tie.Need-returns-5
 unfolding argumentOf bytes
-returns-5 c = rw (sym (c .before .before .before .before .before .before .before .before .before .before .same-word .ensures) ∙ c .before .before .before .before .before .before .before .before .before .if1 .left, sym (c .before .before .before .before .before .before .before .same-word2 .ensures) ∙ c .before .before .before .before .before .before .if2 .left, sym (c .before .before .before .before .same-word3 .ensures) ∙ c .before .before .before .if3 .left, sym (c .before .before .begins-with .ensures) ∙ not-false (c .before .before .begins-with .result) (c .before .if4 .left), eq-eqb (length (c .before .before .before .before .before .before .before .before .before .before .before .before .before .args .w .now)) 1 (c .if5 .taken))
+returns-5 c = let c1 = c .before in let c3 = c1 .before .before in let c6 = c3 .before .before .before in rw (sym (c6 .before .before .before .before .same-word .ensures) ∙ c6 .before .before .before .if1 .left, sym (c6 .before .same-word2 .ensures) ∙ c6 .if2 .left, sym (c3 .before .same-word3 .ensures) ∙ c3 .if3 .left, sym (c1 .before .begins-with .ensures) ∙ not-false _ (c1 .if4 .left), eq-eqb _ 1 (c .if5 .taken))
 
 returns-6 : tie.Need-returns-6
 unfolding argumentOf bytes
-returns-6 c = rw (sym (c .before .before .before .before .before .before .before .before .before .before .same-word .ensures) ∙ c .before .before .before .before .before .before .before .before .before .if1 .left, sym (c .before .before .before .before .before .before .before .same-word2 .ensures) ∙ c .before .before .before .before .before .before .if2 .left, sym (c .before .before .before .before .same-word3 .ensures) ∙ c .before .before .before .if3 .left, sym (c .before .before .begins-with .ensures) ∙ not-false (c .before .before .begins-with .result) (c .before .if4 .left), ne-eqb (length (c .before .before .before .before .before .before .before .before .before .before .before .before .before .args .w .now)) 1 (c .if5 .left))
+returns-6 c = let c1 = c .before in let c3 = c1 .before .before in let c6 = c3 .before .before .before in rw (sym (c6 .before .before .before .before .same-word .ensures) ∙ c6 .before .before .before .if1 .left, sym (c6 .before .same-word2 .ensures) ∙ c6 .if2 .left, sym (c3 .before .same-word3 .ensures) ∙ c3 .if3 .left, sym (c1 .before .begins-with .ensures) ∙ not-false _ (c1 .if4 .left), ne-eqb _ 1 (c .if5 .left))
 
 pub argument-of-spec : {M : Type 1} → statement M
 argument-of-spec =

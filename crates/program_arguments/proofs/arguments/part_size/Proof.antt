@@ -22,10 +22,10 @@ shared-slice-read-b : tie.Need-shared-slice-read-b Inv-loop μ-loop
 shared-slice-read-b c = search needs
 
 returns : tie.Need-returns Inv-loop μ-loop
-returns c = sym (size-low (c .before .before .before .loop .size) (c .before .before .before .before .args .w .now) (c .before .before .before .loop .i) (c .before .before .loop-test .taken) (c .if1 .taken)) ∙ c .before .before .before .loop .inv .0
+returns c = sym (size-low _ _ _ (c .before .before .loop-test .taken) (c .if1 .taken)) ∙ c .before .before .before .loop .inv .0
 
 returns-2 : tie.Need-returns-2 Inv-loop μ-loop
-returns-2 c = sym (size-high (c .before .before .before .before .loop .size) (c .before .before .before .before .before .args .w .now) (c .before .before .before .before .loop .i) (c .before .before .before .loop-test .taken) (c .before .if1 .left) (c .if2 .taken)) ∙ c .before .before .before .before .loop .inv .0
+returns-2 c = sym (size-high _ _ _ (c .before .before .before .loop-test .taken) (c .before .if1 .left) (c .if2 .taken)) ∙ c .before .before .before .before .loop .inv .0
 
 mul-size : tie.Need-mul-size Inv-loop μ-loop
 mul-size c = search needs
@@ -37,7 +37,7 @@ add-size : tie.Need-add-size Inv-loop μ-loop
 add-size c = search needs
 
 returns-3 : tie.Need-returns-3 Inv-loop μ-loop
-returns-3 c = sym (size-large (c .before .before .before .before .before .loop .size) (c .before .before .before .before .before .before .args .w .now) (c .before .before .before .before .before .loop .i) (c .before .before .before .before .loop-test .taken) (c .before .before .if1 .left) (c .before .if2 .left) (c .if3 .taken)) ∙ c .before .before .before .before .before .loop .inv .0
+returns-3 c = sym (size-large _ _ _ (c .before .before .before .before .loop-test .taken) (c .before .before .if1 .left) (c .before .if2 .left) (c .if3 .taken)) ∙ c .before .before .before .before .before .loop .inv .0
 
 add-i : tie.Need-add-i Inv-loop μ-loop
 add-i c = search needs
@@ -46,10 +46,10 @@ loop-less : tie.Need-loop-less Inv-loop μ-loop
 loop-less c = search needs
 
 loop-again : tie.Need-loop-again Inv-loop μ-loop
-loop-again c = (sym (size-next (c .before .before .before .before .before .loop .size) (c .before .before .before .before .before .before .args .w .now) (c .before .before .before .before .before .loop .i) (c .before .before .before .before .loop-test .taken) (c .before .before .if1 .left) (c .before .if2 .left) (c .if3 .left)) ∙ c .before .before .before .before .before .loop .inv .0, c .if3 .left, omega arith)
+loop-again c = (sym (size-next _ _ _ (c .before .before .before .before .loop-test .taken) (c .before .before .if1 .left) (c .before .if2 .left) (c .if3 .left)) ∙ c .before .before .before .before .before .loop .inv .0, c .if3 .left, omega arith)
 
 returns-4 : tie.Need-returns-4 Inv-loop μ-loop
-returns-4 c = sym (size-end (c .before .loop .size) (c .before .before .args .w .now) (c .before .loop .i) (c .loop-test .left)) ∙ c .before .loop .inv .0
+returns-4 c = sym (size-end _ _ _ (c .loop-test .left)) ∙ c .before .loop .inv .0
 
 pub part-size-spec : {M : Type 1} → statement M
 part-size-spec =

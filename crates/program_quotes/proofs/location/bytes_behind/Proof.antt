@@ -32,10 +32,10 @@ loop-less : tie.Need-loop-less Inv-loop μ-loop
 loop-less c = search needs
 
 loop-again : tie.Need-loop-again Inv-loop μ-loop
-loop-again c = ⊎-elim (λ w. (rw (w .1) (sym (behind-here (c .before .before .before .loop .n) (c .before .before .before .before .args .s .now) (c .before .before .before .loop .i) (c .before .before .loop-test .taken) (w .0 .taken)) ∙ c .before .before .before .loop .inv .0), omega arith, omega arith)) (λ w. (rw (w .1) (sym (behind-later (c .before .before .before .loop .n) (c .before .before .before .before .args .s .now) (c .before .before .before .loop .i) (c .before .before .loop-test .taken) (w .0 .left)) ∙ c .before .before .before .loop .inv .0), omega arith, omega arith)) (c .if1 .came)
+loop-again c = let c2 = c .before .before in ⊎-elim (λ w. (rw (w .1) (sym (behind-here _ _ _ (c2 .loop-test .taken) (w .0 .taken)) ∙ c2 .before .loop .inv .0), omega arith, omega arith)) (λ w. (rw (w .1) (sym (behind-later _ _ _ (c2 .loop-test .taken) (w .0 .left)) ∙ c2 .before .loop .inv .0), omega arith, omega arith)) (c .if1 .came)
 
 returns : tie.Need-returns Inv-loop μ-loop
-returns c = (sym (behind-end (c .before .loop .n) (c .before .before .args .s .now) (c .before .loop .i) (c .loop-test .left)) ∙ c .before .loop .inv .0, omega arith)
+returns c = (sym (behind-end _ _ _ (c .loop-test .left)) ∙ c .before .loop .inv .0, omega arith)
 
 pub bytes-behind-spec : {M : Type 1} → statement M
 bytes-behind-spec =

@@ -32,7 +32,7 @@ loop-less : tie.Need-loop-less Inv-loop μ-loop
 loop-less c = search needs
 
 loop-again : tie.Need-loop-again Inv-loop μ-loop
-loop-again c = ⊎-elim (λ w. (omega (arith, ends-here (c .before .before .before .before .args .s .now) (c .before .before .before .loop .i) (c .before .before .loop-test .taken) (w .0 .taken)), omega arith, omega arith)) (λ w. (omega (arith, ends-later (c .before .before .before .before .args .s .now) (c .before .before .before .loop .i) (c .before .before .loop-test .taken) (w .0 .left)), omega arith, omega arith)) (c .if1 .came)
+loop-again c = let c2 = c .before .before in ⊎-elim (λ w. (omega (arith, ends-here (c2 .before .before .args .s .now) (c2 .before .loop .i) (c2 .loop-test .taken) (w .0 .taken)), omega arith, omega arith)) (λ w. (omega (arith, ends-later (c2 .before .before .args .s .now) (c2 .before .loop .i) (c2 .loop-test .taken) (w .0 .left)), omega arith, omega arith)) (c .if1 .came)
 
 returns : tie.Need-returns Inv-loop μ-loop
 returns c = (omega (arith, ends-end (c .before .before .args .s .now) (c .before .loop .i) (c .loop-test .left)), omega arith)

@@ -17,16 +17,16 @@ bytes-behind-requires : tie.Need-bytes-behind-requires
 bytes-behind-requires c κs = search needs
 
 sub-result : tie.Need-sub-result
-sub-result c = omega (arith, front-most (c .before .before .before .before .args .text .now) (c .before .before .before .before .args .place), ap (λ (l : List ℕ). length l) (c .before .before .part-of .ensures ∙ front (c .before .before .before .before .args .text .now) (c .before .before .before .before .args .place)))
+sub-result c = let c2 = c .before .before in let c4 = c2 .before .before in omega (arith, front-most (c4 .args .text .now) (c4 .args .place), ap (λ (l : List ℕ). length l) (c2 .part-of .ensures ∙ front (c4 .args .text .now) (c4 .args .place)))
 
 returns : tie.Need-returns
-returns c = from-near (c .before .before .before .before .args .text .now) (c .before .before .before .before .args .place) (c .before .bytes-behind .result) (c .before .bytes-behind .ensures .0 ∙ ap (λ (l : List ℕ). behind 0 l) (c .before .before .part-of .ensures ∙ front (c .before .before .before .before .args .text .now) (c .before .before .before .before .args .place))) (c .if1 .taken)
+returns c = let c2 = c .before .before in let c4 = c2 .before .before in from-near (c4 .args .text .now) (c4 .args .place) (c .before .bytes-behind .result) (c .before .bytes-behind .ensures .0 ∙ ap (λ (l : List ℕ). behind 0 l) (c2 .part-of .ensures ∙ front (c4 .args .text .now) (c4 .args .place))) (c .if1 .taken)
 
 sub-result-2 : tie.Need-sub-result-2
-sub-result-2 c = omega (arith, front-most (c .before .before .before .before .args .text .now) (c .before .before .before .before .args .place), ap (λ (l : List ℕ). length l) (c .before .before .part-of .ensures ∙ front (c .before .before .before .before .args .text .now) (c .before .before .before .before .args .place)))
+sub-result-2 c = let c2 = c .before .before in let c4 = c2 .before .before in omega (arith, front-most (c4 .args .text .now) (c4 .args .place), ap (λ (l : List ℕ). length l) (c2 .part-of .ensures ∙ front (c4 .args .text .now) (c4 .args .place)))
 
 returns-2 : tie.Need-returns-2
-returns-2 c = from-far (c .before .before .before .before .args .text .now) (c .before .before .before .before .args .place) (c .before .bytes-behind .result) (c .before .bytes-behind .ensures .0 ∙ ap (λ (l : List ℕ). behind 0 l) (c .before .before .part-of .ensures ∙ front (c .before .before .before .before .args .text .now) (c .before .before .before .before .args .place))) (c .if1 .left)
+returns-2 c = let c2 = c .before .before in let c4 = c2 .before .before in from-far (c4 .args .text .now) (c4 .args .place) (c .before .bytes-behind .result) (c .before .bytes-behind .ensures .0 ∙ ap (λ (l : List ℕ). behind 0 l) (c2 .part-of .ensures ∙ front (c4 .args .text .now) (c4 .args .place))) (c .if1 .left)
 
 pub quoted-from-spec : {M : Type 1} → statement M
 quoted-from-spec =

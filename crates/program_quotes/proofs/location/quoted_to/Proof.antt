@@ -20,16 +20,16 @@ bytes-ahead-requires : tie.Need-bytes-ahead-requires
 bytes-ahead-requires c κs = search needs
 
 add-result : tie.Need-add-result
-add-result c = omega (arith, length-drop (c .before .before .before .quoted-from .result) (c .before .before .before .before .before .args .text .now), ap (λ (l : List ℕ). length l) (c .before .before .part-of .ensures ∙ rest (c .before .before .before .before .before .args .text .now) (c .before .before .before .quoted-from .result)))
+add-result c = let c2 = c .before .before in omega (arith, length-drop (c2 .before .quoted-from .result) (c2 .before .before .before .args .text .now), ap (λ (l : List ℕ). length l) (c2 .part-of .ensures ∙ rest (c2 .before .before .before .args .text .now) (c2 .before .quoted-from .result)))
 
 returns : tie.Need-returns
-returns c = to-short (c .before .before .before .before .before .args .text .now) (c .before .before .before .before .before .args .place) (c .before .before .before .quoted-from .result) (c .before .bytes-ahead .result) (c .before .before .before .quoted-from .ensures) (c .before .bytes-ahead .ensures .0 ∙ ap (λ (l : List ℕ). ahead l) (c .before .before .part-of .ensures ∙ rest (c .before .before .before .before .before .args .text .now) (c .before .before .before .quoted-from .result))) (c .if1 .taken)
+returns c = let c1 = c .before in let c3 = c1 .before .before in to-short (c3 .before .before .args .text .now) (c3 .before .before .args .place) (c3 .quoted-from .result) (c1 .bytes-ahead .result) (c3 .quoted-from .ensures) (c1 .bytes-ahead .ensures .0 ∙ ap (λ (l : List ℕ). ahead l) (c1 .before .part-of .ensures ∙ rest (c3 .before .before .args .text .now) (c3 .quoted-from .result))) (c .if1 .taken)
 
 add-result-2 : tie.Need-add-result-2
-add-result-2 c = omega (arith, length-drop (c .before .before .before .quoted-from .result) (c .before .before .before .before .before .args .text .now), ap (λ (l : List ℕ). length l) (c .before .before .part-of .ensures ∙ rest (c .before .before .before .before .before .args .text .now) (c .before .before .before .quoted-from .result)))
+add-result-2 c = let c2 = c .before .before in omega (arith, length-drop (c2 .before .quoted-from .result) (c2 .before .before .before .args .text .now), ap (λ (l : List ℕ). length l) (c2 .part-of .ensures ∙ rest (c2 .before .before .before .args .text .now) (c2 .before .quoted-from .result)))
 
 returns-2 : tie.Need-returns-2
-returns-2 c = to-long (c .before .before .before .before .before .args .text .now) (c .before .before .before .before .before .args .place) (c .before .before .before .quoted-from .result) (c .before .bytes-ahead .result) (c .before .before .before .quoted-from .ensures) (c .before .bytes-ahead .ensures .0 ∙ ap (λ (l : List ℕ). ahead l) (c .before .before .part-of .ensures ∙ rest (c .before .before .before .before .before .args .text .now) (c .before .before .before .quoted-from .result))) (c .if1 .left)
+returns-2 c = let c1 = c .before in let c3 = c1 .before .before in to-long (c3 .before .before .args .text .now) (c3 .before .before .args .place) (c3 .quoted-from .result) (c1 .bytes-ahead .result) (c3 .quoted-from .ensures) (c1 .bytes-ahead .ensures .0 ∙ ap (λ (l : List ℕ). ahead l) (c1 .before .part-of .ensures ∙ rest (c3 .before .before .args .text .now) (c3 .quoted-from .result))) (c .if1 .left)
 
 pub quoted-to-spec : {M : Type 1} → statement M
 quoted-to-spec =

@@ -16,7 +16,7 @@ returns : tie.Need-returns
 returns c = simp (sym (c .before .before .kind-of .ensures) ∙ c .enum-told .given .1)
 
 returns-2 : tie.Need-returns-2
-returns-2 c = sym (not-white (kindOf (c .before .before .args .b)) (rw (c .before .kind-of .ensures) at (c .match .keys2)))
+returns-2 c = sym (not-white (kindOf _) (rw (c .before .kind-of .ensures) at (c .match .keys2)))
 
 pub is-white-spec : {M : Type 1} → statement M
 is-white-spec = tie.close (tie.spec kind-of-requires enum-told returns returns-2)

@@ -27,7 +27,7 @@ returns-4 c = kind-at 0 9 K.Refused (c .before .before .before .args .b) refl (o
 
 returns-5 : tie.Need-returns-5
 unfolding kindOf bytes
-returns-5 c = let n13 : ((c .before .before .before .before .before .args .b) ≡ 13 → ⊥) = λ e. c .before .before .before .before .match .rest .0 .1 (inl e) in elim (decLe (c .before .before .before .before .before .args .b) 12) [ yes k ↦ kind-at 11 2 K.Refused (c .before .before .before .before .before .args .b) refl (omega arith) (omega arith) | no k ↦ kind-at 14 18 K.Refused (c .before .before .before .before .before .args .b) refl (omega arith) (omega arith) ]
+returns-5 c = let c4 = c .before .before .before .before in let n13 : ((c4 .before .args .b) ≡ 13 → ⊥) = λ e. c4 .match .rest .0 .1 (inl e) in elim (decLe (c4 .before .args .b) 12) [ yes k ↦ kind-at 11 2 K.Refused (c4 .before .args .b) refl (omega arith) (omega arith) | no k ↦ kind-at 14 18 K.Refused (c4 .before .args .b) refl (omega arith) (omega arith) ]
 
 returns-6 : tie.Need-returns-6
 unfolding kindOf bytes
@@ -47,7 +47,7 @@ returns-9 c = rw (c .match .keys3)
 
 returns-10 : tie.Need-returns-10
 unfolding kindOf bytes
-returns-10 c = let n32 : ((c .before .before .before .before .before .before .args .b) ≡ 32 → ⊥) = λ e. c .before .before .before .before .before .match .rest .0 .1 (inr e) in kind-at 33 7 K.Mark (c .before .before .before .before .before .before .args .b) refl (omega arith) (omega arith)
+returns-10 c = let c5 = c .before .before .before .before .before in let n32 : ((c5 .before .args .b) ≡ 32 → ⊥) = λ e. c5 .match .rest .0 .1 (inr e) in kind-at 33 7 K.Mark (c5 .before .args .b) refl (omega arith) (omega arith)
 
 returns-11 : tie.Need-returns-11
 unfolding kindOf bytes
@@ -59,7 +59,7 @@ returns-12 c = kind-at 58 7 K.Mark (c .before .before .before .args .b) refl (om
 
 returns-13 : tie.Need-returns-13
 unfolding kindOf bytes
-returns-13 c = let n91 : ((c .before .before .before .before .before .args .b) ≡ 91 → ⊥) = λ e. c .before .before .before .before .match .rest .0 .0 .1 (inl e) in let n92 : ((c .before .before .before .before .before .args .b) ≡ 92 → ⊥) = λ e. c .before .before .before .before .match .rest .1 e in let n93 : ((c .before .before .before .before .before .args .b) ≡ 93 → ⊥) = λ e. c .before .before .before .before .match .rest .0 .0 .1 (inr e) in kind-at 94 3 K.Mark (c .before .before .before .before .before .args .b) refl (omega arith) (omega arith)
+returns-13 c = let c4 = c .before .before .before .before in let n91 : ((c4 .before .args .b) ≡ 91 → ⊥) = λ e. c4 .match .rest .0 .0 .1 (inl e) in let n92 : ((c4 .before .args .b) ≡ 92 → ⊥) = λ e. c4 .match .rest .1 e in let n93 : ((c4 .before .args .b) ≡ 93 → ⊥) = λ e. c4 .match .rest .0 .0 .1 (inr e) in kind-at 94 3 K.Mark (c4 .before .args .b) refl (omega arith) (omega arith)
 
 returns-14 : tie.Need-returns-14
 unfolding kindOf bytes

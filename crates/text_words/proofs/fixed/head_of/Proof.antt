@@ -75,7 +75,7 @@ returns-13 c = simp (sym (c .before .before .before .before .word-in .ensures) �
 
 returns-14 : tie.Need-returns-14
 unfolding headOf bytes
-returns-14 c = picked-past heads H.Other _ (c .before .before .f .given .0 .0) (sym (c .before .before .before .before .word-in .ensures) ∙ c .before .before .f .given .1) (not-yet 11 (c .before .before .f .given .0 .0) (not-yet 10 (c .before .before .f .given .0 .0) (not-yet 9 (c .before .before .f .given .0 .0) (not-yet 8 (c .before .before .f .given .0 .0) (not-yet 7 (c .before .before .f .given .0 .0) (not-yet 6 (c .before .before .f .given .0 .0) (not-yet 5 (c .before .before .f .given .0 .0) (not-yet 4 (c .before .before .f .given .0 .0) (not-yet 3 (c .before .before .f .given .0 .0) (not-yet 2 (c .before .before .f .given .0 .0) (not-yet 1 (c .before .before .f .given .0 .0) (not-yet 0 (c .before .before .f .given .0 .0) (omega arith) (c .match2 .rest .0 .0 .0 .0 .0 .0 .0 .0 .0 .0 .0 .1)) (c .match2 .rest .0 .0 .0 .0 .0 .0 .0 .0 .0 .0 .1)) (c .match2 .rest .0 .0 .0 .0 .0 .0 .0 .0 .0 .1)) (c .match2 .rest .0 .0 .0 .0 .0 .0 .0 .0 .1)) (c .match2 .rest .0 .0 .0 .0 .0 .0 .0 .1)) (c .match2 .rest .0 .0 .0 .0 .0 .0 .1)) (c .match2 .rest .0 .0 .0 .0 .0 .1)) (c .match2 .rest .0 .0 .0 .0 .1)) (c .match2 .rest .0 .0 .0 .1)) (c .match2 .rest .0 .0 .1)) (c .match2 .rest .0 .1)) (c .match2 .rest .1))
+returns-14 c = let c2 = c .before .before in picked-past heads H.Other _ (c2 .f .given .0 .0) (sym (c2 .before .before .word-in .ensures) ∙ c2 .f .given .1) (not-yet 11 (c2 .f .given .0 .0) (not-yet 10 (c2 .f .given .0 .0) (not-yet 9 (c2 .f .given .0 .0) (not-yet 8 (c2 .f .given .0 .0) (not-yet 7 (c2 .f .given .0 .0) (not-yet 6 (c2 .f .given .0 .0) (not-yet 5 (c2 .f .given .0 .0) (not-yet 4 (c2 .f .given .0 .0) (not-yet 3 (c2 .f .given .0 .0) (not-yet 2 (c2 .f .given .0 .0) (not-yet 1 (c2 .f .given .0 .0) (not-yet 0 (c2 .f .given .0 .0) (omega arith) (c .match2 .rest .0 .0 .0 .0 .0 .0 .0 .0 .0 .0 .0 .1)) (c .match2 .rest .0 .0 .0 .0 .0 .0 .0 .0 .0 .0 .1)) (c .match2 .rest .0 .0 .0 .0 .0 .0 .0 .0 .0 .1)) (c .match2 .rest .0 .0 .0 .0 .0 .0 .0 .0 .1)) (c .match2 .rest .0 .0 .0 .0 .0 .0 .0 .1)) (c .match2 .rest .0 .0 .0 .0 .0 .0 .1)) (c .match2 .rest .0 .0 .0 .0 .0 .1)) (c .match2 .rest .0 .0 .0 .0 .1)) (c .match2 .rest .0 .0 .0 .1)) (c .match2 .rest .0 .0 .1)) (c .match2 .rest .0 .1)) (c .match2 .rest .1))
 
 pub head-of-spec : {M : Type 1} → statement M
 head-of-spec =

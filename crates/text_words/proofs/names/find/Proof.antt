@@ -25,7 +25,7 @@ sub-if1 : tie.Need-sub-if1 Inv-loop μ-loop
 sub-if1 c = omega arith
 
 returns : tie.Need-returns Inv-loop μ-loop
-returns c = sym (c .before .before .loop .inv .2 ∙ find-short (now (c .before .before .before .before .before .args .rows)) (now (c .before .before .before .before .before .args .w)) (c .before .before .before .before .before .args .n) (c .before .before .loop .i) (c .before .before .loop .at) (c .before .loop-test .taken) (c .if1 .taken))
+returns c = let c2 = c .before .before in let c5 = c2 .before .before .before in sym (c2 .loop .inv .2 ∙ find-short (now (c5 .args .rows)) (now (c5 .args .w)) (c5 .args .n) (c2 .loop .i) (c2 .loop .at) (c .before .loop-test .taken) (c .if1 .taken))
 
 shared-slice-read-length-in : tie.Need-shared-slice-read-length-in Inv-loop μ-loop
 shared-slice-read-length-in c = omega arith
@@ -52,7 +52,7 @@ same-word-requires : tie.Need-same-word-requires Inv-loop μ-loop
 same-word-requires c κs = tt
 
 returns-2 : tie.Need-returns-2 Inv-loop μ-loop
-returns-2 c = sym (c .before .before .before .before .before .before .before .before .loop .inv .2 ∙ find-found (now (c .before .before .before .before .before .before .before .before .before .before .before .args .rows)) (now (c .before .before .before .before .before .before .before .before .before .before .before .args .w)) (c .before .before .before .before .before .before .before .before .before .before .before .args .n) (c .before .before .before .before .before .before .before .before .loop .i) (c .before .before .before .before .before .before .before .before .loop .at) (c .before .before .before .before .length-in .result) (c .before .before .before .before .before .before .before .loop-test .taken) (omega arith) (c .before .before .before .before .length-in .ensures) (sym (c .before .same-word .ensures) ∙ c .if3 .taken))
+returns-2 c = let c4 = c .before .before .before .before in sym (c4 .before .before .before .before .loop .inv .2 ∙ find-found _ _ _ _ _ _ (c4 .before .before .before .loop-test .taken) (omega arith) (c4 .length-in .ensures) (sym (c .before .same-word .ensures) ∙ c .if3 .taken))
 
 add-at : tie.Need-add-at Inv-loop μ-loop
 add-at c = omega arith
@@ -64,10 +64,10 @@ loop-less : tie.Need-loop-less Inv-loop μ-loop
 loop-less c = omega arith
 
 loop-again : tie.Need-loop-again Inv-loop μ-loop
-loop-again c = (omega arith, omega arith, c .before .before .before .before .before .loop .inv .2 ∙ ⊎-elim (λ o. find-other (now (c .before .before .before .before .before .before .before .before .args .rows)) (now (c .before .before .before .before .before .before .before .before .args .w)) (c .before .before .before .before .before .before .before .before .args .n) (c .before .before .before .before .before .loop .i) (c .before .before .before .before .before .loop .at) (c .before .length-in .result) (c .before .before .before .before .loop-test .taken) (omega arith) (c .before .length-in .ensures) (sym (o .2 .ensures) ∙ o .3 .left)) (λ o. find-other-length (now (c .before .before .before .before .before .before .before .before .args .rows)) (now (c .before .before .before .before .before .before .before .before .args .w)) (c .before .before .before .before .before .before .before .before .args .n) (c .before .before .before .before .before .loop .i) (c .before .before .before .before .before .loop .at) (c .before .length-in .result) (c .before .before .before .before .loop-test .taken) (omega arith) (c .before .length-in .ensures) (o .left)) (c .if2 .came))
+loop-again c = let c1 = c .before in let c4 = c1 .before .before .before in let c5 = c4 .before in let c8 = c5 .before .before .before in (omega arith, omega arith, c5 .loop .inv .2 ∙ ⊎-elim (λ o. find-other (now (c8 .args .rows)) (now (c8 .args .w)) (c8 .args .n) (c5 .loop .i) (c5 .loop .at) (c1 .length-in .result) (c4 .loop-test .taken) (omega arith) (c1 .length-in .ensures) (sym (o .2 .ensures) ∙ o .3 .left)) (λ o. find-other-length (now (c8 .args .rows)) (now (c8 .args .w)) (c8 .args .n) (c5 .loop .i) (c5 .loop .at) (c1 .length-in .result) (c4 .loop-test .taken) (omega arith) (c1 .length-in .ensures) (o .left)) (c .if2 .came))
 
 returns-3 : tie.Need-returns-3 Inv-loop μ-loop
-returns-3 c = sym (c .before .loop .inv .2 ∙ find-over (now (c .before .before .before .before .args .rows)) (now (c .before .before .before .before .args .w)) (c .before .before .before .before .args .n) (c .before .loop .i) (c .before .loop .at) (c .loop-test .left))
+returns-3 c = let c4 = c .before .before .before .before in sym (c .before .loop .inv .2 ∙ find-over (now (c4 .args .rows)) (now (c4 .args .w)) (c4 .args .n) (c .before .loop .i) (c .before .loop .at) (c .loop-test .left))
 
 pub find-spec : {M : Type 1} → statement M
 find-spec =

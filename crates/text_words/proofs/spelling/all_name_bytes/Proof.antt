@@ -26,7 +26,7 @@ is-name-byte-requires : tie.Need-is-name-byte-requires Inv-loop μ-loop
 is-name-byte-requires c κs = tt
 
 returns : tie.Need-returns Inv-loop μ-loop
-returns c = sym (c .before .before .before .before .loop .inv ∙ name-step (now (c .before .before .before .before .before .before .args .w)) (c .before .before .before .before .loop .at) (c .before .before .before .loop-test .taken) ∙ simp (sym (c .before .is-name-byte .ensures), not-true (c .before .is-name-byte .result) (c .if1 .taken)))
+returns c = let c3 = c .before .before .before in sym (c3 .before .loop .inv ∙ name-step (now (c3 .before .before .before .args .w)) (c3 .before .loop .at) (c3 .loop-test .taken) ∙ simp (sym (c .before .is-name-byte .ensures), not-true (c .before .is-name-byte .result) (c .if1 .taken)))
 
 add-at : tie.Need-add-at Inv-loop μ-loop
 add-at c = omega arith
@@ -35,10 +35,10 @@ loop-less : tie.Need-loop-less Inv-loop μ-loop
 loop-less c = omega arith
 
 loop-again : tie.Need-loop-again Inv-loop μ-loop
-loop-again c = c .before .before .before .before .loop .inv ∙ name-step (now (c .before .before .before .before .before .before .args .w)) (c .before .before .before .before .loop .at) (c .before .before .before .loop-test .taken) ∙ simp (sym (c .before .is-name-byte .ensures), not-false (c .before .is-name-byte .result) (c .if1 .left))
+loop-again c = let c3 = c .before .before .before in c3 .before .loop .inv ∙ name-step (now (c3 .before .before .before .args .w)) (c3 .before .loop .at) (c3 .loop-test .taken) ∙ simp (sym (c .before .is-name-byte .ensures), not-false (c .before .is-name-byte .result) (c .if1 .left))
 
 returns-2 : tie.Need-returns-2 Inv-loop μ-loop
-returns-2 c = sym (c .before .loop .inv ∙ name-end (now (c .before .before .before .args .w)) (c .before .loop .at) (c .loop-test .left))
+returns-2 c = sym (c .before .loop .inv ∙ name-end _ _ (c .loop-test .left))
 
 pub all-name-bytes-spec : {M : Type 1} → statement M
 all-name-bytes-spec =

@@ -13,7 +13,7 @@ use Rattle.text_words.proofs.spelling.is_name.Statement.{statement}
 use Rattle.text_words.proofs.spelling.is_name.Tie as tie
 
 returns : tie.Need-returns
-returns c = sym (name-none (now (c .before .before .args .w)) (c .before .before .args .from) (c .if1 .taken))
+returns c = sym (name-none _ _ (c .if1 .taken))
 
 shared-slice-read-kind-of : tie.Need-shared-slice-read-kind-of
 shared-slice-read-kind-of c = search needs
@@ -25,7 +25,7 @@ enum-told : tie.Need-enum-told
 enum-told c = search needs
 
 returns-2 : tie.Need-returns-2
-returns-2 c = sym (name-some (now (c .before .before .before .before .before .args .w)) (c .before .before .before .before .before .args .from) (c .before .before .before .if1 .left) ∙ ap (λ (t : Bool). t && nameBytes (drop (c .before .before .before .before .before .args .from + 1) (now (c .before .before .before .before .before .args .w)))) (not-letter (kindOf (getD (now (c .before .before .before .before .before .args .w)) (c .before .before .before .before .before .args .from) 0)) (rw (c .before .kind-of .ensures) at (c .match .keys2))))
+returns-2 c = let c1 = c .before in let c3 = c1 .before .before in let c5 = c3 .before .before in sym (name-some (now (c5 .args .w)) (c5 .args .from) (c3 .if1 .left) ∙ ap (λ (t : Bool). t && nameBytes (drop (c5 .args .from + 1) (now (c5 .args .w)))) (not-letter (kindOf (getD (now (c5 .args .w)) (c5 .args .from) 0)) (rw (c1 .kind-of .ensures) at (c .match .keys2))))
 
 add-all-name-bytes : tie.Need-add-all-name-bytes
 add-all-name-bytes c = search needs
@@ -34,7 +34,7 @@ all-name-bytes-requires : tie.Need-all-name-bytes-requires
 all-name-bytes-requires c κs = search needs
 
 returns-3 : tie.Need-returns-3
-returns-3 c = c .all-name-bytes .ensures ∙ sym (name-some (now (c .before .before .before .before .before .before .before .args .w)) (c .before .before .before .before .before .before .before .args .from) (c .before .before .before .before .before .if1 .left) ∙ simp (sym (c .before .before .before .kind-of .ensures) ∙ c .before .enum-told .given .1))
+returns-3 c = c .all-name-bytes .ensures ∙ sym (name-some _ _ (c .before .before .before .before .before .if1 .left) ∙ simp (sym (c .before .before .before .kind-of .ensures) ∙ c .before .enum-told .given .1))
 
 pub is-name-spec : {M : Type 1} → statement M
 is-name-spec =

@@ -17,10 +17,10 @@ abbrev μ-loop : tie.MeasureT-loop
 μ-loop a b i₀ i = i
 
 returns : tie.Need-returns Inv-loop μ-loop
-returns c = sym (same-length (now (c .before .before .before .args .a)) (now (c .before .before .before .args .b)) (c .if1 .taken))
+returns c = sym (same-length _ _ (c .if1 .taken))
 
 loop-holds : tie.Need-loop-holds Inv-loop μ-loop
-loop-holds c = (omega arith, same-over (now (c .before .before .before .args .a)) (now (c .before .before .before .args .b)) (length (now (c .before .before .before .args .a))) (omega arith) (omega arith))
+loop-holds c = let c3 = c .before .before .before in (omega arith, same-over (now (c3 .args .a)) (now (c3 .args .b)) (length (now (c3 .args .a))) (omega arith) (omega arith))
 
 sub-i : tie.Need-sub-i Inv-loop μ-loop
 sub-i c = omega arith
@@ -38,13 +38,13 @@ lower-requires-2 : tie.Need-lower-requires-2 Inv-loop μ-loop
 lower-requires-2 c κs = tt
 
 returns-2 : tie.Need-returns-2 Inv-loop μ-loop
-returns-2 c = sym (other-before (now (c .before .before .before .before .before .before .before .before .before .before .args .a)) (now (c .before .before .before .before .before .before .before .before .before .before .args .b)) (c .before .before .before .before .before .before .loop .i) (c .before .before .before .before .before .loop-test .taken) (c .before .before .before .before .before .before .loop .inv .0) (omega arith) (λ e. c .if2 .taken (c .before .before .before .lower .ensures ∙ e ∙ sym (c .before .lower2 .ensures))))
+returns-2 c = let c3 = c .before .before .before in sym (other-before _ _ _ (c3 .before .before .loop-test .taken) (c3 .before .before .before .loop .inv .0) (omega arith) (λ e. c .if2 .taken (c3 .lower .ensures ∙ e ∙ sym (c .before .lower2 .ensures))))
 
 loop-less : tie.Need-loop-less Inv-loop μ-loop
 loop-less c = omega arith
 
 loop-again : tie.Need-loop-again Inv-loop μ-loop
-loop-again c = (omega arith, same-before (now (c .before .before .before .before .before .before .before .before .before .before .args .a)) (now (c .before .before .before .before .before .before .before .before .before .before .args .b)) (c .before .before .before .before .before .before .loop .i) (c .before .before .before .before .before .loop-test .taken) (c .before .before .before .before .before .before .loop .inv .0) (omega arith) (sym (c .before .before .before .lower .ensures) ∙ c .if2 .left ∙ c .before .lower2 .ensures) (c .before .before .before .before .before .before .loop .inv .1))
+loop-again c = let c3 = c .before .before .before in (omega arith, same-before _ _ _ (c3 .before .before .loop-test .taken) (c3 .before .before .before .loop .inv .0) (omega arith) (sym (c3 .lower .ensures) ∙ c .if2 .left ∙ c .before .lower2 .ensures) (c3 .before .before .before .loop .inv .1))
 
 returns-3 : tie.Need-returns-3 Inv-loop μ-loop
 returns-3 c = let e : c .before .loop .i ≡ 0 = omega arith in sym (rw e at (c .before .loop .inv .1))

@@ -22,7 +22,7 @@ shared-slice-read-if1 : tie.Need-shared-slice-read-if1 Inv-loop μ-loop
 shared-slice-read-if1 c = omega arith
 
 returns : tie.Need-returns Inv-loop μ-loop
-returns c = sym (c .before .before .before .loop .inv ∙ space-here (now (c .before .before .before .before .args .list)) (c .before .before .before .loop .at) (c .before .before .loop-test .taken) (c .if1 .taken))
+returns c = sym (c .before .before .before .loop .inv ∙ space-here _ _ (c .before .before .loop-test .taken) (c .if1 .taken))
 
 add-at : tie.Need-add-at Inv-loop μ-loop
 add-at c = omega arith
@@ -31,10 +31,10 @@ loop-less : tie.Need-loop-less Inv-loop μ-loop
 loop-less c = omega arith
 
 loop-again : tie.Need-loop-again Inv-loop μ-loop
-loop-again c = c .before .before .before .loop .inv ∙ space-later (now (c .before .before .before .before .args .list)) (c .before .before .before .loop .at) (c .before .before .loop-test .taken) (c .if1 .left)
+loop-again c = c .before .before .before .loop .inv ∙ space-later _ _ (c .before .before .loop-test .taken) (c .if1 .left)
 
 returns-2 : tie.Need-returns-2 Inv-loop μ-loop
-returns-2 c = sym (c .before .loop .inv ∙ space-end (now (c .before .before .args .list)) (c .before .loop .at) (c .loop-test .left))
+returns-2 c = sym (c .before .loop .inv ∙ space-end _ _ (c .loop-test .left))
 
 pub space-from-spec : {M : Type 1} → statement M
 space-from-spec =
