@@ -32,6 +32,7 @@ use Rattle.check_calls.specs.Calls.{wellFormed, anyState, rulesOn, known
 use Rattle.check_calls.specs.Calls.{fed, standing, answering, withFinish, whileOpen, feedOf, finishOf}
 use Rattle.check_calls.proofs.Formed.{formed-parts, formed-sound}
 use Rattle.check_calls.proofs.Storing.{stored-held, stored-refused, ended-refused, ended-run}
+use Rattle.domain_rows.specs.Layout.{tablesLength}
 
 -- ---- 19 and 21
 
@@ -46,7 +47,7 @@ module _ (c : Check) (next : Reply) where
 
 -- the arrays are as long as their types say
 pub record Long (c : Check) : Type 0 where
-  pub tables : length (c .model .tables) ≡ 5054
+  pub tables : length (c .model .tables) ≡ tablesLength
   pub heads : length (c .model .actions) ≡ 1216
   pub code : length (c .model .code) ≡ 32768
   pub line : length (c .line) ≡ 257

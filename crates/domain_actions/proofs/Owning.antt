@@ -18,35 +18,37 @@ use Rattle.domain_typed_lists.proofs.Outcomes.{As}
 use Rattle.domain_terms.specs.Scoped.{Scoped, Scopes}
 use Rattle.domain_terms.specs.declared.scope.Counts.{Counts}
 use Rattle.domain_actions.specs.Titles.{acting, Owned}
+use Rattle.domain_rows.specs.Layout.{objectsAt, predicatesAt, functionsAt, variablesAt, tablesLength}
 
 -- types that are lent as a part of the tables
-pub types-held : (tables types : List ℕ) (n : Counts) (c : Scope) → types ≡ part tables 0 646 → Scoped tables n c → Holds 17 types (n .types) (c .types)
+pub types-held : (tables types : List ℕ) (n : Counts) (c : Scope) → types ≡ part tables 0 objectsAt → Scoped tables n c → Holds 17 types (n .types) (c .types)
 types-held tables types n c e s = rw e (s .types)
 
-pub types-stand : (tables types : List ℕ) (n : Counts) → types ≡ part tables 0 646 → Scopes tables n → Stands 17 types (n .types)
+pub types-stand : (tables types : List ℕ) (n : Counts) → types ≡ part tables 0 objectsAt → Scopes tables n → Stands 17 types (n .types)
 types-stand tables types n e s = (s .0 .types, types-held tables types n (s .0) e (s .1))
 
 -- the variables' rows stored over those of the tables
-stored : (tables table : List ℕ) (n : Counts) (c : Scope) (v : ℕ) (vs : Table) → Scoped tables n c → length tables ≡ 5054 → Holds 4 table v vs
-    → Scoped (sets tables 4902 table) (acting n v) (within c vs)
+stored : (tables table : List ℕ) (n : Counts) (c : Scope) (v : ℕ) (vs : Table) → Scoped tables n c → length tables ≡ tablesLength → Holds 4 table v vs
+    → Scoped (sets tables variablesAt table) (acting n v) (within c vs)
 stored tables table n c v vs s l h =
     let long = rows-long 4 table v vs h in
     record {
-      types = rw (part-before table tables 0 646 4902 (omega arith) (omega arith)) (s .types);
-      objects = rw (part-before table tables 646 3078 4902 (omega arith) (omega arith)) (s .objects);
-      predicates = rw (part-before table tables 3078 4294 4902 (omega arith) (omega arith)) (s .predicates);
-      functions = rw (part-before table tables 4294 4902 4902 (omega arith) (omega arith)) (s .functions);
-      variables = rw (part-stored tables table 4902 5054 (omega (arith, long)) (omega (arith, l))) h;
+      types = rw (part-before table tables 0 objectsAt variablesAt (omega arith) (omega arith)) (s .types);
+      objects = rw (part-before table tables objectsAt predicatesAt variablesAt (omega arith) (omega arith)) (s .objects);
+      predicates = rw (part-before table tables predicatesAt functionsAt variablesAt (omega arith) (omega arith)) (s .predicates);
+      functions = rw (part-before table tables functionsAt variablesAt variablesAt (omega arith) (omega arith)) (s .functions);
+      variables = rw (part-stored tables table variablesAt tablesLength (omega (arith, long)) (omega (arith, l))) h;
       action = refl;
       facts = s .facts;
       numbers = s .numbers;
     }
 
-module _ (tables table was copied own : List ℕ) (n : Counts) (c : Scope) (s : Scoped tables n c) (l : length tables ≡ 5054) (k : length was ≡ 5054) where
-  pub owned : (x : Read Table) (a v : ℕ) → As 4 table a v x → copied ≡ sets was 0 tables → own ≡ sets copied 4902 table → Owned c n own x
+module _ (tables table was copied own : List ℕ) (n : Counts) (c : Scope) (s : Scoped tables n c) (l : length tables ≡ tablesLength)
+    (k : length was ≡ tablesLength) where
+  pub owned : (x : Read Table) (a v : ℕ) → As 4 table a v x → copied ≡ sets was 0 tables → own ≡ sets copied variablesAt table → Owned c n own x
   unfolding Owned
   owned x a v y e f =
-      let g : own ≡ sets tables 4902 table = f ∙ ap (λ (q : List ℕ). sets q 4902 table) (e ∙ sets-whole was tables (k ∙ sym l)) in
+      let g : own ≡ sets tables variablesAt table = f ∙ ap (λ (q : List ℕ). sets q variablesAt table) (e ∙ sets-whole was tables (k ∙ sym l)) in
       rw (y .is, g) (stored tables table n c (length (y .table)) (y .table) s l (rw (y .holds .count) at (y .holds)))
 
 pub unowned : (c : Scope) (n : Counts) (own : List ℕ) (x : Read Table) (k p : ℕ) → x ≡ refused k p → Owned c n own x

@@ -15,6 +15,7 @@ ghost use Rattle.domain_meaning.specs.Domain.{actionsTo};
 ghost use Rattle.domain_rows.specs.Held.{rowsOf, Holds, Stands};
 ghost use Rattle.domain_terms.specs.Scoped.{Scoped, Scopes};
 ghost use Rattle.domain_actions.specs.Acted.{declarations, Adds, Stores, Ended, Begins, Further, Later};
+ghost use Rattle.domain_rows.specs.Layout.{tablesLength};
 
 // Behind its section's word: action n, whose row, cells and places are stored behind those of the actions before it.
 fn action_at(
@@ -29,7 +30,7 @@ fn action_at(
     used: usize,
     starts: &mut [usize],
 ) -> Parsed
-    requires { ⌜ (from ≤ length (now text)) × Scopes (now tables) counts × (length (now tables) ≡ 5054)
+    requires { ⌜ (from ≤ length (now text)) × Scopes (now tables) counts × (length (now tables) ≡ tablesLength)
         × Stands 32 (now rows) n × (used + (length (now text) - from) + 2 ≤ 18446744073709551615) ⌝ }
     ensures { λ r. ⌜ ((c : Scope) (as′ : List Action) → Scoped (now (tables .entry)) counts c → Holds 32 (now (rows .entry)) n (declarations as′)
         → Adds as′ (now (code .entry)) used (now (starts .entry)) r (now (rows .exit)) (now (code .exit)) (now (starts .exit))
@@ -85,7 +86,7 @@ pub fn actions_to(
     code: &mut [u8],
     starts: &mut [usize],
 ) -> Parsed
-    requires { ⌜ (from ≤ length (now text)) × (2 ≤ from) × Scopes (now tables) counts × (length (now tables) ≡ 5054) × (now rows ≡ rowsOf 32 []) ⌝ }
+    requires { ⌜ (from ≤ length (now text)) × (2 ≤ from) × Scopes (now tables) counts × (length (now tables) ≡ tablesLength) × (now rows ≡ rowsOf 32 []) ⌝ }
     ensures { λ r. ⌜ ((c : Scope) (k : ℕ) → Scoped (now (tables .entry)) counts c → length (now (text .entry)) - from < k
         → Stores (length (now (text .entry))) (now (code .entry)) (now (starts .entry)) r (now (rows .exit)) (now (code .exit)) (now (starts .exit))
         (actionsTo k (now (text .entry)) c [] from)) × Later (length (now (text .entry))) from r ⌝ }

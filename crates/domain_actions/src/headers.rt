@@ -15,6 +15,7 @@ ghost use Rattle.domain_rows.specs.Held.{Holds, Stands};
 ghost use Rattle.domain_typed_lists.specs.Outcome.{Signed};
 ghost use Rattle.domain_terms.specs.Scoped.{Scoped, Scopes};
 ghost use Rattle.domain_actions.specs.Titles.{titleOf, Titled, Owned, Beyond};
+ghost use Rattle.domain_rows.specs.Layout.{tablesLength};
 
 // The parameters, behind their opening bracket: `own` becomes the tables with them in it, `info` gets their number and their types.
 fn parameters_to(
@@ -25,8 +26,8 @@ fn parameters_to(
     own: &mut [u8],
     info: &mut [u8],
 ) -> Parsed
-    requires { ⌜ (from ≤ length (now text)) × Scopes (now tables) counts × (length (now tables) ≡ 5054)
-        × (length (now own) ≡ 5054) × (length (now info) ≡ 5) ⌝ }
+    requires { ⌜ (from ≤ length (now text)) × Scopes (now tables) counts × (length (now tables) ≡ tablesLength)
+        × (length (now own) ≡ tablesLength) × (length (now info) ≡ 5) ⌝ }
     ensures { λ r. ⌜ ((c : Scope) → Scoped (now (tables .entry)) counts c
         → Signed 4 r (now (info .entry)) (now (info .exit)) (variablesTo (now (text .entry)) (c .types) 4 from) × Owned c counts (now (own .exit))
         (variablesTo (now (text .entry)) (c .types) 4 from)) × Ahead (length (now (text .entry))) from r ⌝ }
@@ -53,7 +54,8 @@ pub fn header_at(
     n: usize,
     own: &mut [u8],
 ) -> Parsed
-    requires { ⌜ (from ≤ length (now text)) × Scopes (now tables) counts × (length (now tables) ≡ 5054) × (length (now own) ≡ 5054) × Stands 32 (now rows) n ⌝ }
+    requires { ⌜ (from ≤ length (now text)) × Scopes (now tables) counts × (length (now tables) ≡ tablesLength) × (length (now own) ≡ tablesLength)
+        × Stands 32 (now rows) n ⌝ }
     ensures { λ r. ⌜ ((c : Scope) (t : Table) → Scoped (now (tables .entry)) counts c → Holds 32 (now (rows .entry)) n t
         → Titled c counts n t r (now (rows .exit)) (now (own .exit)) (titleOf (now (text .entry)) c t from))
         × Beyond (length (now (text .entry))) from r ⌝ }

@@ -17,6 +17,7 @@ use Rattle.domain_preamble.specs.Beginning.{countsOf}
 use Rattle.domain_actions.specs.Acted.{declarations}
 use Rattle.domain_domain_text.specs.declared.Known.{Known}
 use Rattle.domain_domain_text.specs.declared.Known.the-variants.{Done, Refused}
+use Rattle.domain_rows.specs.Layout.{tablesLength}
 
 -- how many names each table of a domain has
 abbrev pub countsIn : Domain → Counts
@@ -37,7 +38,7 @@ pub record Preceded (s : List ℕ) (at p e : ℕ) (counts : Counts) (tables : Li
   pub name : part s p e ≡ v .name
   pub named : e ≤ length s
   pub scope : Scoped tables counts (scopeIn v)
-  pub long : length tables ≡ 5054
+  pub long : length tables ≡ tablesLength
 
 -- the domain was read: its name from, to, its tables, the rows of its actions, their cells and where these begin
 pub record Knowing (s code starts : List ℕ) (r : Known) (tables′ rows′ code′ starts′ : List ℕ) (d : Domain) : Type 0 where
@@ -47,7 +48,7 @@ pub record Knowing (s code starts : List ℕ) (r : Known) (tables′ rows′ cod
   pub name : part s from to ≡ d .name
   pub named : to ≤ length s
   pub scope : Scoped tables′ (countsIn d) (scopeOf d (d .constants))
-  pub long : length tables′ ≡ 5054
+  pub long : length tables′ ≡ tablesLength
   pub rows : Holds 32 rows′ (length (d .actions)) (declarations (d .actions))
   pub cells : code′ ≡ sets code 0 (actionsCells (d .actions))
   pub places : starts′ ≡ sets starts 0 (startsOf 0 (d .actions))

@@ -11,6 +11,7 @@ ghost use Rattle.domain_meaning.specs.Domain.{Vocabulary, readDomain};
 ghost use Rattle.domain_rows.specs.Held.{rowsOf};
 ghost use Rattle.domain_terms.specs.Scoped.{Scopes};
 ghost use Rattle.domain_domain_text.specs.Knowing.{Preceded, Knows};
+ghost use Rattle.domain_rows.specs.Layout.{tablesLength};
 
 pub enum Known {
     // its name from, to; how many names each table has; how many actions there are
@@ -31,7 +32,7 @@ fn acting_at(
     code: &mut [u8],
     starts: &mut [usize],
 ) -> Known
-    requires { ⌜ (at ≤ length (now text)) × (2 ≤ at) × Scopes (now tables) counts × (length (now tables) ≡ 5054) × (now rows ≡ rowsOf 32 []) ⌝ }
+    requires { ⌜ (at ≤ length (now text)) × (2 ≤ at) × Scopes (now tables) counts × (length (now tables) ≡ tablesLength) × (now rows ≡ rowsOf 32 []) ⌝ }
     ensures { λ r. ⌜ ((v : Vocabulary) → Preceded (now (text .entry)) at p e counts (now (tables .entry)) v
         → Knows (now (text .entry)) (now (code .entry)) (now (starts .entry)) r (now (tables .entry)) (now (rows .exit)) (now (code .exit))
         (now (starts .exit)) (readDomain (now (text .entry)))) ⌝ }

@@ -38,6 +38,7 @@ use Rattle.domain_meaning.specs.First.{undefined}
 use Rattle.domain_init.specs.Parts.{groundOf, groundBehind, targetOf, valueFor, entryOf, Listed, Stands, Took}
 use Rattle.domain_init.proofs.Indexed.{ground-below}
 use Rattle.domain_init.proofs.States.{stands-fact, stands-number, given-is-defined, number-defined}
+use Rattle.domain_rows.specs.Layout.{predicatesAt, functionsAt, variablesAt}
 
 -- ---- tables
 
@@ -45,7 +46,7 @@ pub listed-signed : (tables : List ℕ) (off to n : ℕ) → Listed tables off t
 listed-signed tables off to n l = record { rows = l .rows; to = to; table = l .table; holds = l .holds; signed = l .signed; few = l .few; near = l .near }
 
 module _ (tables : List ℕ) (n : Counts) (c : Scope) (h : Scoped tables n c) where
-  pub predicates-listed : Listed tables 3078 4294 (n .predicates)
+  pub predicates-listed : Listed tables predicatesAt functionsAt (n .predicates)
   predicates-listed = record {
     rows = 32;
     table = c .predicates;
@@ -55,7 +56,7 @@ module _ (tables : List ℕ) (n : Counts) (c : Scope) (h : Scoped tables n c) wh
     near = omega arith;
   }
 
-  pub functions-listed : Listed tables 4294 4902 (n .functions)
+  pub functions-listed : Listed tables functionsAt variablesAt (n .functions)
   functions-listed = record {
     rows = 16;
     table = c .functions;

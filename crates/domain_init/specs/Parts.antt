@@ -18,6 +18,7 @@ use Rattle.domain_terms.specs.Scoped.{AllSigned}
 use Rattle.domain_due.specs.declared.Parsed.{Parsed}
 use Rattle.domain_due.specs.declared.Parsed.the-variants.{Done, Refused}
 use Rattle.domain_meaning.specs.First.{undefined, firstFacts, firstNumbers}
+use Rattle.domain_rows.specs.Layout.{tablesLength}
 
 -- behind its name, number i of a table: the index of a ground fact or number
 unfoldable pub groundBehind : List ℕ → ℕ → Scope → Table → ℕ → Reader ℕ
@@ -62,7 +63,7 @@ pub record Listed (tables : List ℕ) (off to n : ℕ) : Type 0 where
   pub holds : Holds rows (part tables off to) n table
   pub signed : AllSigned table
   pub few : n ≤ 64
-  pub near : off ≤ 5054
+  pub near : off ≤ tablesLength
 
 -- no value is that of an undefined number
 unfoldable pub Defined : List Valued → Type 0

@@ -11,6 +11,7 @@ use Rattle.domain_meaning.specs.Domain.{Domain}
 use Rattle.domain_rows.specs.Held.{rowsOf}
 use Rattle.domain_rows.proofs.Rows.{length-rows}
 use Rattle.domain_load.specs.Load.{tablesOf}
+use Rattle.domain_rows.specs.Layout.{objectsAt, predicatesAt, functionsAt, variablesAt}
 
 first-part : (a b : List ℕ) (e : ℕ) → length a ≡ e → part (a ++ b) 0 e ≡ a
 first-part a b e h = let k : e - 0 ≡ e = omega arith in ap (λ (j : ℕ). take j (a ++ b)) k ∙ take-at a b e h
@@ -24,7 +25,7 @@ part-past a b n p e h =
     ∙ ap (λ (l : List ℕ). take (e - p) l) (drop-append-add a b p)
 
 module _ (d : Domain) (os : Table) where
-  types-long : length (rowsOf 17 (d .types)) ≡ 646
+  types-long : length (rowsOf 17 (d .types)) ≡ objectsAt
   types-long = omega (arith, length-rows 17 (d .types))
 
   objects-long : length (rowsOf 64 os) ≡ 2432
@@ -36,25 +37,25 @@ module _ (d : Domain) (os : Table) where
   functions-long : length (rowsOf 16 (d .functions)) ≡ 608
   functions-long = omega (arith, length-rows 16 (d .functions))
 
-  pub types-part : part (tablesOf d os) 0 646 ≡ rowsOf 17 (d .types)
+  pub types-part : part (tablesOf d os) 0 objectsAt ≡ rowsOf 17 (d .types)
   unfolding tablesOf
-  types-part = first-part (rowsOf 17 (d .types)) _ 646 types-long
+  types-part = first-part (rowsOf 17 (d .types)) _ objectsAt types-long
 
-  pub objects-part : part (tablesOf d os) 646 3078 ≡ rowsOf 64 os
+  pub objects-part : part (tablesOf d os) objectsAt predicatesAt ≡ rowsOf 64 os
   unfolding tablesOf
-  objects-part = part-past (rowsOf 17 (d .types)) _ 646 0 2432 types-long ∙ first-part (rowsOf 64 os) _ 2432 objects-long
+  objects-part = part-past (rowsOf 17 (d .types)) _ objectsAt 0 2432 types-long ∙ first-part (rowsOf 64 os) _ 2432 objects-long
 
-  pub predicates-part : part (tablesOf d os) 3078 4294 ≡ rowsOf 32 (d .predicates)
+  pub predicates-part : part (tablesOf d os) predicatesAt functionsAt ≡ rowsOf 32 (d .predicates)
   unfolding tablesOf
   predicates-part =
-      part-past (rowsOf 17 (d .types)) _ 646 2432 3648 types-long
+      part-past (rowsOf 17 (d .types)) _ objectsAt 2432 3648 types-long
       ∙ part-past (rowsOf 64 os) _ 2432 0 1216 objects-long
       ∙ first-part (rowsOf 32 (d .predicates)) _ 1216 predicates-long
 
-  pub functions-part : part (tablesOf d os) 4294 4902 ≡ rowsOf 16 (d .functions)
+  pub functions-part : part (tablesOf d os) functionsAt variablesAt ≡ rowsOf 16 (d .functions)
   unfolding tablesOf
   functions-part =
-      part-past (rowsOf 17 (d .types)) _ 646 3648 4256 types-long
+      part-past (rowsOf 17 (d .types)) _ objectsAt 3648 4256 types-long
       ∙ part-past (rowsOf 64 os) _ 2432 1216 1824 objects-long
       ∙ part-past (rowsOf 32 (d .predicates)) _ 1216 0 608 predicates-long
       ∙ first-part (rowsOf 16 (d .functions)) _ 608 functions-long

@@ -5,13 +5,14 @@ use Rattle.domain_stored_meaning.specs.Decode.{conditionAt, actionsAt}
 use Rattle.domain_stored_meaning.specs.Entries.{typedIn, signedIn}
 use Rattle.domain_load.specs.Decode.{decode}
 use Rattle.domain_load.specs.declared.Model.{Model}
+use Rattle.domain_rows.specs.Layout.{objectsAt, predicatesAt}
 
 module _ (m : Model) where
-  pub types-in : typedIn (part (m .tables) 0 646) (m .counts .types) ≡ decode m .types
+  pub types-in : typedIn (part (m .tables) 0 objectsAt) (m .counts .types) ≡ decode m .types
   unfolding decode
   types-in = refl
 
-  pub objects-in : typedIn (part (m .tables) 646 3078) (m .counts .objects) ≡ decode m .objects
+  pub objects-in : typedIn (part (m .tables) objectsAt predicatesAt) (m .counts .objects) ≡ decode m .objects
   unfolding decode
   objects-in = refl
 

@@ -13,6 +13,7 @@ use Rattle.domain_rows.specs.Held.{rowsOf}
 use Rattle.domain_terms.specs.Scoped.{Scoped}
 use Rattle.domain_terms.specs.declared.scope.Counts.{Counts}
 use Rattle.domain_load.specs.Load.{tablesOf}
+use Rattle.domain_rows.specs.Layout.{objectsAt, predicatesAt, functionsAt, variablesAt, tablesLength}
 
 -- two parts, one behind the other
 joined : (l : List ℕ) (a b c : ℕ) → a ≤ b → b ≤ c → part l a c ≡ part l a b ++ part l b c
@@ -22,18 +23,23 @@ joined l a b c ab bc =
     ap (λ (k : ℕ). take k (drop a l)) m ∙ take-add (b - a) (c - b) (drop a l)
     ∙ ap (λ (r : List ℕ). take (b - a) (drop a l) ++ take (c - b) r) (drop-drop (b - a) a l ∙ ap (λ (k : ℕ). drop k l) n)
 
-pub tables-are : (tables : List ℕ) (n : Counts) (d : Domain) (os : Table) → Scoped tables n (scopeOf d os) → length tables ≡ 5054 → tables ≡ tablesOf d os
+pub tables-are : (tables : List ℕ) (n : Counts) (d : Domain) (os : Table) → Scoped tables n (scopeOf d os) → length tables ≡ tablesLength
+    → tables ≡ tablesOf d os
 unfolding tablesOf
 tables-are tables n d os h long =
-    let whole : part tables 0 5054 ≡ tables = take-all 5054 tables (omega (arith, long)) in
-    let tail₄ : part tables 4294 5054 ≡ rowsOf 16 (d .functions) ++ rowsOf 4 [] =
-    joined tables 4294 4902 5054 (omega arith) (omega arith) ∙ ap (λ (r : List ℕ). r ++ part tables 4902 5054) (h .functions .are)
+    let whole : part tables 0 tablesLength ≡ tables = take-all tablesLength tables (omega (arith, long)) in
+    let tail₄ : part tables functionsAt tablesLength ≡ rowsOf 16 (d .functions) ++ rowsOf 4 [] =
+    joined tables functionsAt variablesAt tablesLength (omega arith) (omega arith)
+    ∙ ap (λ (r : List ℕ). r ++ part tables variablesAt tablesLength) (h .functions .are)
     ∙ ap (λ (r : List ℕ). rowsOf 16 (d .functions) ++ r) (h .variables .are) in
-    let tail₃ : part tables 3078 5054 ≡ rowsOf 32 (d .predicates) ++ (rowsOf 16 (d .functions) ++ rowsOf 4 []) =
-    joined tables 3078 4294 5054 (omega arith) (omega arith) ∙ ap (λ (r : List ℕ). r ++ part tables 4294 5054) (h .predicates .are)
+    let tail₃ : part tables predicatesAt tablesLength ≡ rowsOf 32 (d .predicates) ++ (rowsOf 16 (d .functions) ++ rowsOf 4 []) =
+    joined tables predicatesAt functionsAt tablesLength (omega arith) (omega arith)
+    ∙ ap (λ (r : List ℕ). r ++ part tables functionsAt tablesLength) (h .predicates .are)
     ∙ ap (λ (r : List ℕ). rowsOf 32 (d .predicates) ++ r) tail₄ in
-    let tail₂ : part tables 646 5054 ≡ rowsOf 64 os ++ (rowsOf 32 (d .predicates) ++ (rowsOf 16 (d .functions) ++ rowsOf 4 [])) =
-    joined tables 646 3078 5054 (omega arith) (omega arith) ∙ ap (λ (r : List ℕ). r ++ part tables 3078 5054) (h .objects .are)
+    let tail₂ : part tables objectsAt tablesLength ≡ rowsOf 64 os ++ (rowsOf 32 (d .predicates) ++ (rowsOf 16 (d .functions) ++ rowsOf 4 [])) =
+    joined tables objectsAt predicatesAt tablesLength (omega arith) (omega arith)
+    ∙ ap (λ (r : List ℕ). r ++ part tables predicatesAt tablesLength) (h .objects .are)
     ∙ ap (λ (r : List ℕ). rowsOf 64 os ++ r) tail₃ in
-    sym whole ∙ joined tables 0 646 5054 (omega arith) (omega arith) ∙ ap (λ (r : List ℕ). r ++ part tables 646 5054) (h .types .are)
+    sym whole ∙ joined tables 0 objectsAt tablesLength (omega arith) (omega arith)
+    ∙ ap (λ (r : List ℕ). r ++ part tables objectsAt tablesLength) (h .types .are)
     ∙ ap (λ (r : List ℕ). rowsOf 17 (d .types) ++ r) tail₂

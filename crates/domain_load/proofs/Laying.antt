@@ -17,6 +17,7 @@ use Rattle.domain_indexes.specs.Firsts.{firstsOf}
 use Rattle.domain_indexes.proofs.Sums.{length-bases}
 use Rattle.domain_load.specs.Load.{zeros}
 use Rattle.domain_load.proofs.Sums.{sums-fit}
+use Rattle.domain_rows.specs.Layout.{predicatesAt, functionsAt, variablesAt}
 
 -- numbers stored behind a first list
 behind : (p q vs : List ℕ) (n : ℕ) → length p ≡ n → length vs ≤ length q → sets (p ++ q) n vs ≡ p ++ (vs ++ drop (length vs) q)
@@ -58,11 +59,11 @@ room n ps count h = let e : length (sets (zeros 49) 0 (basesOf n ps)) ≡ 49 = l
 -- ---- the tables of a scope whose sums are within their limits: no first index needs more than 16 bits
 
 module _ (tables : List ℕ) (n : Counts) (c : Scope) (h : Scoped tables n c) (fit : sumsFit c ≡ true) where
-  pub facts-low : (s : Signatures tables 3078 (n .predicates)) × (sumOf (n .objects) (s .table) < 65536)
+  pub facts-low : (s : Signatures tables predicatesAt (n .predicates)) × (sumOf (n .objects) (s .table) < 65536)
   facts-low = (
     record {
       rows = 32;
-      to = 4294;
+      to = functionsAt;
       table = c .predicates;
       holds = h .predicates;
       signed = h .facts;
@@ -73,11 +74,11 @@ module _ (tables : List ℕ) (n : Counts) (c : Scope) (h : Scoped tables n c) (f
     rw (h .objects .count) (omega (arith, sums-fit c fit .0)),
   )
 
-  pub numbers-low : (s : Signatures tables 4294 (n .functions)) × (sumOf (n .objects) (s .table) < 65536)
+  pub numbers-low : (s : Signatures tables functionsAt (n .functions)) × (sumOf (n .objects) (s .table) < 65536)
   numbers-low = (
     record {
       rows = 16;
-      to = 4902;
+      to = variablesAt;
       table = c .functions;
       holds = h .functions;
       signed = h .numbers;

@@ -32,6 +32,7 @@ use Rattle.domain_load.specs.declared.LoadAnswer.the-variants as Is
 use Rattle.domain_load.specs.declared.Loaded.{Loaded}
 use Rattle.domain_load.specs.Load.{zeros, tablesOf, modelOf, loadedOf, Models, fixedOf, ofProblem, loadOf}
 use Rattle.domain_load.proofs.Joined.{tables-are}
+use Rattle.domain_rows.specs.Layout.{tablesLength}
 
 -- ---- the domain, by its answer
 
@@ -144,7 +145,7 @@ module _ (t : List ℕ) (d : Domain) (c : Counts) (r : Parsed) (tables facts : L
       pub objects : v ≡ length (problem .objects)
       pub scope : Scoped tables (withObjects c v) (scopeOf d (problem .objects))
       pub fits : sumsFit (scopeOf d (problem .objects)) ≡ true
-      pub long : length tables ≡ 5054
+      pub long : length tables ≡ tablesLength
       pub facted : facts ≡ firstFacts (problem .init)
       pub numbered : numbers ≡ firstNumbers (problem .init)
       pub aimed : goal ≡ sets was 0 (condCells (problem .goal))
@@ -202,7 +203,7 @@ same-model d p tables actions starts code goal firsts i j facts numbers c n et e
 -- the problem's arrays and numbers beside a model of its domain
 pub both-read : (t name : List ℕ) (d : Domain) (m : Model) → Models d name m → (p : Problem) (a : ℕ) → readProblem t d ≡ got p a
     → (tables goal firsts : List ℕ) (i j : ℕ) (facts : List ℕ) (numbers : List ℤ) (v : ℕ) → v ≡ length (p .objects)
-    → Scoped tables (withObjects (m .counts) v) (scopeOf d (p .objects)) → length tables ≡ 5054 → goal ≡ sets (zeros 32768) 0 (condCells (p .goal))
+    → Scoped tables (withObjects (m .counts) v) (scopeOf d (p .objects)) → length tables ≡ tablesLength → goal ≡ sets (zeros 32768) 0 (condCells (p .goal))
     → firsts ≡ firstsOf (length (p .objects)) (d .predicates) (d .functions) → i ≡ sumOf v (d .predicates) → j ≡ sumOf v (d .functions)
     → facts ≡ firstFacts (p .init) → numbers ≡ firstNumbers (p .init)
     → record {

@@ -9,6 +9,7 @@ use Rattle.domain_meaning.specs.Problem.{Problem}
 use Rattle.domain_stored_meaning.specs.Decode.{conditionAt, actionsAt}
 use Rattle.domain_stored_meaning.specs.Entries.{typedIn, signedIn}
 use Rattle.domain_load.specs.declared.Model.{Model}
+use Rattle.domain_rows.specs.Layout.{objectsAt, predicatesAt, functionsAt, variablesAt}
 
 pub record Reading : Type 0 where
   pub types : Table
@@ -21,10 +22,10 @@ pub record Reading : Type 0 where
 unfoldable pub decode : Model → Reading
 decode m =
     record {
-      types = typedIn (part (m .tables) 0 646) (m .counts .types);
-      objects = typedIn (part (m .tables) 646 3078) (m .counts .objects);
-      predicates = signedIn (part (m .tables) 3078 4294) (m .counts .predicates);
-      functions = signedIn (part (m .tables) 4294 4902) (m .counts .functions);
+      types = typedIn (part (m .tables) 0 objectsAt) (m .counts .types);
+      objects = typedIn (part (m .tables) objectsAt predicatesAt) (m .counts .objects);
+      predicates = signedIn (part (m .tables) predicatesAt functionsAt) (m .counts .predicates);
+      functions = signedIn (part (m .tables) functionsAt variablesAt) (m .counts .functions);
       actions = actionsAt (m .code) (m .starts) 0 (signedIn (m .actions) (m .acting));
       goal = conditionAt (m .goal) 0 .tree;
     }

@@ -22,6 +22,7 @@ use Rattle.domain_load.specs.declared.Model.{Model}
 use Rattle.domain_load.specs.declared.LoadAnswer.{LoadAnswer}
 use Rattle.domain_load.specs.declared.LoadAnswer.the-variants as Is
 use Rattle.domain_load.specs.declared.Loaded.{Loaded}
+use Rattle.domain_rows.specs.Layout.{tablesLength}
 
 -- an array of zeros
 abbrev pub zeros : ℕ → List ℕ
@@ -54,7 +55,7 @@ loadedOf d p = record { model = modelOf d p; facts = firstFacts (p .init); numbe
 pub record Models (d : Domain) (name : List ℕ) (m : Model) : Type 0 where
   pub named : name ≡ d .name
   pub scope : Scoped (m .tables) (m .counts) (scopeOf d (d .constants))
-  pub long : length (m .tables) ≡ 5054
+  pub long : length (m .tables) ≡ tablesLength
   pub rows : m .actions ≡ rowsOf 32 (declarations (d .actions))
   pub places : m .starts ≡ sets (zeros 96) 0 (startsOf 0 (d .actions))
   pub cells : m .code ≡ sets (zeros 32768) 0 (actionsCells (d .actions))
@@ -67,7 +68,7 @@ unfoldable pub fixedOf : LoadAnswer → Loaded
 fixedOf answer =
     record {
       model = record {
-        tables = zeros 5054;
+        tables = zeros tablesLength;
         actions = zeros 1216;
         starts = zeros 96;
         code = zeros 32768;

@@ -24,7 +24,7 @@ pub struct Sizes {
 // What domain and problem say, as numbers.
 pub struct Model {
     // rows of 38 bytes: 17 of types, 64 of objects, 32 of predicates, 16 of functions, 4 of zeros
-    pub tables: [u8; 5054],
+    pub tables: [u8; layout::TABLES_LENGTH],
     // 32 rows: the actions' names, how many parameters they have, and their types
     pub actions: [u8; 1216],
     // of each action, where the cells of its duration rule, its condition and its effect begin
@@ -73,7 +73,7 @@ fn fixed(answer: LoadAnswer) -> Loaded
         numbers: 0,
     };
     let model = Model {
-        tables: [0u8; 5054],
+        tables: [0u8; layout::TABLES_LENGTH],
         actions: [0u8; 1216],
         starts: [0usize; 96],
         code: [0u8; 32768],
@@ -175,7 +175,7 @@ fn load_problem(mut model: Model, name: &[u8], problem: &[u8]) -> Loaded
 pub fn load(domain: &[u8], problem: &[u8]) -> Loaded
     ensures { λ r. ⌜ r ≡ loadOf (now (domain .entry)) (now (problem .entry)) ⌝ }
 {
-    let mut tables = [0u8; 5054];
+    let mut tables = [0u8; layout::TABLES_LENGTH];
     let mut actions = [0u8; 1216];
     let mut code = [0u8; 32768];
     let mut starts = [0usize; 96];

@@ -13,6 +13,7 @@ use Rattle.domain_terms.specs.Scoped.{AllSigned, Scoped}
 use Rattle.domain_terms.specs.declared.scope.Counts.{Counts}
 use Rattle.domain_preamble.specs.declared.Preamble.{Preamble}
 use Rattle.domain_preamble.specs.declared.Preamble.the-variants.{Done, Refused}
+use Rattle.domain_rows.specs.Layout.{tablesLength}
 
 -- how many names each table has
 abbrev pub countsOf : Vocabulary → Counts
@@ -51,7 +52,7 @@ pub record Declared (s : List ℕ) (r : Preamble) (tables : List ℕ) (v : Vocab
   pub name : part s from to ≡ v .name
   pub named : to ≤ length s
   pub scope : Scoped tables (countsOf v) (scopeIn v)
-  pub long : length tables ≡ 5054
+  pub long : length tables ≡ tablesLength
   pub past : 6 ≤ n
   pub within : n ≤ length s
 

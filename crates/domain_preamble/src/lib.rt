@@ -17,6 +17,7 @@ ghost use Rattle.domain_meaning.specs.Due.{Name};
 ghost use Rattle.domain_meaning.specs.Domain.{headingOf, flagsSection, vocabulary};
 ghost use Rattle.domain_rows.specs.Held.{rowsOf};
 ghost use Rattle.domain_preamble.specs.Beginning.{Listed, Declares};
+ghost use Rattle.domain_rows.specs.Layout.{objectsAt, predicatesAt, functionsAt, tablesLength};
 
 // What was begun: the place after it, the name from, to, and how many names each table has.
 pub enum Preamble {
@@ -79,10 +80,10 @@ fn tables_at(
 
 // Each table in its place among the tables of a scope.
 fn store(tables: &mut [u8], types: &[u8], objects: &[u8], predicates: &[u8], functions: &[u8])
-    requires { ⌜ (length (now tables) ≡ 5054) × (length (now types) ≡ 646) × (length (now objects) ≡ 2432)
+    requires { ⌜ (length (now tables) ≡ tablesLength) × (length (now types) ≡ objectsAt) × (length (now objects) ≡ 2432)
         × (length (now predicates) ≡ 1216) × (length (now functions) ≡ 608) ⌝ }
     ensures { λ _. ⌜ now (tables .exit) ≡ sets
-        (sets (sets (sets (now (tables .entry)) 0 (now (types .entry))) 646 (now (objects .entry))) 3078 (now (predicates .entry))) 4294
+        (sets (sets (sets (now (tables .entry)) 0 (now (types .entry))) objectsAt (now (objects .entry))) predicatesAt (now (predicates .entry))) functionsAt
         (now (functions .entry)) ⌝ }
 {
     domain_rows::copy(tables, 0, types);

@@ -21,6 +21,7 @@ use Rattle.domain_typed_lists.specs.Outcome.{Outcome}
 use Rattle.domain_terms.specs.Scoped.{Scoped}
 use Rattle.domain_terms.specs.declared.scope.Counts.{Counts}
 use Rattle.domain_problem_text.specs.Grounded.{withObjects, Grounded}
+use Rattle.domain_rows.specs.Layout.{objectsAt, predicatesAt, functionsAt, variablesAt, tablesLength}
 
 -- a copy of all rows holds what they hold
 pub copied : (m : ℕ) (rows : List ℕ) (n : ℕ) (t : Table) (v was new : List ℕ) → Holds m rows n t → v ≡ rows → length was ≡ 38 * m → new ≡ sets was 0 v
@@ -29,7 +30,7 @@ copied m rows n t v was new h e l q = rw (q, e, sets-whole was rows (l ∙ sym (
 
 -- ---- the tables with other objects
 
-module _ (was : List ℕ) (n : Counts) (d : Domain) (h : Scoped was n (scopeOf d (d .constants))) (long : length was ≡ 5054) where
+module _ (was : List ℕ) (n : Counts) (d : Domain) (h : Scoped was n (scopeOf d (d .constants))) (long : length was ≡ tablesLength) where
   pub grounded-none : (r : Parsed) (at : ℕ) → r ≡ Done at (n .objects) → Grounded n r was d (got (d .constants) at)
   unfolding Grounded
   grounded-none r at e = (
@@ -47,27 +48,28 @@ module _ (was : List ℕ) (n : Counts) (d : Domain) (h : Scoped was n (scopeOf d
     long,
   )
 
-  stored : (ys : List ℕ) (os : Table) → Holds 64 ys (length os) os → Scoped (sets was 646 ys) (withObjects n (length os)) (scopeOf d os)
+  stored : (ys : List ℕ) (os : Table) → Holds 64 ys (length os) os → Scoped (sets was objectsAt ys) (withObjects n (length os)) (scopeOf d os)
   stored ys os g =
       let l : length ys ≡ 2432 = rows-long 64 ys (length os) os g in
-      let e : 3078 ≡ 646 + length ys = omega arith in
+      let e : predicatesAt ≡ objectsAt + length ys = omega arith in
       record {
-        types = rw (part-before ys was 0 646 646 (omega arith) (omega arith)) (h .types);
-        objects = rw (part-stored was ys 646 3078 e (omega arith)) g;
-        predicates = rw (part-behind ys was 3078 4294 646 (omega arith)) (h .predicates);
-        functions = rw (part-behind ys was 4294 4902 646 (omega arith)) (h .functions);
-        variables = rw (part-behind ys was 4902 5054 646 (omega arith)) (h .variables);
+        types = rw (part-before ys was 0 objectsAt objectsAt (omega arith) (omega arith)) (h .types);
+        objects = rw (part-stored was ys objectsAt predicatesAt e (omega arith)) g;
+        predicates = rw (part-behind ys was predicatesAt functionsAt objectsAt (omega arith)) (h .predicates);
+        functions = rw (part-behind ys was functionsAt variablesAt objectsAt (omega arith)) (h .functions);
+        variables = rw (part-behind ys was variablesAt tablesLength objectsAt (omega arith)) (h .variables);
         action = h .action;
         facts = h .facts;
         numbers = h .numbers;
       }
 
-  pub grounded : (r : Parsed) (ys : List ℕ) (x : Read Table) → Outcome 64 r ys x → Grounded n r (take 646 was ++ (ys ++ drop 2432 (drop 646 was))) d x
+  pub grounded : (r : Parsed) (ys : List ℕ) (x : Read Table) → Outcome 64 r ys x
+      → Grounded n r (take objectsAt was ++ (ys ++ drop 2432 (drop objectsAt was))) d x
   unfolding Outcome Grounded
   grounded r ys (got os a) o =
       let l : length ys ≡ 2432 = rows-long 64 ys (length os) os (o .1) in
-      let q = part-back was ys 646 2432 (omega arith) (omega arith) in
-      (o .0, rw q (stored ys os (o .1)), ap length q ∙ length-sets was 646 ys ∙ long)
+      let q = part-back was ys objectsAt 2432 (omega arith) (omega arith) in
+      (o .0, rw q (stored ys os (o .1)), ap length q ∙ length-sets was objectsAt ys ∙ long)
   grounded r ys (refused k p) o = o
 
 -- ---- the section

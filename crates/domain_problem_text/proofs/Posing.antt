@@ -19,6 +19,7 @@ use Rattle.domain_terms.specs.declared.scope.Counts.{Counts}
 use Rattle.domain_problem_text.specs.Grounded.{Grounded, withObjects}
 use Rattle.domain_problem_text.specs.Parts.{restOf, Settled}
 use Rattle.domain_problem_text.specs.Posed.{Posed}
+use Rattle.domain_rows.specs.Layout.{tablesLength}
 
 -- ---- a domain whose tables they are
 
@@ -49,7 +50,7 @@ pub record Premises (counts : Counts) (tables : List ℕ) (d : Domain) (a v : �
   pub is : x ≡ got objects a
   pub count : v ≡ length objects
   pub scope : Scoped tables (withObjects counts v) (scopeOf d objects)
-  pub long : length tables ≡ 5054
+  pub long : length tables ≡ tablesLength
 
 module _ (counts : Counts) (r : Parsed) (tables : List ℕ) (d : Domain) where
   pub grounded-got : (x : Read Table) (a v : ℕ) → Grounded counts r tables d x → r ≡ Done a v → Premises counts tables d a v x
@@ -78,7 +79,7 @@ module _ (s : List ℕ) (d : Domain) (counts : Counts) (r : Parsed) (tables fact
   unfolding readProblem problemText Posed
   posed-refused k p e q = rw e q
 
-  posed-by : (os : Table) (x : Read Problem) → Scoped tables (withObjects counts (length os)) (scopeOf d os) → length tables ≡ 5054
+  posed-by : (os : Table) (x : Read Problem) → Scoped tables (withObjects counts (length os)) (scopeOf d os) → length tables ≡ tablesLength
       → Settled s (scopeOf d os) r facts numbers was goal′ x → Posed s d counts r tables facts numbers was goal′ x
   unfolding Settled Posed
   posed-by os (got p n) h l q =

@@ -11,6 +11,7 @@ use Rattle.domain_due.specs.declared.Parsed.{Parsed}
 use Rattle.domain_due.specs.declared.Parsed.the-variants.{Done, Refused}
 use Rattle.domain_terms.specs.Scoped.{Scoped}
 use Rattle.domain_terms.specs.declared.scope.Counts.{Counts}
+use Rattle.domain_rows.specs.Layout.{tablesLength}
 
 -- the counts with n objects
 abbrev pub withObjects : Counts → ℕ → Counts
@@ -26,5 +27,5 @@ withObjects c n =
 
 -- the objects were read: the answer has their number, and the tables hold them beside what the domain declares
 unfoldable pub Grounded : Counts → Parsed → List ℕ → Domain → Read Table → Type 0
-Grounded c r tables d (got os n) = (r ≡ Done n (length os)) × Scoped tables (withObjects c (length os)) (scopeOf d os) × (length tables ≡ 5054)
+Grounded c r tables d (got os n) = (r ≡ Done n (length os)) × Scoped tables (withObjects c (length os)) (scopeOf d os) × (length tables ≡ tablesLength)
 Grounded c r tables d (refused k p) = r ≡ Refused k p

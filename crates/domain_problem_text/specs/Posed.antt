@@ -16,13 +16,14 @@ use Rattle.domain_terms.specs.declared.scope.Counts.{Counts}
 use Rattle.domain_stored_meaning.specs.Cells.{condCells}
 use Rattle.domain_problem_text.specs.Grounded.{withObjects}
 use Rattle.domain_meaning.specs.First.{firstFacts, firstNumbers}
+use Rattle.domain_rows.specs.Layout.{tablesLength}
 
 -- the problem p was read, to the place n
 pub record Poses (s : List ℕ) (d : Domain) (counts : Counts) (r : Parsed) (tables′ : List ℕ) (facts′ : List ℕ)
     (numbers′ : List ℤ) (was goal′ : List ℕ) (p : Problem) (n : ℕ) : Type 0 where
   pub answer : r ≡ Done n (length (p .objects))
   pub scope : Scoped tables′ (withObjects counts (length (p .objects))) (scopeOf d (p .objects))
-  pub long : length tables′ ≡ 5054
+  pub long : length tables′ ≡ tablesLength
   pub facts : facts′ ≡ firstFacts (p .init)
   pub numbers : numbers′ ≡ firstNumbers (p .init)
   pub goal : goal′ ≡ sets was 0 (condCells (p .goal))

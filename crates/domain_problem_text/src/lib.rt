@@ -19,6 +19,7 @@ ghost use Rattle.domain_terms.specs.Scoped.{Scoped, Scopes};
 ghost use Rattle.domain_meaning.specs.First.{noFacts, noNumbers};
 ghost use Rattle.domain_problem_text.specs.Parts.{startAt, goalFrom, restOf, Started, Reached, Aimed, Settled};
 ghost use Rattle.domain_problem_text.specs.Posed.{Posed};
+ghost use Rattle.domain_rows.specs.Layout.{tablesLength};
 
 // Init, if there is one: the place after it, and 1; else 0. The sums are judged at its word.
 fn init_at(
@@ -135,7 +136,7 @@ pub fn problem_at(
     numbers: &mut [i64],
     goal: &mut [u8],
 ) -> Parsed
-    requires { ⌜ Scopes (now tables) counts × (length (now tables) ≡ 5054) × (now facts ≡ noFacts)
+    requires { ⌜ Scopes (now tables) counts × (length (now tables) ≡ tablesLength) × (now facts ≡ noFacts)
         × (now numbers ≡ noNumbers) × (counts .variables ≡ 0) × (counts .in_action ≡ false) ⌝ }
     ensures { λ r. ⌜ ((d : Domain) → Scoped (now (tables .entry)) counts (scopeOf d (d .constants)) → now (name .entry) ≡ d .name
         → Posed (now (text .entry)) d counts r (now (tables .exit)) (now (facts .exit)) (now (numbers .exit)) (now (goal .entry)) (now (goal .exit))

@@ -21,6 +21,7 @@ ghost use Rattle.domain_due.specs.Answers.{answerOf, Ahead};
 ghost use Rattle.domain_preamble.specs.Onwards.{Onwards};
 ghost use Rattle.domain_terms.specs.Scoped.{Scoped, Scopes};
 ghost use Rattle.domain_problem_text.specs.Grounded.{Grounded};
+ghost use Rattle.domain_rows.specs.Layout.{tablesLength};
 
 // The most ground facts.
 pub const MOST_FACTS: usize = 16384;
@@ -84,7 +85,7 @@ pub fn of_domain(text: &[u8], from: usize, name: &[u8]) -> Parsed
 
 // The objects, behind the domain's constants in the rows of `tables`: the place after them, and how many there are.
 fn objects_section(text: &[u8], from: usize, tables: &mut [u8], counts: Counts) -> Parsed
-    requires { ⌜ (from ≤ length (now text)) × Scopes (now tables) counts × (length (now tables) ≡ 5054) ⌝ }
+    requires { ⌜ (from ≤ length (now text)) × Scopes (now tables) counts × (length (now tables) ≡ tablesLength) ⌝ }
     ensures { λ r. ⌜ ((d : Domain) → Scoped (now (tables .entry)) counts (scopeOf d (d .constants))
         → Grounded counts r (now (tables .exit)) d
         (section (now (text .entry)) ":objects" (d .constants) (namesTo (now (text .entry)) (d .types) 64 (d .constants)) from))
@@ -114,7 +115,7 @@ fn objects_section(text: &[u8], from: usize, tables: &mut [u8], counts: Counts) 
 
 // What a problem has before init: the place after it, and how many objects there are. They replace the objects' rows of `tables`.
 pub fn premises_at(text: &[u8], tables: &mut [u8], counts: Counts, name: &[u8]) -> Parsed
-    requires { ⌜ Scopes (now tables) counts × (length (now tables) ≡ 5054) ⌝ }
+    requires { ⌜ Scopes (now tables) counts × (length (now tables) ≡ tablesLength) ⌝ }
     ensures { λ r. ⌜ ((d : Domain) → Scoped (now (tables .entry)) counts (scopeOf d (d .constants)) → now (name .entry) ≡ d .name
         → Grounded counts r (now (tables .exit)) d (premises (now (text .entry)) d 0))
         × Onwards (length (now (text .entry))) 6 r ⌝ }

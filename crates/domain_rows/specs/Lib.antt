@@ -1,2 +1,3 @@
 -- What the contracts name, module by module.
 pub mod Held
+pub mod Layout

@@ -5,12 +5,13 @@ use Rattle.domain_meaning.specs.Terms.{Scope}
 use Rattle.domain_terms.specs.Scoped.{Scoped, Signatures}
 use Rattle.domain_terms.specs.declared.scope.Counts.{Counts}
 use Prim.Native.Nat.{ℕ}
+use Rattle.domain_rows.specs.Layout.{predicatesAt, functionsAt, variablesAt}
 
 module _ (tables : List ℕ) (n : Counts) (c : Scope) (h : Scoped tables n c) where
-  pub predicates-signed : Signatures tables 3078 (n .predicates)
+  pub predicates-signed : Signatures tables predicatesAt (n .predicates)
   predicates-signed = record {
     rows = 32;
-    to = 4294;
+    to = functionsAt;
     table = c .predicates;
     holds = h .predicates;
     signed = h .facts;
@@ -18,10 +19,10 @@ module _ (tables : List ℕ) (n : Counts) (c : Scope) (h : Scoped tables n c) wh
     near = omega arith;
   }
 
-  pub functions-signed : Signatures tables 4294 (n .functions)
+  pub functions-signed : Signatures tables functionsAt (n .functions)
   functions-signed = record {
     rows = 16;
-    to = 4902;
+    to = variablesAt;
     table = c .functions;
     holds = h .functions;
     signed = h .numbers;

@@ -8,6 +8,7 @@ use Rattle.domain_meaning.specs.Tables.{Entry, infoOf, Table}
 use Rattle.domain_meaning.specs.Terms.{Scope}
 use Rattle.domain_rows.specs.Held.{Holds}
 use Rattle.domain_terms.specs.declared.scope.Counts.{Counts}
+use Rattle.domain_rows.specs.Layout.{objectsAt, predicatesAt, functionsAt, variablesAt, tablesLength}
 
 -- an entry that keeps how many arguments it has, at most 4, and their types
 pub record Signed (e : Entry) : Type 0 where
@@ -20,11 +21,11 @@ AllSigned [] = Unit {0}
 AllSigned (e ∷ t) = Signed e × AllSigned t
 
 pub record Scoped (tables : List ℕ) (n : Counts) (c : Scope) : Type 0 where
-  pub types : Holds 17 (part tables 0 646) (n .types) (c .types)
-  pub objects : Holds 64 (part tables 646 3078) (n .objects) (c .objects)
-  pub predicates : Holds 32 (part tables 3078 4294) (n .predicates) (c .predicates)
-  pub functions : Holds 16 (part tables 4294 4902) (n .functions) (c .functions)
-  pub variables : Holds 4 (part tables 4902 5054) (n .variables) (c .variables)
+  pub types : Holds 17 (part tables 0 objectsAt) (n .types) (c .types)
+  pub objects : Holds 64 (part tables objectsAt predicatesAt) (n .objects) (c .objects)
+  pub predicates : Holds 32 (part tables predicatesAt functionsAt) (n .predicates) (c .predicates)
+  pub functions : Holds 16 (part tables functionsAt variablesAt) (n .functions) (c .functions)
+  pub variables : Holds 4 (part tables variablesAt tablesLength) (n .variables) (c .variables)
   pub action : n .in_action ≡ c .inAction
   pub facts : AllSigned (c .predicates)
   pub numbers : AllSigned (c .functions)
@@ -40,4 +41,4 @@ pub record Signatures (tables : List ℕ) (off n : ℕ) : Type 0 where
   pub holds : Holds rows (part tables off to) n table
   pub signed : AllSigned table
   pub few : n ≤ 64
-  pub near : off ≤ 5054
+  pub near : off ≤ tablesLength

@@ -10,6 +10,7 @@ ghost use Rattle.text_tokens.specs.Runs.{part};
 ghost use Rattle.domain_meaning.specs.Tables.{Table, lookup, infoOf, entryAt, typeOf, isBelow};
 ghost use Rattle.domain_rows.specs.Held.{Holds};
 ghost use Rattle.domain_terms.specs.Raw.{keptIn, belowIn};
+ghost use Rattle.domain_rows.specs.Layout.{tablesLength};
 
 // How many names each table has. Where the tables lie says domain_rows::layout.
 pub struct Counts {
@@ -30,7 +31,7 @@ pub fn find_in(tables: &[u8], from: usize, to: usize, n: usize, w: &[u8]) -> Pla
 
 // Number j of those kept with name i, in the table from `from` on, which has n names.
 pub fn kept_in(tables: &[u8], from: usize, n: usize, i: usize, j: usize) -> usize
-    requires { ⌜ (n ≤ 64) × (from ≤ 5054) × (j < 5) ⌝ }
+    requires { ⌜ (n ≤ 64) × (from ≤ tablesLength) × (j < 5) ⌝ }
     ensures { λ r. ⌜ ((m to : ℕ) (t : Table) → Holds m (part (now (tables .entry)) from to) n t → r ≡ getD (infoOf (entryAt t i)) j 0)
         × (r < 256) × (r ≡ keptIn (now (tables .entry)) from n i j) ⌝ }
 {

@@ -37,6 +37,7 @@ use Rattle.plan_lines.specs.Knowing.{typesIn, objectsIn, knownIn}
 use Rattle.plan_lines.specs.Reading.{nameFrom, namedAction, namedBy, Listed}
 use Rattle.plan_lines.proofs.Names.{typed-length, signed-length, declarations-read}
 use Rattle.plan_lines.proofs.Marks.{named-at}
+use Rattle.domain_rows.specs.Layout.{objectsAt, predicatesAt}
 
 -- ---- a name that was found
 
@@ -226,7 +227,7 @@ module _ (s : List ℕ) (k : Known) (ws : List ℕ) (from : ℕ) (out₀ out : L
 
 module _ (tables : List ℕ) (c : Counts) where
   pub given-below : (s : List ℕ) (t : Token) (a v : ℕ) → answerOf (namedBy s (objectsIn tables c) t (afterOf t)) ≡ Done a v → v < c .objects
-  given-below s t a v h = let e = typed-length (part tables 646 3078) (c .objects) in rw e at (named-below s (objectsIn tables c) t a v h)
+  given-below s t a v h = let e = typed-length (part tables objectsAt predicatesAt) (c .objects) in rw e at (named-below s (objectsIn tables c) t a v h)
 
   module _ (heads : List ℕ) (acting : ℕ) (code starts : List ℕ) where
     -- the action's name is looked for among those of the heads

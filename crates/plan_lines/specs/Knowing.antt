@@ -10,12 +10,13 @@ use Rattle.domain_stored_meaning.specs.Decode.{actionsAt}
 use Rattle.domain_stored_meaning.specs.Entries.{typedIn, signedIn}
 use Rattle.domain_terms.specs.declared.scope.Counts.{Counts}
 use Rattle.plan_meaning.specs.Lines.{Known}
+use Rattle.domain_rows.specs.Layout.{objectsAt, predicatesAt, tablesLength}
 
 abbrev pub typesIn : List ℕ → Counts → Table
-typesIn tables c = typedIn (part tables 0 646) (c .types)
+typesIn tables c = typedIn (part tables 0 objectsAt) (c .types)
 
 abbrev pub objectsIn : List ℕ → Counts → Table
-objectsIn tables c = typedIn (part tables 646 3078) (c .objects)
+objectsIn tables c = typedIn (part tables objectsAt predicatesAt) (c .objects)
 
 unfoldable pub knownIn : List ℕ → Counts → List ℕ → ℕ → List ℕ → List ℕ → Known
 knownIn tables c heads acting code starts =
@@ -27,7 +28,7 @@ knownIn tables c heads acting code starts =
 
 -- the tables have room for as many names as the counts say
 abbrev pub Tabled : List ℕ → Counts → Type 0
-Tabled tables c = (5054 ≤ length tables) × (c .types ≤ 17) × (c .objects ≤ 64)
+Tabled tables c = (tablesLength ≤ length tables) × (c .types ≤ 17) × (c .objects ≤ 64)
 
 abbrev pub Headed : List ℕ → ℕ → Type 0
 Headed heads acting = (1216 ≤ length heads) × (acting ≤ 32)

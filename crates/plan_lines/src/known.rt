@@ -1,4 +1,5 @@
 // What a plan's names stand for, by the model's numbers; any numbers say something.
+use domain_rows::layout;
 use domain_terms::scope;
 use domain_terms::scope::Counts;
 use text_tokens::runs;
@@ -18,7 +19,11 @@ pub fn object_of<'a>(tables: &'a [u8], counts: Counts, w: &'a [u8]) -> Place
     requires { ⌜ Tabled (now tables) counts ⌝ }
     ensures { λ r. ⌜ r ≡ lookup (objectsIn (now (tables .entry)) counts) (now (w .entry)) ⌝ }
 {
-    names::find(runs::part_of(tables, 646, 3078), counts.objects, w)
+    names::find(
+        runs::part_of(tables, layout::OBJECTS_AT, layout::PREDICATES_AT),
+        counts.objects,
+        w,
+    )
 }
 
 // Whether object i is of the wanted type, or below it.
@@ -31,7 +36,7 @@ pub fn is_fit(tables: &[u8], counts: Counts, i: usize, want: usize) -> bool
     scope::is_below(
         tables,
         n,
-        scope::kept_in(tables, 646, counts.objects, i, 0),
+        scope::kept_in(tables, layout::OBJECTS_AT, counts.objects, i, 0),
         want,
     )
 }

@@ -10,6 +10,7 @@ use Rattle.domain_load.proofs.Loading.{no-problem, understands, both-re
 use borrow.Author.Needs.{needs}
 use Rattle.domain_load.proofs.load_problem.Statement.{statement}
 use Rattle.domain_load.proofs.load_problem.Tie as tie
+use Rattle.domain_rows.specs.Layout.{functionsAt, variablesAt}
 
 slice-aggregate-problem-at : tie.Need-slice-aggregate-problem-at
 slice-aggregate-problem-at c = search needs
@@ -58,7 +59,7 @@ returns : tie.Need-returns
 returns c = λ d k. no-problem (now (c .before .before .before .before .before .before .before .before .before .before .before .before .before .before .before .before .before .args .problem)) d _ (c .before .before .before .before .before .before .before .before .problem-at .result) _ _ _ _ _ (c .before .before .before .before .before .before .before .before .problem-at .ensures d (k .scope) (k .named)) _ _ _ (c .before .before .p .given .1) (c .fixed .ensures)
 
 returns-2 : tie.Need-returns-2
-returns-2 c = λ d k. let u = understands (now (c .before .before .before .before .before .before .before .before .before .before .before .before .before .before .before .before .before .before .before .before .before .before .args .problem)) d _ (c .before .before .before .before .before .before .before .before .before .before .before .before .before .problem-at .result) _ _ _ _ _ (c .before .before .before .before .before .before .before .before .before .before .before .before .before .problem-at .ensures d (k .scope) (k .named)) _ _ (c .before .before .before .before .before .before .before .p2 .given .1) in both-read (now (c .before .before .before .before .before .before .before .before .before .before .before .before .before .before .before .before .before .before .before .before .before .before .args .problem)) (now (c .before .before .before .before .before .before .before .before .before .before .before .before .before .before .before .before .before .before .before .before .before .before .args .name)) d (c .before .before .before .before .before .before .before .before .before .before .before .before .before .before .before .before .before .before .before .before .before .before .args .model) k (u .problem) _ (u .is) _ _ _ _ _ _ _ _ (u .objects) (u .scope) (u .long) (u .aimed) (c .before .before .before .before .firsts-of .ensures (scopeOf d (u .problem .objects)) (u .scope)) (c .before .before .sum-of .ensures 32 4294 (d .predicates) (u .scope .predicates) (u .scope .facts)) (c .sum-of2 .ensures 16 4902 (d .functions) (u .scope .functions) (u .scope .numbers)) (u .facted) (u .numbered)
+returns-2 c = λ d k. let u = understands (now (c .before .before .before .before .before .before .before .before .before .before .before .before .before .before .before .before .before .before .before .before .before .before .args .problem)) d _ (c .before .before .before .before .before .before .before .before .before .before .before .before .before .problem-at .result) _ _ _ _ _ (c .before .before .before .before .before .before .before .before .before .before .before .before .before .problem-at .ensures d (k .scope) (k .named)) _ _ (c .before .before .before .before .before .before .before .p2 .given .1) in both-read (now (c .before .before .before .before .before .before .before .before .before .before .before .before .before .before .before .before .before .before .before .before .before .before .args .problem)) (now (c .before .before .before .before .before .before .before .before .before .before .before .before .before .before .before .before .before .before .before .before .before .before .args .name)) d (c .before .before .before .before .before .before .before .before .before .before .before .before .before .before .before .before .before .before .before .before .before .before .args .model) k (u .problem) _ (u .is) _ _ _ _ _ _ _ _ (u .objects) (u .scope) (u .long) (u .aimed) (c .before .before .before .before .firsts-of .ensures (scopeOf d (u .problem .objects)) (u .scope)) (c .before .before .sum-of .ensures 32 functionsAt (d .predicates) (u .scope .predicates) (u .scope .facts)) (c .sum-of2 .ensures 16 variablesAt (d .functions) (u .scope .functions) (u .scope .numbers)) (u .facted) (u .numbered)
 
 pub load-problem-spec : {M : Type 1} → statement M
 load-problem-spec =

@@ -10,6 +10,7 @@ use Rattle.domain_conditions.proofs.Facts.{fact-missing, fact-many, fac
 use borrow.Author.Needs.{needs}
 use Rattle.domain_conditions.proofs.singles.atom_at.Statement.{statement}
 use Rattle.domain_conditions.proofs.singles.atom_at.Tie as tie
+use Rattle.domain_rows.specs.Layout.{functionsAt}
 
 part-of-requires : tie.Need-part-of-requires
 part-of-requires c κs = search needs
@@ -45,7 +46,7 @@ same-length : tie.Need-same-length
 same-length c = search needs
 
 returns-3 : tie.Need-returns-3
-returns-3 c = let c3 = c .before .before .before in let c5 = c3 .before .before in let c6 = c5 .before in let c8 = c6 .before .before in let c10 = c8 .before .before in let c11 = c10 .before in let c15 = c11 .before .before .before .before in (λ x h. rw (c .progress-of .ensures) (fact-written (now (c15 .args .text)) (c15 .args .d) x (c15 .args .yes) (c15 .args .p) (c15 .args .e) (c15 .args .left) _ (now (c15 .args .code)) (c15 .args .used) (c3 .reference-at .result) _ (sym (rw (c11 .part-of .ensures) at (c10 .find-in .ensures 32 (x .predicates) (h .predicates))) ∙ c8 .f .given .1) (c6 .if1 .left) (rw (c5 .chosen .ensures) at (c3 .reference-at .ensures .0 x 32 4294 (x .predicates) h (h .predicates) (h .facts)))), rw (c .progress-of .ensures) (spent-passed (c3 .reference-at .result) _ _ _ _ (c3 .reference-at .ensures .1) (c3 .reference-at .ensures .2)))
+returns-3 c = let c3 = c .before .before .before in let c5 = c3 .before .before in let c6 = c5 .before in let c8 = c6 .before .before in let c10 = c8 .before .before in let c11 = c10 .before in let c15 = c11 .before .before .before .before in (λ x h. rw (c .progress-of .ensures) (fact-written (now (c15 .args .text)) (c15 .args .d) x (c15 .args .yes) (c15 .args .p) (c15 .args .e) (c15 .args .left) _ (now (c15 .args .code)) (c15 .args .used) (c3 .reference-at .result) _ (sym (rw (c11 .part-of .ensures) at (c10 .find-in .ensures 32 (x .predicates) (h .predicates))) ∙ c8 .f .given .1) (c6 .if1 .left) (rw (c5 .chosen .ensures) at (c3 .reference-at .ensures .0 x 32 functionsAt (x .predicates) h (h .predicates) (h .facts)))), rw (c .progress-of .ensures) (spent-passed (c3 .reference-at .result) _ _ _ _ (c3 .reference-at .ensures .1) (c3 .reference-at .ensures .2)))
 
 pub atom-at-spec : {M : Type 1} → statement M
 atom-at-spec =

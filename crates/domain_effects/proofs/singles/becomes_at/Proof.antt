@@ -10,6 +10,7 @@ use Rattle.domain_effects.proofs.Facts.{fact-missing, fact-many, fact-s
 use borrow.Author.Needs.{needs}
 use Rattle.domain_effects.proofs.singles.becomes_at.Statement.{statement}
 use Rattle.domain_effects.proofs.singles.becomes_at.Tie as tie
+use Rattle.domain_rows.specs.Layout.{functionsAt}
 
 part-of-requires : tie.Need-part-of-requires
 part-of-requires c κs = search needs
@@ -42,7 +43,7 @@ same-length : tie.Need-same-length
 same-length c = search needs
 
 returns-3 : tie.Need-returns-3
-returns-3 c = let c3 = c .before .before .before in let c5 = c3 .before .before in let c7 = c5 .before .before in (λ x b h q. rw (c .progress-of .ensures) (fact-stored _ _ x b _ _ (c7 .before .before .before .before .before .before .before .args .left) _ _ _ _ _ _ q (sym (rw (c7 .before .before .before .part-of .ensures) at (c7 .before .before .find-in .ensures 32 (x .predicates) (h .predicates))) ∙ c7 .f .given .1) (c5 .if1 .left) (c3 .reference-at .ensures .0 x 32 4294 (x .predicates) h (h .predicates) (h .facts))), rw (c .progress-of .ensures) (spent-passed _ _ _ _ _ (c3 .reference-at .ensures .1) (c3 .reference-at .ensures .2)))
+returns-3 c = let c3 = c .before .before .before in let c5 = c3 .before .before in let c7 = c5 .before .before in (λ x b h q. rw (c .progress-of .ensures) (fact-stored _ _ x b _ _ (c7 .before .before .before .before .before .before .before .args .left) _ _ _ _ _ _ q (sym (rw (c7 .before .before .before .part-of .ensures) at (c7 .before .before .find-in .ensures 32 (x .predicates) (h .predicates))) ∙ c7 .f .given .1) (c5 .if1 .left) (c3 .reference-at .ensures .0 x 32 functionsAt (x .predicates) h (h .predicates) (h .facts))), rw (c .progress-of .ensures) (spent-passed _ _ _ _ _ (c3 .reference-at .ensures .1) (c3 .reference-at .ensures .2)))
 
 pub becomes-at-spec : {M : Type 1} → statement M
 becomes-at-spec =

@@ -11,6 +11,7 @@ use Rattle.domain_effects.proofs.Changing.{target-unopened, target-unna
 use borrow.Author.Needs.{needs}
 use Rattle.domain_effects.proofs.singles.target_at.Statement.{statement}
 use Rattle.domain_effects.proofs.singles.target_at.Tie as tie
+use Rattle.domain_rows.specs.Layout.{variablesAt}
 
 opening-requires : tie.Need-opening-requires
 opening-requires c κs = search needs
@@ -64,7 +65,7 @@ same-length : tie.Need-same-length
 same-length c = search needs
 
 returns-4 : tie.Need-returns-4
-returns-4 c = let c2 = c .before .before in let c5 = c2 .before .before .before in let c7 = c5 .before .before in let c8 = c7 .before in let c10 = c8 .before .before in let c12 = c10 .before .before in let c14 = c12 .before .before in let c16 = c14 .before .before in let c20 = c16 .before .before .before .before in let w = ahead-done _ _ _ _ _ (c14 .a .given .1) (c16 .opening .ensures .1) in let v = ahead-done _ _ _ _ _ (c10 .b .given .1) (c12 .any-name .ensures .1) in let z = room-from (c2 .reference-at .result) _ _ _ (c20 .args .from) (omega (arith, w .0, v .0)) (c2 .reference-at .ensures .1) (c2 .reference-at .ensures .2) in (λ x h. target-stored (now (c20 .args .text)) (c20 .args .d) x (c20 .args .from) (c20 .args .tag) (now (c20 .args .code)) (c20 .args .used) (c16 .opening .result) (c16 .opening .ensures .0) _ _ (c14 .a .given .1) (c12 .any-name .result) (c12 .any-name .ensures .0) _ _ (c10 .b .given .1) _ (c2 .reference-at .result) _ (sym (rw (c8 .part-of .ensures) at (c7 .find-in .ensures 16 (x .functions) (h .functions))) ∙ c5 .f .given .1) (c2 .reference-at .ensures .0 x 16 4902 (x .functions) h (h .functions) (h .numbers)), z .0, z .1)
+returns-4 c = let c2 = c .before .before in let c5 = c2 .before .before .before in let c7 = c5 .before .before in let c8 = c7 .before in let c10 = c8 .before .before in let c12 = c10 .before .before in let c14 = c12 .before .before in let c16 = c14 .before .before in let c20 = c16 .before .before .before .before in let w = ahead-done _ _ _ _ _ (c14 .a .given .1) (c16 .opening .ensures .1) in let v = ahead-done _ _ _ _ _ (c10 .b .given .1) (c12 .any-name .ensures .1) in let z = room-from (c2 .reference-at .result) _ _ _ (c20 .args .from) (omega (arith, w .0, v .0)) (c2 .reference-at .ensures .1) (c2 .reference-at .ensures .2) in (λ x h. target-stored (now (c20 .args .text)) (c20 .args .d) x (c20 .args .from) (c20 .args .tag) (now (c20 .args .code)) (c20 .args .used) (c16 .opening .result) (c16 .opening .ensures .0) _ _ (c14 .a .given .1) (c12 .any-name .result) (c12 .any-name .ensures .0) _ _ (c10 .b .given .1) _ (c2 .reference-at .result) _ (sym (rw (c8 .part-of .ensures) at (c7 .find-in .ensures 16 (x .functions) (h .functions))) ∙ c5 .f .given .1) (c2 .reference-at .ensures .0 x 16 variablesAt (x .functions) h (h .functions) (h .numbers)), z .0, z .1)
 
 pub target-at-spec : {M : Type 1} → statement M
 target-at-spec =

@@ -9,6 +9,7 @@ use Rattle.domain_terms.proofs.Kept.{found-below}
 use borrow.Author.Needs.{needs}
 use Rattle.domain_expressions.proofs.leaves.function_at.Statement.{statement}
 use Rattle.domain_expressions.proofs.leaves.function_at.Tie as tie
+use Rattle.domain_rows.specs.Layout.{variablesAt}
 
 part-of-requires : tie.Need-part-of-requires
 part-of-requires c κs = search needs
@@ -41,7 +42,7 @@ same-length : tie.Need-same-length
 same-length c = search needs
 
 returns-3 : tie.Need-returns-3
-returns-3 c = let c3 = c .before .before .before in let c5 = c3 .before .before in let c7 = c5 .before .before in (λ x h. rw (c .progress-of .ensures) (function-written _ _ x _ _ (c7 .before .before .before .before .before .before .before .args .left) _ _ _ _ _ (sym (rw (c7 .before .before .before .part-of .ensures) at (c7 .before .before .find-in .ensures 16 (x .functions) (h .functions))) ∙ c7 .f .given .1) (c5 .if1 .left) (c3 .reference-at .ensures .0 x 16 4902 (x .functions) h (h .functions) (h .numbers))), rw (c .progress-of .ensures) (spent-passed _ _ _ _ _ (c3 .reference-at .ensures .1) (c3 .reference-at .ensures .2)))
+returns-3 c = let c3 = c .before .before .before in let c5 = c3 .before .before in let c7 = c5 .before .before in (λ x h. rw (c .progress-of .ensures) (function-written _ _ x _ _ (c7 .before .before .before .before .before .before .before .args .left) _ _ _ _ _ (sym (rw (c7 .before .before .before .part-of .ensures) at (c7 .before .before .find-in .ensures 16 (x .functions) (h .functions))) ∙ c7 .f .given .1) (c5 .if1 .left) (c3 .reference-at .ensures .0 x 16 variablesAt (x .functions) h (h .functions) (h .numbers))), rw (c .progress-of .ensures) (spent-passed _ _ _ _ _ (c3 .reference-at .ensures .1) (c3 .reference-at .ensures .2)))
 
 pub function-at-spec : {M : Type 1} → statement M
 function-at-spec =

@@ -11,6 +11,7 @@ use Rattle.domain_problem_text.proofs.Grounding.{copied, grounded-none,
 use borrow.Author.Needs.{needs}
 use Rattle.domain_problem_text.proofs.premises.objects_section.Statement.{statement}
 use Rattle.domain_problem_text.proofs.premises.objects_section.Tie as tie
+use Rattle.domain_rows.specs.Layout.{objectsAt}
 
 slice-aggregate-begins-at : tie.Need-slice-aggregate-begins-at
 slice-aggregate-begins-at c = search needs
@@ -35,7 +36,7 @@ part-of-requires : tie.Need-part-of-requires
 part-of-requires c κs = search needs
 
 copy-requires : tie.Need-copy-requires
-copy-requires c κs = let c10 = c .before .before .before .before .before .before .before .before .before .before in omega (arith, ap length (c .part-of .ensures), part-length (now (c10 .args .tables)) 0 646 (omega (arith, c10 .pre .2)))
+copy-requires c κs = let c10 = c .before .before .before .before .before .before .before .before .before .before in omega (arith, ap length (c .part-of .ensures), part-length (now (c10 .args .tables)) 0 objectsAt (omega (arith, c10 .pre .2)))
 
 slice-aggregate-names-to : tie.Need-slice-aggregate-names-to
 slice-aggregate-names-to c = search needs
@@ -50,14 +51,14 @@ part-names-to-end : tie.Need-part-names-to-end
 part-names-to-end c = search needs
 
 names-to-requires : tie.Need-names-to-requires
-names-to-requires c κs = let c3 = c .before .before .before in let c4 = c3 .before in let c8 = c4 .before .before .before .before in let c10 = c8 .before .before in let c14 = c10 .before .before .before .before in ((further-at _ _ _ _ _ (c8 .o .given .1) (c10 .begins-at .ensures .1)) .1, (c14 .pre .1 .0 .types, copied 17 (part (now (c14 .args .tables)) 0 646) _ _ _ _ _ (c14 .pre .1 .1 .types) (c4 .part-of .ensures) refl (c3 .copy .ensures)), (c14 .pre .1 .0 .objects, c14 .pre .1 .1 .objects))
+names-to-requires c κs = let c3 = c .before .before .before in let c4 = c3 .before in let c8 = c4 .before .before .before .before in let c10 = c8 .before .before in let c14 = c10 .before .before .before .before in ((further-at _ _ _ _ _ (c8 .o .given .1) (c10 .begins-at .ensures .1)) .1, (c14 .pre .1 .0 .types, copied 17 (part (now (c14 .args .tables)) 0 objectsAt) _ _ _ _ _ (c14 .pre .1 .1 .types) (c4 .part-of .ensures) refl (c3 .copy .ensures)), (c14 .pre .1 .0 .objects, c14 .pre .1 .1 .objects))
 
 same-length : tie.Need-same-length
 same-length c = search needs
 
 returns-2 : tie.Need-returns-2
 unfolding bytes
-returns-2 c = let c2 = c .before .before in let c6 = c2 .before .before .before .before in let c11 = c6 .before .before .before .before .before in let c13 = c11 .before .before in let w = (further-at _ _ _ _ _ (c11 .o .given .1) (c13 .begins-at .ensures .1)) in (λ d h. grounded-by _ _ _ d _ _ (some-objects _ d _ _ _ (is-there _ (bytes ":objects") _ _ (c13 .begins-at .ensures .0) _ _ (c11 .o .given .1))) (grounded _ _ d h (c13 .before .before .before .before .pre .2) _ _ _ (c2 .names-to .ensures .0 (d .types) (d .constants) (copied 17 (part (now (c13 .before .before .before .before .args .tables)) 0 646) _ _ _ _ _ (h .types) (c6 .before .part-of .ensures) refl (c6 .copy .ensures)) (h .objects))), onwards-by _ _ _ _ (omega arith) (c2 .names-to .ensures .1))
+returns-2 c = let c2 = c .before .before in let c6 = c2 .before .before .before .before in let c11 = c6 .before .before .before .before .before in let c13 = c11 .before .before in let w = (further-at _ _ _ _ _ (c11 .o .given .1) (c13 .begins-at .ensures .1)) in (λ d h. grounded-by _ _ _ d _ _ (some-objects _ d _ _ _ (is-there _ (bytes ":objects") _ _ (c13 .begins-at .ensures .0) _ _ (c11 .o .given .1))) (grounded _ _ d h (c13 .before .before .before .before .pre .2) _ _ _ (c2 .names-to .ensures .0 (d .types) (d .constants) (copied 17 (part (now (c13 .before .before .before .before .args .tables)) 0 objectsAt) _ _ _ _ _ (h .types) (c6 .before .part-of .ensures) refl (c6 .copy .ensures)) (h .objects))), onwards-by _ _ _ _ (omega arith) (c2 .names-to .ensures .1))
 
 pub objects-section-spec : {M : Type 1} → statement M
 objects-section-spec =
