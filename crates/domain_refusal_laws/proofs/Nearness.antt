@@ -35,8 +35,6 @@ use Rattle.domain_meaning.specs.Due.{afterOf, placeOf}
 use Rattle.domain_refusal_laws.specs.Lowest.{seen, nextOf}
 use Rattle.domain_refusal_laws.proofs.Sight.{gap-near, run-near, part-near, byte-near, run-behind, seen-low}
 
--- ---- where a token of s stands and ends
-
 -- a token's own refusal: 1 is for what begins past the most bytes of a text too long
 pub record Own (size k p : ℕ) : Type 0 where
   pub least : 1 ≤ k
@@ -140,8 +138,7 @@ from-shape : (s : List ℕ) (g : ℕ) → Shape s (capped (length s) g) (tokenFr
 unfolding Fits
 from-shape s g = go (isPast (length s) g) refl (leb (length s) g) refl
   where
-    go : (t : Bool) → isPast (length s) g ≡ t → (u : Bool) → leb (length s) g ≡ u
-        → Shape s (cond t 32768 g) (cond t (T.Refusal 1 32768)
+    go : (t : Bool) → isPast (length s) g ≡ t → (u : Bool) → leb (length s) g ≡ u → Shape s (cond t 32768 g) (cond t (T.Refusal 1 32768)
         (cond u (T.End g) (onStart (kindOf (getD s g 0)) (domainRun s g (endOf s 59 g)) (bracketOf (getD s g 0) g) (T.Refusal 2 g))))
     go true d u e = record { place = refl; fits = record { least = omega arith; most = omega arith; long = λ _. (refl, past-low (length s) g d .0) } }
     go false d true e = record { place = refl; fits = leb-true (length s) g e }
@@ -207,8 +204,7 @@ unfolding gapEnd
 gap-behind s p = omega arith
 
 pub next-on : (s : List ℕ) (at n : ℕ) → nextOf s at ≤ n → nextOf s at ≤ nextOf s n
-next-on s at n h =
-    rw (token-shape s at .place, token-shape s n .place)
+next-on s at n h = rw (token-shape s at .place, token-shape s n .place)
     (capped-on (length s) (gapEnd s at) (gapEnd s n) n (rw (token-shape s at .place) at h) (gap-behind s n))
 
 past-token : (s : List ℕ) (at : ℕ) → isPast (length s) (gapEnd s at) ≡ true → tokenAt s at ≡ T.Refusal 1 32768
@@ -228,8 +224,7 @@ next-strict s at h = go (isPast (length s) (gapEnd s at)) refl
 
     go : (t : Bool) → isPast (length s) (gapEnd s at) ≡ t → nextOf s at < nextOf s n
     go true e = absurd (let y : ⊥ = omega (arith, (rw (past-token s at e) at h)) in y)
-    go false e =
-        let g : nextOf s at ≡ gapEnd s at = rw (token-shape s at .place, e) in
+    go false e = let g : nextOf s at ≡ gapEnd s at = rw (token-shape s at .place, e) in
         let r : gapEnd s at < nextOf s n = rw (token-shape s n .place) (later (gapEnd s at) e (rw g at h) (isPast (length s) (gapEnd s n)) refl) in
         omega arith
 
@@ -303,8 +298,7 @@ module _ (s u : List ℕ) (q : ℕ) (a : take q s ≡ take q u) where
   gap-same at h = omega (arith, gap-near s u q a at)
 
   past-same : (at : ℕ) → isPast (length s) (gapEnd s at) ≡ true → 32768 < q → isPast (length u) (gapEnd u at) ≡ true
-  past-same at e h =
-      let k : (32768 < length s) × (32768 ≤ gapEnd s at) = past-low (length s) (gapEnd s at) e in
+  past-same at e h = let k : (32768 < length s) × (32768 ≤ gapEnd s at) = past-low (length s) (gapEnd s at) e in
       past-is (length u) (gapEnd u at) (omega (arith, long-near)) (omega (arith, gap-near s u q a at))
 
   end-same : (g : ℕ) → endOf s 59 g + 1 ≤ q → endOf s 59 g ≡ endOf u 59 g
@@ -327,8 +321,7 @@ module _ (s u : List ℕ) (q : ℕ) (a : take q s ≡ take q u) where
   start-same g b c K.Refused e h = refl
 
   from-same : (g : ℕ) → seen s g ≤ q → tokenFrom s g ≡ tokenFrom u g
-  from-same g h =
-      let i : g < q = omega (arith, seen-low s g) in
+  from-same g h = let i : g < q = omega (arith, seen-low s g) in
       rw (past-near g i, end-near g i, ← byte-near s u q a g i, start-same g (bracketOf (getD s g 0) g) (T.Refusal 2 g) (kindOf (getD s g 0)) refl h)
 
   -- by whether the place is past the most bytes
@@ -341,8 +334,7 @@ module _ (s u : List ℕ) (q : ℕ) (a : take q s ≡ take q u) where
     where
       go : (t : Bool) → isPast (length s) (gapEnd s at) ≡ t → tokenFrom s (gapEnd s at) ≡ tokenFrom u (gapEnd u at)
       go true e = rw (e, past-same at e (omega (arith, sight at true e h, seen-low s 32768)))
-      go false e =
-          let k : seen s (gapEnd s at) ≤ q = sight at false e h in
+      go false e = let k : seen s (gapEnd s at) ≤ q = sight at false e h in
           rw (← gap-same at (omega (arith, seen-low s (gapEnd s at)))) (from-same (gapEnd s at) k)
 
   spot-start : (w : List ℕ) → Wordly w → (g : ℕ) → g < length s → (k : Kind) → kindOf (getD s g 0) ≡ k → seen s g ≤ q
@@ -362,8 +354,7 @@ module _ (s u : List ℕ) (q : ℕ) (a : take q s ≡ take q u) where
       byte = byte-near s u q a g (omega (arith, seen-low s g))
 
       alone : (k : Kind) → kindOf (getD s g 0) ≡ k → isWordly k ≡ false → goal
-      alone k d x =
-          let b : isWordly (kindOf (getD s g 0)) ≡ false = rw d x in
+      alone k d x = let b : isWordly (kindOf (getD s g 0)) ≡ false = rw d x in
           rw (unlike w f s g i b, unlike w f u g (omega (arith, long-near, seen-low s g)) (rw byte at b))
 
       go : (k : Kind) → kindOf (getD s g 0) ≡ k → onStart k (endOf s 59 g + 1) (g + 1) (g + 1) ≤ q → goal
@@ -386,8 +377,7 @@ module _ (s u : List ℕ) (q : ℕ) (a : take q s ≡ take q u) where
 
       go : (t : Bool) → isPast (length s) (gapEnd s at) ≡ t → spotBehind s (gapEnd s at) w ≡ spotBehind u (gapEnd u at) w
       go true e = rw (e, past-same at e (omega (arith, sight at true e h, seen-low s 32768)))
-      go false e =
-          let k : seen s (gapEnd s at) ≤ q = sight at false e h in
+      go false e = let k : seen s (gapEnd s at) ≤ q = sight at false e h in
           let i : gapEnd s at < q = omega (arith, seen-low s (gapEnd s at)) in
           rw (← gap-same at i, past-near (gapEnd s at) i, ← end-near (gapEnd s at) i) (here (gapEnd s at) k (leb (length s) (gapEnd s at)) refl)
 
