@@ -9,7 +9,7 @@ use program_arguments::arguments;
 use program_arguments::arguments::Options;
 use program_arguments::files;
 use program_messages::message;
-use program_quotes::quotes;
+use program_messages::quotes;
 use text_tokens::runs;
 
 // Feeds the plan to the check of two texts that are not refused, and answers.

@@ -1,7 +1,7 @@
 // The plan, read and fed in parts: only one part is held at a time, and beside it the lines that the answer may name.
 use check_calls::Check;
 use program_arguments::files;
-use program_quotes::quotes;
+use program_messages::quotes;
 use text_tokens::runs;
 
 pub struct FedPart {

@@ -1,10 +1,10 @@
 // What an answer means for a person: a sentence, and the lines that it is about.
 use crate::meanings;
+use crate::quotes;
 use happening_meaning::Outcome;
 use plan_feeding::PlanProgress;
 use program_arguments::files;
 use program_quotes::location;
-use program_quotes::quotes;
 use program_quotes::stderr;
 
 // A refusal's place, its number and what that means.

@@ -1,8 +1,8 @@
--- `program_quotes::quotes::want_nothing` is safe and ends. Assumes nothing.
+-- `program_messages::quotes::want_nothing` is safe and ends. Assumes nothing.
 use Prim.Native.Nat.{_-_}
 use borrow.Author.Needs.{needs}
-use Rattle.program_quotes.proofs.quotes.want_nothing.Statement.{statement}
-use Rattle.program_quotes.proofs.quotes.want_nothing.Tie as tie
+use Rattle.program_messages.proofs.quotes.want_nothing.Statement.{statement}
+use Rattle.program_messages.proofs.quotes.want_nothing.Tie as tie
 
 abbrev Inv-loop : tie.InvT-loop
 Inv-loop wanted₀ i₀ wanted i = Unit {0}

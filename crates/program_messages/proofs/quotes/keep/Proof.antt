@@ -1,9 +1,9 @@
--- `program_quotes::quotes::keep` is safe and ends. Assumes nothing.
+-- `program_messages::quotes::keep` is safe and ends. Assumes nothing.
 use Prim.Native.Nat.{_-_}
 use lib.ListN.{length}
 use borrow.Author.Needs.{needs}
-use Rattle.program_quotes.proofs.quotes.keep.Statement.{statement}
-use Rattle.program_quotes.proofs.quotes.keep.Tie as tie
+use Rattle.program_messages.proofs.quotes.keep.Statement.{statement}
+use Rattle.program_messages.proofs.quotes.keep.Tie as tie
 
 abbrev Inv-loop : tie.InvT-loop
 Inv-loop numbers₀ lengths₀ kept₀ wanted part i₀ numbers lengths kept i = Unit {0}

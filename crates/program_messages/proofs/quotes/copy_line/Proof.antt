@@ -1,8 +1,8 @@
--- `program_quotes::quotes::copy_line` is safe and ends. Assumes nothing.
+-- `program_messages::quotes::copy_line` is safe and ends. Assumes nothing.
 use Prim.Native.Nat.{_-_}
 use borrow.Author.Needs.{needs}
-use Rattle.program_quotes.proofs.quotes.copy_line.Statement.{statement}
-use Rattle.program_quotes.proofs.quotes.copy_line.Tie as tie
+use Rattle.program_messages.proofs.quotes.copy_line.Statement.{statement}
+use Rattle.program_messages.proofs.quotes.copy_line.Tie as tie
 
 abbrev Inv-loop : tie.InvT-loop
 Inv-loop i lengths kept₀ j₀ kept j = Unit {0}

@@ -1,8 +1,8 @@
--- `program_quotes::quotes::is_wanted` is safe and ends. Assumes nothing.
+-- `program_messages::quotes::is_wanted` is safe and ends. Assumes nothing.
 use Prim.Native.Nat.{_-_}
 use borrow.Author.Needs.{needs}
-use Rattle.program_quotes.proofs.quotes.is_wanted.Statement.{statement}
-use Rattle.program_quotes.proofs.quotes.is_wanted.Tie as tie
+use Rattle.program_messages.proofs.quotes.is_wanted.Statement.{statement}
+use Rattle.program_messages.proofs.quotes.is_wanted.Tie as tie
 
 abbrev Inv-loop : tie.InvT-loop
 Inv-loop wanted number i₀ i = Unit {0}

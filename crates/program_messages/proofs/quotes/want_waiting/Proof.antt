@@ -1,8 +1,8 @@
--- `program_quotes::quotes::want_waiting` is safe and ends. Assumes nothing.
+-- `program_messages::quotes::want_waiting` is safe and ends. Assumes nothing.
 use Prim.Native.Nat.{_-_}
 use borrow.Author.Needs.{needs}
-use Rattle.program_quotes.proofs.quotes.want_waiting.Statement.{statement}
-use Rattle.program_quotes.proofs.quotes.want_waiting.Tie as tie
+use Rattle.program_messages.proofs.quotes.want_waiting.Statement.{statement}
+use Rattle.program_messages.proofs.quotes.want_waiting.Tie as tie
 
 abbrev Inv-loop : tie.InvT-loop
 Inv-loop wanted₀ queue n i₀ wanted i = Unit {0}

@@ -1,8 +1,8 @@
--- `program_quotes::quotes::find` is safe and ends. Assumes nothing.
+-- `program_messages::quotes::find` is safe and ends. Assumes nothing.
 use Prim.Native.Nat.{_-_}
 use borrow.Author.Needs.{needs}
-use Rattle.program_quotes.proofs.quotes.find.Statement.{statement}
-use Rattle.program_quotes.proofs.quotes.find.Tie as tie
+use Rattle.program_messages.proofs.quotes.find.Statement.{statement}
+use Rattle.program_messages.proofs.quotes.find.Tie as tie
 
 abbrev Inv-loop : tie.InvT-loop
 Inv-loop numbers number i₀ i = Unit {0}

@@ -1,8 +1,8 @@
--- `program_quotes::quotes::forget` is safe and ends. Assumes nothing.
+-- `program_messages::quotes::forget` is safe and ends. Assumes nothing.
 use Prim.Native.Nat.{_-_}
 use borrow.Author.Needs.{needs}
-use Rattle.program_quotes.proofs.quotes.forget.Statement.{statement}
-use Rattle.program_quotes.proofs.quotes.forget.Tie as tie
+use Rattle.program_messages.proofs.quotes.forget.Statement.{statement}
+use Rattle.program_messages.proofs.quotes.forget.Tie as tie
 
 abbrev Inv-loop : tie.InvT-loop
 Inv-loop numbers₀ wanted i₀ numbers i = Unit {0}
