@@ -1,4 +1,4 @@
--- `wording::put_number` meets its contract; the measure is the number. Assumes nothing.
+-- `check_wording::put_number` meets its contract; the measure is the number. Assumes nothing.
 use mathlib.Core.Path.{ap, _∙_}
 use Prim.Native.Nat.{ℕ, _/_, _<_}
 use native.Mathlib.Omega.{arith}

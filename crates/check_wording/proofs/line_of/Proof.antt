@@ -1,4 +1,4 @@
--- `wording::line_of` meets its contract. Assumes nothing.
+-- `check_wording::line_of` meets its contract. Assumes nothing.
 use borrow.Author.Needs.{needs}
 use Rattle.check_wording.specs.Wording.{lineOf}
 use Rattle.check_wording.proofs.line_of.Statement.{statement}

@@ -1,4 +1,4 @@
--- `wording::put_end` meets its contract. Assumes nothing.
+-- `check_wording::put_end` meets its contract. Assumes nothing.
 use native.Mathlib.Omega.{arith}
 use denote.Ref.{now}
 use borrow.Author.Needs.{needs}

@@ -1,4 +1,4 @@
--- `wording::put_spaced` meets its contract. Assumes nothing.
+-- `check_wording::put_spaced` meets its contract. Assumes nothing.
 use mathlib.Core.List.{[], _∷_}
 use denote.Ref.{now}
 use borrow.Author.Needs.{needs}

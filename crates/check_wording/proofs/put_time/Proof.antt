@@ -1,4 +1,4 @@
--- `wording::put_time` meets its contract. Assumes nothing.
+-- `check_wording::put_time` meets its contract. Assumes nothing.
 use Prim.Native.Nat.{_/_}
 use native.Mathlib.Omega.{arith}
 use denote.Ref.{now}

@@ -1,4 +1,4 @@
--- `wording::put_verdict` meets its contract. Assumes nothing.
+-- `check_wording::put_verdict` meets its contract. Assumes nothing.
 use borrow.Author.Needs.{needs}
 use Rattle.text_words.specs.Bytes.{bytes}
 use Rattle.check_wording.specs.Wording.{wordOf}

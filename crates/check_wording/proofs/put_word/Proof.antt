@@ -1,4 +1,4 @@
--- `wording::put_word` meets its contract. Assumes nothing.
+-- `check_wording::put_word` meets its contract. Assumes nothing.
 use mathlib.Core.Path.{_≡_, refl, sym, ap, _∙_}
 use Prim.Native.Nat.{_+_, _-_, _≤_}
 use native.Mathlib.Nat.{add-zero}

@@ -1,4 +1,4 @@
--- `wording::second_of` meets its contract. Assumes nothing.
+-- `check_wording::second_of` meets its contract. Assumes nothing.
 use borrow.Author.Needs.{needs}
 use Rattle.check_wording.specs.Wording.{secondOf}
 use Rattle.check_wording.proofs.Whole.{second-none}

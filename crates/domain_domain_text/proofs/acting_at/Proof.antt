@@ -1,4 +1,4 @@
--- `domains::acting_at` meets its contract. Assumes nothing.
+-- `domain_domain_text::acting_at` meets its contract. Assumes nothing.
 use denote.Ref.{now}
 use Prim.Native.Nat.{_+_, _-_}
 use native.Mathlib.Omega.{arith}

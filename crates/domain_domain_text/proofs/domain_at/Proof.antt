@@ -1,4 +1,4 @@
--- `domains::domain_at` meets its contract. Assumes nothing.
+-- `domain_domain_text::domain_at` meets its contract. Assumes nothing.
 use mathlib.Core.Path.{refl}
 use denote.Ref.{now}
 use Prim.Native.Nat.{_-_}

@@ -1,4 +1,4 @@
--- `due::any_name` meets its contract. Assumes nothing.
+-- `domain_due::any_name` meets its contract. Assumes nothing.
 use mathlib.Core.Path.{sym, _∙_}
 use denote.Ref.{now}
 use Rattle.domain_due.proofs.Dues.{not-name, word-as, any-else, any-other, any-read}

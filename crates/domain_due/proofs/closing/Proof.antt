@@ -1,4 +1,4 @@
--- `due::closing` meets its contract. Assumes nothing.
+-- `domain_due::closing` meets its contract. Assumes nothing.
 use mathlib.Core.Path.{sym, _∙_}
 use denote.Ref.{now}
 use Rattle.domain_due.proofs.Dues.{closing-else, closing-read}

@@ -1,4 +1,4 @@
--- `due::new_name` meets its contract. Assumes nothing.
+-- `domain_due::new_name` meets its contract. Assumes nothing.
 use mathlib.Core.Path.{sym, _∙_}
 use denote.Ref.{now}
 use Rattle.domain_due.proofs.Dues.{new-refused, new-reserved, new-read}

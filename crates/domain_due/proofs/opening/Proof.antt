@@ -1,4 +1,4 @@
--- `due::opening` meets its contract. Assumes nothing.
+-- `domain_due::opening` meets its contract. Assumes nothing.
 use mathlib.Core.Path.{sym, _∙_}
 use denote.Ref.{now}
 use Rattle.domain_due.proofs.Dues.{opening-else, opening-deep, opening-read}

@@ -1,4 +1,4 @@
--- `due::refusal` meets its contract. Assumes nothing.
+-- `domain_due::refusal` meets its contract. Assumes nothing.
 use borrow.Author.Tests.{eq-eqb, ne-eqb}
 use borrow.Author.Needs.{needs}
 use Rattle.domain_due.proofs.refusal.Statement.{statement}

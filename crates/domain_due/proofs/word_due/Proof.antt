@@ -1,4 +1,4 @@
--- `due::word_due` meets its contract. Assumes nothing.
+-- `domain_due::word_due` meets its contract. Assumes nothing.
 use mathlib.Core.Path.{refl, sym, _∙_}
 use denote.Ref.{now}
 use Rattle.domain_due.proofs.Dues.{word-else, word-read, word-other}

@@ -1,4 +1,4 @@
--- `durations::duration_at` meets its contract. Assumes nothing.
+-- `domain_durations::duration_at` meets its contract. Assumes nothing.
 use denote.Ref.{now}
 use native.Mathlib.Omega.{arith}
 use Rattle.domain_due.proofs.Dues.{ahead-done, ahead-refused}

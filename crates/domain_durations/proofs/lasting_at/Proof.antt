@@ -1,4 +1,4 @@
--- `durations::lasting_at` meets its contract. Assumes nothing.
+-- `domain_durations::lasting_at` meets its contract. Assumes nothing.
 use denote.Ref.{now}
 use native.Mathlib.Omega.{arith}
 use Rattle.text_words.specs.Bytes.{bytes}

@@ -1,4 +1,4 @@
--- `durations::rule_begun` meets its contract. Assumes nothing.
+-- `domain_durations::rule_begun` meets its contract. Assumes nothing.
 use mathlib.Core.Path.{sym, _∙_}
 use denote.Ref.{now}
 use native.Mathlib.Omega.{arith}

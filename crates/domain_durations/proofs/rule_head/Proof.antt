@@ -1,4 +1,4 @@
--- `durations::rule_head` meets its contract. Assumes nothing.
+-- `domain_durations::rule_head` meets its contract. Assumes nothing.
 use mathlib.Core.Path.{refl, sym, _∙_}
 use denote.Ref.{now}
 use Rattle.text_words.specs.Bytes.{bytes}

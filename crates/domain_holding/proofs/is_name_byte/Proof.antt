@@ -1,4 +1,4 @@
--- `holding::is_name_byte` meets its contract. Assumes nothing.
+-- `domain_holding::is_name_byte` meets its contract. Assumes nothing.
 use mathlib.Core.Path.{_∙_}
 use Rattle.domain_holding.proofs.Storing.{name-of-two}
 use borrow.Author.Needs.{needs}

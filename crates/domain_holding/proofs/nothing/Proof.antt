@@ -1,4 +1,4 @@
--- `holding::nothing` meets its contract. Assumes nothing.
+-- `domain_holding::nothing` meets its contract. Assumes nothing.
 use mathlib.Core.Path.{refl}
 use Rattle.domain_holding.specs.Keeping.{keptIn}
 use Rattle.domain_holding.proofs.nothing.Statement.{statement}

@@ -1,4 +1,4 @@
--- `holding::put_last` meets its contract. Assumes nothing.
+-- `domain_holding::put_last` meets its contract. Assumes nothing.
 use mathlib.Core.Path.{sym}
 use Prim.Native.Nat.{_-_}
 use native.Mathlib.Omega.{arith}

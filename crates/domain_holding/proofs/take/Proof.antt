@@ -1,4 +1,4 @@
--- `holding::take` meets its contract: what is said of the bytes that are left is said of the piece. Assumes nothing.
+-- `domain_holding::take` meets its contract: what is said of the bytes that are left is said of the piece. Assumes nothing.
 use mathlib.Core.Path.{_≡_, refl, sym, _∙_}
 use Prim.Native.Nat.{_-_}
 use lib.ListN.{length, drop}

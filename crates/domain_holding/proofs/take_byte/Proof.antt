@@ -1,4 +1,4 @@
--- `holding::take_byte` meets its contract: each way out is a law of `Storing`. Assumes nothing.
+-- `domain_holding::take_byte` meets its contract: each way out is a law of `Storing`. Assumes nothing.
 use mathlib.Core.Path.{sym, _∙_}
 use denote.Ref.{now}
 use borrow.Author.Tests.{not-true, not-false}

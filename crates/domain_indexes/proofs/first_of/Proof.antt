@@ -1,4 +1,4 @@
--- `indexes::first_of` meets its contract. Assumes nothing.
+-- `domain_indexes::first_of` meets its contract. Assumes nothing.
 use mathlib.Core.Path.{_≡_, sym, _∙_}
 use Prim.Native.Nat.{ℕ, _-_, _*_, _≤_}
 use native.Mathlib.Omega.{arith}

@@ -1,4 +1,4 @@
--- `indexes::power` meets its contract. Assumes nothing.
+-- `domain_indexes::power` meets its contract. Assumes nothing.
 use native.Mathlib.Nat.{pow-zero}
 use mathlib.Core.Path.{_≡_, sym}
 use Prim.Native.Nat.{_-_, _^_, _≤_}

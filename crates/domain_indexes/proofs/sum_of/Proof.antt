@@ -1,4 +1,4 @@
--- `indexes::sum_of` meets its contract. Assumes nothing.
+-- `domain_indexes::sum_of` meets its contract. Assumes nothing.
 use mathlib.Core.Path.{_∙_}
 use Prim.Native.Nat.{_-_}
 use Rattle.domain_indexes.proofs.Sums.{first-all}

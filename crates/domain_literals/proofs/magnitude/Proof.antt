@@ -1,4 +1,4 @@
--- `literals::magnitude` meets its contract. Assumes nothing.
+-- `domain_literals::magnitude` meets its contract. Assumes nothing.
 use mathlib.Core.Path.{refl, sym, _∙_}
 use Prim.Native.Nat.{_-_, _≤_, _<_}
 use native.Mathlib.Nat.{lt-of-lt-of-le, lt-of-le-of-lt}

@@ -1,4 +1,4 @@
--- `literals::put` meets its contract. Assumes nothing.
+-- `domain_literals::put` meets its contract. Assumes nothing.
 use mathlib.Core.Path.{sym}
 use borrow.Author.Needs.{needs}
 use lib.Seq.{set-out}

@@ -1,4 +1,4 @@
--- `literals::put_bytes` meets its contract. Assumes nothing.
+-- `domain_literals::put_bytes` meets its contract. Assumes nothing.
 use mathlib.Core.Path.{_≡_, refl, sym, ap, _∙_}
 use Prim.Native.Nat.{_+_, _-_, _≤_}
 use native.Mathlib.Omega.{arith}

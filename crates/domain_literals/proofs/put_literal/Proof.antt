@@ -1,4 +1,4 @@
--- `literals::put_literal` meets its contract. Assumes nothing.
+-- `domain_literals::put_literal` meets its contract. Assumes nothing.
 use mathlib.Core.Path.{_∙_}
 use native.Mathlib.Numerals.{add-one}
 use borrow.Author.Needs.{needs}

@@ -1,4 +1,4 @@
--- `literals::sign_base` meets its contract. Assumes nothing.
+-- `domain_literals::sign_base` meets its contract. Assumes nothing.
 use mathlib.Core.Path.{sym, _∙_}
 use Prim.Native.Nat.{_-_}
 use native.Mathlib.Omega.{arith}

@@ -1,4 +1,4 @@
--- `literals::size_of` meets its contract. Assumes nothing.
+-- `domain_literals::size_of` meets its contract. Assumes nothing.
 use Prim.Native.Nat.{_-_}
 use native.Mathlib.Omega.{arith}
 use borrow.Author.Tests.{lt-ltb, le-ltb}

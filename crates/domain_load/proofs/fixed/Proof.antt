@@ -1,4 +1,4 @@
--- `domain::fixed` meets its contract. Assumes nothing.
+-- `domain_load::fixed` meets its contract. Assumes nothing.
 use mathlib.Core.Path.{refl}
 use Rattle.domain_meaning.specs.First.{noFacts, noNumbers}
 use Rattle.domain_load.specs.Load.{fixedOf}

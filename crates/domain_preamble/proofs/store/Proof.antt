@@ -1,4 +1,4 @@
--- `preamble::store` meets its contract. Assumes nothing.
+-- `domain_preamble::store` meets its contract. Assumes nothing.
 use borrow.Author.Needs.{needs}
 use Rattle.domain_preamble.proofs.store.Statement.{statement}
 use Rattle.domain_preamble.proofs.store.Tie as tie

@@ -1,4 +1,4 @@
--- `problems::goal_at` meets its contract. Assumes nothing.
+-- `domain_problem_text::goal_at` meets its contract. Assumes nothing.
 use mathlib.Core.Path.{sym, _∙_}
 use native.Mathlib.Omega.{arith}
 use denote.Ref.{now}

@@ -1,4 +1,4 @@
--- `problems::goal_to` meets its contract. Assumes nothing.
+-- `domain_problem_text::goal_to` meets its contract. Assumes nothing.
 use denote.Ref.{now}
 use Rattle.domain_problem_text.proofs.Aiming.{spent-at, reached-not, reached-open, reached}
 use borrow.Author.Needs.{needs}

@@ -1,4 +1,4 @@
--- `problems::init_at` meets its contract. Assumes nothing.
+-- `domain_problem_text::init_at` meets its contract. Assumes nothing.
 use Prim.Native.Nat.{_+_}
 use native.Mathlib.Omega.{arith}
 use denote.Ref.{now}

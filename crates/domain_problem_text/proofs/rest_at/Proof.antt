@@ -1,4 +1,4 @@
--- `problems::rest_at` meets its contract. Assumes nothing.
+-- `domain_problem_text::rest_at` meets its contract. Assumes nothing.
 use mathlib.Core.Path.{refl}
 use native.Mathlib.Omega.{arith}
 use denote.Ref.{now}

@@ -1,4 +1,4 @@
--- `rows::byte` meets its contract. Assumes nothing.
+-- `domain_rows::byte` meets its contract. Assumes nothing.
 use borrow.Author.Needs.{needs}
 use borrow.Author.Tests.{lt-ltb, le-ltb}
 use Rattle.domain_rows.specs.Held.{byteAt}

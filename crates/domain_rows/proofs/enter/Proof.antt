@@ -1,4 +1,4 @@
--- `rows::enter` meets its contract. Assumes nothing.
+-- `domain_rows::enter` meets its contract. Assumes nothing.
 use mathlib.Core.Path.{ap, _∙_}
 use Prim.Native.Nat.{_-_}
 use native.Mathlib.Omega.{arith}

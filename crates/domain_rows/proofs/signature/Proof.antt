@@ -1,4 +1,4 @@
--- `rows::signature` meets its contract. Assumes nothing.
+-- `domain_rows::signature` meets its contract. Assumes nothing.
 use mathlib.Core.Path.{_≡_, refl, sym, _∙_}
 use mathlib.Core.List.{map}
 use Prim.Native.Nat.{_-_, _+_, _≤_}

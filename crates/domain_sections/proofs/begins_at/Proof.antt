@@ -1,4 +1,4 @@
--- `sections::begins_at` meets its contract. Assumes nothing.
+-- `domain_sections::begins_at` meets its contract. Assumes nothing.
 use mathlib.Core.Path.{refl, sym, _∙_}
 use denote.Ref.{now}
 use Rattle.domain_sections.proofs.Frames.{begins-else, begins-none, begins-other, begins-here}

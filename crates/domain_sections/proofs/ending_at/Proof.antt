@@ -1,4 +1,4 @@
--- `sections::ending_at` meets its contract. Assumes nothing.
+-- `domain_sections::ending_at` meets its contract. Assumes nothing.
 use mathlib.Core.Path.{sym, _∙_}
 use denote.Ref.{now}
 use Rattle.domain_sections.proofs.Frames.{ending-section, ending-else, ending-behind, ending-read}

@@ -1,4 +1,4 @@
--- `sections::flag_of` meets its contract. Assumes nothing.
+-- `domain_sections::flag_of` meets its contract. Assumes nothing.
 use mathlib.Core.Path.{refl, sym, _∙_}
 use denote.Ref.{now}
 use Rattle.domain_sections.proofs.Frames.{flag-long, flag-name, flag-refused, flag-else, flag-other, flag-carried, flag-missing}

@@ -1,4 +1,4 @@
--- `sections::flags_to` meets its contract. Assumes nothing.
+-- `domain_sections::flags_to` meets its contract. Assumes nothing.
 use mathlib.Core.Path.{sym, _∙_}
 use Prim.Native.Nat.{_-_, _≤_}
 use native.Mathlib.Omega.{arith}

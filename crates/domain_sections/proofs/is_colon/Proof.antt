@@ -1,4 +1,4 @@
--- `sections::is_colon` meets its contract. Assumes nothing.
+-- `domain_sections::is_colon` meets its contract. Assumes nothing.
 use mathlib.Core.Path.{sym}
 use denote.Ref.{now}
 use lib.ListN.{List·getD-eq-default}

@@ -1,4 +1,4 @@
--- `amounts::given` meets its contract. Assumes nothing.
+-- `happening_amounts::given` meets its contract. Assumes nothing.
 use mir.Syntax.{w64}
 use mir.ValLaws.{toZ-ofZ}
 use Rattle.happening_meaning.specs.State.{numberAt}

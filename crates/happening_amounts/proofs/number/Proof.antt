@@ -1,4 +1,4 @@
--- `amounts::number` meets its contract. Assumes nothing.
+-- `happening_amounts::number` meets its contract. Assumes nothing.
 use lib.IntN.{pos}
 use lib.ListN.{getD}
 use mir.Syntax.{w64}

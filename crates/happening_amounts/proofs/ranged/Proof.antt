@@ -1,4 +1,4 @@
--- `amounts::ranged` meets its contract. Assumes nothing.
+-- `happening_amounts::ranged` meets its contract. Assumes nothing.
 use mir.Syntax.{w64}
 use mir.ValLaws.{toZ-ofZ}
 use Rattle.happening_amounts.proofs.Ranges.{within-in, within-out}

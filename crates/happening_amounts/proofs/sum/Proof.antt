@@ -1,4 +1,4 @@
--- `amounts::sum` meets its contract. Assumes nothing.
+-- `happening_amounts::sum` meets its contract. Assumes nothing.
 use mathlib.Core.Path.{_∙_}
 use Prim.Native.Nat.{_^_}
 use native.Mathlib.Nat.{lt-of-lt-of-le}

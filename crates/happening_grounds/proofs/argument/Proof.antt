@@ -1,4 +1,4 @@
--- `grounds::argument` meets its contract. Assumes nothing.
+-- `happening_grounds::argument` meets its contract. Assumes nothing.
 use native.Mathlib.Omega.{arith}
 use Rattle.happening_grounds.specs.Grounded.{objectsIn}
 use Rattle.happening_grounds.proofs.Firsts.{argument-object, argument-of, argument-past}

@@ -1,4 +1,4 @@
--- `grounds::entry` meets its contract. Assumes nothing.
+-- `happening_grounds::entry` meets its contract. Assumes nothing.
 use mir.Facts.{fits-widen}
 use mathlib.Core.Path.{refl, sym}
 use native.Mathlib.Omega.{arith}

@@ -1,4 +1,4 @@
--- `grounds::first` meets its contract. Assumes nothing.
+-- `happening_grounds::first` meets its contract. Assumes nothing.
 use native.Mathlib.Omega.{arith}
 use Rattle.happening_grounds.proofs.Firsts.{function-there, function-past, predicate-there, predicate-past}
 use borrow.Author.Needs.{needs}

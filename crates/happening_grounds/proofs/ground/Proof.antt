@@ -1,4 +1,4 @@
--- `grounds::ground` meets its contract. Assumes nothing.
+-- `happening_grounds::ground` meets its contract. Assumes nothing.
 use native.Mathlib.Omega.{arith}
 use Rattle.happening_grounds.specs.Grounded.{objectsIn, firstsIn, countIn}
 use Rattle.happening_grounds.proofs.Indexes.{index-0, index-1, index-2, index-3}

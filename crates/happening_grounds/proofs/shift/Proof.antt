@@ -1,4 +1,4 @@
--- `grounds::shift` meets its contract. Assumes nothing.
+-- `happening_grounds::shift` meets its contract. Assumes nothing.
 use mathlib.Core.Path.{refl}
 use native.Mathlib.Omega.{arith}
 use Rattle.happening_grounds.proofs.Indexes.{small}

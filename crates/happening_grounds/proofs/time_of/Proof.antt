@@ -1,4 +1,4 @@
--- `grounds::time_of` meets its contract. Assumes nothing.
+-- `happening_grounds::time_of` meets its contract. Assumes nothing.
 use Rattle.happening_grounds.proofs.Times.{at-start, over-all, at-end}
 use Rattle.happening_grounds.proofs.time_of.Statement.{statement}
 use Rattle.happening_grounds.proofs.time_of.Tie as tie

@@ -1,4 +1,4 @@
--- `instants::happen` meets its contract. Assumes nothing.
+-- `happening_instants::happen` meets its contract. Assumes nothing.
 use denote.Ref.{now}
 use Rattle.happening_grounds.specs.Grounded.{groundsIn}
 use Rattle.happening_instants.specs.Given.{pointsIn}

@@ -1,4 +1,4 @@
--- `instants::instant` meets its contract. Assumes nothing.
+-- `happening_instants::instant` meets its contract. Assumes nothing.
 use Rattle.happening_instants.proofs.Happens.{instant-fails, instant-spans}
 use borrow.Author.Needs.{needs}
 use Rattle.happening_instants.proofs.instant.Statement.{statement}

@@ -1,4 +1,4 @@
--- `instants::reach` meets its contract. Assumes nothing.
+-- `happening_instants::reach` meets its contract. Assumes nothing.
 use Rattle.domain_stored_meaning.specs.Decode.{conditionAt}
 use Rattle.happening_grounds.specs.Grounded.{groundsIn}
 use Rattle.happening_truths.specs.Judged.{stateIn}

@@ -1,4 +1,4 @@
--- `readings::atom` meets its contract. Assumes nothing.
+-- `happening_reads::atom` meets its contract. Assumes nothing.
 use Rattle.happening_grounds.specs.Grounded.{objectsIn, groundsIn}
 use Rattle.happening_reads.proofs.Conditions.{atom-number, atom-fact}
 use borrow.Author.Needs.{needs}

@@ -1,4 +1,4 @@
--- `readings::comparison` meets its contract. Assumes nothing.
+-- `happening_reads::comparison` meets its contract. Assumes nothing.
 use Rattle.happening_grounds.specs.Grounded.{objectsIn, groundsIn}
 use Rattle.happening_reads.proofs.Conditions.{compare-number, compare-fact}
 use borrow.Author.Needs.{needs}

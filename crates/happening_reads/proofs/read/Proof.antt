@@ -1,4 +1,4 @@
--- `readings::read` meets its contract. Assumes nothing.
+-- `happening_reads::read` meets its contract. Assumes nothing.
 use native.Mathlib.Omega.{arith}
 use borrow.Author.Needs.{needs}
 use Rattle.happening_grounds.specs.Grounded.{objectsIn, groundsIn}

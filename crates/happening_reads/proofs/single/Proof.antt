@@ -1,4 +1,4 @@
--- `readings::single` meets its contract. Assumes nothing.
+-- `happening_reads::single` meets its contract. Assumes nothing.
 use native.Mathlib.Omega.{arith}
 use Rattle.happening_grounds.specs.Grounded.{objectsIn, groundsIn}
 use Rattle.happening_reads.proofs.Conditions.{single-low, single-same, single-high, single-atom, single-no-atom, single-compare, single-no-compare}

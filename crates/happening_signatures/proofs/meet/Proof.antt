@@ -1,4 +1,4 @@
--- `signatures::meet` meets its contract. Assumes nothing.
+-- `happening_signatures::meet` meets its contract. Assumes nothing.
 use Rattle.happening_signatures.proofs.Masks.{meet-read, meet-written, meet-across, meet-last}
 use Rattle.happening_signatures.proofs.meet.Statement.{statement}
 use Rattle.happening_signatures.proofs.meet.Tie as tie

@@ -1,4 +1,4 @@
--- `signatures::right_bits` meets its contract. Assumes nothing.
+-- `happening_signatures::right_bits` meets its contract. Assumes nothing.
 use Rattle.happening_grounds.specs.Grounded.{objectsIn, groundsIn}
 use Rattle.domain_stored_meaning.specs.Decode.{expressionAt}
 use Rattle.happening_signatures.proofs.Gathering.{right-none, right-shown}

@@ -1,4 +1,4 @@
--- `signatures::rule_bits` meets its contract. Assumes nothing.
+-- `happening_signatures::rule_bits` meets its contract. Assumes nothing.
 use Prim.Native.Nat.{_+_}
 use native.Mathlib.Omega.{arith}
 use Rattle.happening_grounds.specs.Grounded.{objectsIn, groundsIn}

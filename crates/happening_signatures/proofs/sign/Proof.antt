@@ -1,4 +1,4 @@
--- `signatures::sign` meets its contract. Assumes nothing.
+-- `happening_signatures::sign` meets its contract. Assumes nothing.
 use Rattle.happening_grounds.specs.Grounded.{groundsIn}
 use Rattle.happening_signatures.proofs.Gathering.{signed}
 use borrow.Author.Needs.{needs}

@@ -1,4 +1,4 @@
--- `signatures::with_effects` meets its contract. Assumes nothing.
+-- `happening_signatures::with_effects` meets its contract. Assumes nothing.
 use native.Mathlib.Omega.{arith}
 use borrow.Author.Needs.{needs}
 use Rattle.domain_stored_meaning.specs.Decode.{whenOf}

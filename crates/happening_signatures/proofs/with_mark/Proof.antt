@@ -1,4 +1,4 @@
--- `signatures::with_mark` meets its contract. Assumes nothing.
+-- `happening_signatures::with_mark` meets its contract. Assumes nothing.
 use Rattle.happening_signatures.proofs.Gathering.{add-nothing, add-added, add-deleted, add-assigned, add-shifted}
 use borrow.Author.Needs.{needs}
 use Rattle.happening_signatures.proofs.with_mark.Statement.{statement}

@@ -1,4 +1,4 @@
--- `running::drain_below` meets its contract. Assumes nothing.
+-- `plan_running::drain_below` meets its contract. Assumes nothing.
 use denote.Ref.{now}
 use Prim.Native.Nat.{ℕ, _≤_}
 use mathlib.Core.Path.{_≡_, refl, sym, _∙_}

@@ -1,4 +1,4 @@
--- `running::happen_at` meets its contract. Assumes nothing.
+-- `plan_running::happen_at` meets its contract. Assumes nothing.
 use denote.Ref.{now}
 use Rattle.domain_stored_meaning.specs.Decode.{actionsAt}
 use Rattle.happening_grounds.specs.Grounded.{groundsIn}

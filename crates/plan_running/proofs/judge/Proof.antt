@@ -1,4 +1,4 @@
--- `running::judge` meets its contract. Assumes nothing.
+-- `plan_running::judge` meets its contract. Assumes nothing.
 use denote.Ref.{now}
 use Rattle.domain_stored_meaning.specs.Decode.{actionsAt, conditionAt}
 use Rattle.happening_grounds.specs.Grounded.{groundsIn}

@@ -1,4 +1,4 @@
--- `waiting::is_line` meets its contract. Assumes nothing.
+-- `plan_waiting::is_line` meets its contract. Assumes nothing.
 use borrow.Author.Tests.{le-leb, lt-leb}
 use Rattle.plan_meaning.specs.Listed.{listedLine}
 use Rattle.plan_waiting.proofs.is_line.Statement.{statement}

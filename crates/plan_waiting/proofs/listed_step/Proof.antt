@@ -1,4 +1,4 @@
--- `waiting::listed_step` meets its contract. Assumes nothing.
+-- `plan_waiting::listed_step` meets its contract. Assumes nothing.
 use mathlib.Core.Path.{sym, _∙_}
 use borrow.Author.Needs.{needs}
 use Rattle.plan_waiting.specs.Waiting.{listedStep}

@@ -1,4 +1,4 @@
--- `waiting::nobody` meets its contract. Assumes nothing.
+-- `plan_waiting::nobody` meets its contract. Assumes nothing.
 use mathlib.Core.Path.{refl}
 use Rattle.plan_waiting.specs.Waiting.{queueOf}
 use Rattle.plan_waiting.proofs.nobody.Statement.{statement}

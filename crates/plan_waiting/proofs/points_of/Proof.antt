@@ -1,4 +1,4 @@
--- `waiting::points_of` meets its contract. Assumes nothing.
+-- `plan_waiting::points_of` meets its contract. Assumes nothing.
 use mathlib.Core.Path.{sym, ap}
 use lib.ListN.{length}
 use Rattle.plan_waiting.proofs.Points.{one-point, two-points}

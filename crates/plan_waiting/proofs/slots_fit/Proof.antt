@@ -1,4 +1,4 @@
--- `waiting::slots_fit` meets its contract. Assumes nothing.
+-- `plan_waiting::slots_fit` meets its contract. Assumes nothing.
 use Prim.Native.Nat.{_≤_, _-_}
 use mathlib.Core.Bool.{true}
 use mathlib.Core.Path.{_≡_, sym, _∙_}

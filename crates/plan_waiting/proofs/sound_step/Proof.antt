@@ -1,4 +1,4 @@
--- `waiting::sound_step` meets its contract. Assumes nothing.
+-- `plan_waiting::sound_step` meets its contract. Assumes nothing.
 use borrow.Author.Tests.{lt-ltb, le-ltb}
 use Rattle.plan_waiting.specs.Waiting.{soundStep}
 use Rattle.plan_waiting.proofs.sound_step.Statement.{statement}

@@ -1,4 +1,4 @@
--- `waiting::step_fits` meets its contract. Assumes nothing.
+-- `plan_waiting::step_fits` meets its contract. Assumes nothing.
 use mathlib.Core.Path.{sym, _∙_}
 use borrow.Author.Needs.{needs}
 use Rattle.plan_waiting.proofs.step_fits.Statement.{statement}

@@ -1,4 +1,4 @@
--- `waiting::tidy` meets its contract. Assumes nothing.
+-- `plan_waiting::tidy` meets its contract. Assumes nothing.
 use Prim.Native.Nat.{_≤_, _-_}
 use mathlib.Core.Path.{_≡_, ap}
 use native.Mathlib.Omega.{arith}

@@ -1,4 +1,4 @@
--- `actions::acts::action_at` meets its contract. Assumes nothing.
+-- `domain_actions::acts::action_at` meets its contract. Assumes nothing.
 use denote.Ref.{now}
 use Prim.Native.Nat.{_-_}
 use native.Mathlib.Omega.{arith}

@@ -1,4 +1,4 @@
--- `actions::acts::actions_to` meets its contract. Assumes nothing.
+-- `domain_actions::acts::actions_to` meets its contract. Assumes nothing.
 use mathlib.Core.Path.{_≡_, refl, _∙_}
 use denote.Ref.{now}
 use Prim.Native.Nat.{ℕ, _+_, _-_, _≤_, _<_}

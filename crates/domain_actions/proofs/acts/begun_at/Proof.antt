@@ -1,4 +1,4 @@
--- `actions::acts::begun_at` meets its contract. Assumes nothing.
+-- `domain_actions::acts::begun_at` meets its contract. Assumes nothing.
 use denote.Ref.{now}
 use Prim.Native.Nat.{_-_}
 use Rattle.text_words.specs.Bytes.{bytes}

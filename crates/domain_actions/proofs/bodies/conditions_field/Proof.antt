@@ -1,4 +1,4 @@
--- `actions::bodies::conditions_field` meets its contract. Assumes nothing.
+-- `domain_actions::bodies::conditions_field` meets its contract. Assumes nothing.
 use denote.Ref.{now}
 use Rattle.text_words.specs.Bytes.{bytes}
 use Rattle.domain_actions.proofs.Resting.{field-durative, field-simple}

@@ -1,4 +1,4 @@
--- `actions::bodies::mark` meets its contract. Assumes nothing.
+-- `domain_actions::bodies::mark` meets its contract. Assumes nothing.
 use mathlib.Core.Path.{_≡_, refl, _∙_}
 use Prim.Native.Nat.{suc, _+_, _*_}
 use native.Mathlib.Omega.{arith}

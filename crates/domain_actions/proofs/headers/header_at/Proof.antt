@@ -1,4 +1,4 @@
--- `headers::header_at` meets its contract. Assumes nothing.
+-- `domain_actions::headers::header_at` meets its contract. Assumes nothing.
 use mathlib.Core.Path.{refl, sym, _∙_}
 use mathlib.Core.List.{[], _∷_}
 use native.Mathlib.Omega.{arith}

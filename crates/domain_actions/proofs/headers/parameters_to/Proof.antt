@@ -1,4 +1,4 @@
--- `headers::parameters_to` meets its contract. Assumes nothing.
+-- `domain_actions::headers::parameters_to` meets its contract. Assumes nothing.
 use mathlib.Core.Path.{refl}
 use native.Mathlib.Omega.{arith}
 use denote.Ref.{now}

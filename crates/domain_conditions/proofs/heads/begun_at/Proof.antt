@@ -1,4 +1,4 @@
--- `conditions::heads::begun_at` meets its contract. Assumes nothing.
+-- `domain_conditions::heads::begun_at` meets its contract. Assumes nothing.
 use mathlib.Core.Path.{sym, _∙_}
 use denote.Ref.{now}
 use Prim.Native.Nat.{_-_}

@@ -1,4 +1,4 @@
--- `conditions::heads::comparison_of` meets its contract. Assumes nothing.
+-- `domain_conditions::heads::comparison_of` meets its contract. Assumes nothing.
 use mathlib.Core.Path.{refl}
 use native.Mathlib.Omega.{arith}
 use Rattle.domain_conditions.proofs.Beginning.{begin-refused, comparison-none, comparison-some, inside-other, inside-compared}

@@ -1,4 +1,4 @@
--- `conditions::heads::head_at` meets its contract. Assumes nothing.
+-- `domain_conditions::heads::head_at` meets its contract. Assumes nothing.
 use mathlib.Core.Path.{refl, sym, _∙_}
 use denote.Ref.{now}
 use Rattle.domain_conditions.proofs.Beginning.{begin-refused, begin-by, head-else, head-word, inside-other, inside-from}

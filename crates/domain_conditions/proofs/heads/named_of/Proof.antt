@@ -1,4 +1,4 @@
--- `conditions::heads::named_of` meets its contract. Assumes nothing.
+-- `domain_conditions::heads::named_of` meets its contract. Assumes nothing.
 use native.Mathlib.Omega.{arith}
 use Rattle.domain_conditions.proofs.Beginning.{head-and, head-not, other-name, inside-and, inside-not, inside-atom}
 use borrow.Author.Needs.{needs}

@@ -1,4 +1,4 @@
--- `conditions::heads::operated_of` meets its contract. Assumes nothing.
+-- `domain_conditions::heads::operated_of` meets its contract. Assumes nothing.
 use mathlib.Core.Path.{refl}
 use native.Mathlib.Omega.{arith}
 use Rattle.domain_conditions.proofs.Beginning.{begin-refused, begin-by, head-equal, head-less, head-at-most, head-more, head-at-least, other-operator, inside-other}

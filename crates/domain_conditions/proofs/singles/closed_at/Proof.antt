@@ -1,4 +1,4 @@
--- `conditions::singles::closed_at` meets its contract. Assumes nothing.
+-- `domain_conditions::singles::closed_at` meets its contract. Assumes nothing.
 use denote.Ref.{now}
 use Rattle.domain_meaning.specs.Due.{closing}
 use mathlib.Core.Path.{refl}

@@ -1,4 +1,4 @@
--- `conditions::singles::compared_at` meets its contract. Assumes nothing.
+-- `domain_conditions::singles::compared_at` meets its contract. Assumes nothing.
 use mathlib.Core.Path.{sym, _∙_}
 use denote.Ref.{now}
 use Rattle.domain_conditions.proofs.Equals.{compared-objects, compared-numbers}

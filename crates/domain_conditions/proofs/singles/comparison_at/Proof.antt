@@ -1,4 +1,4 @@
--- `conditions::singles::comparison_at` meets its contract. Assumes nothing.
+-- `domain_conditions::singles::comparison_at` meets its contract. Assumes nothing.
 use Rattle.domain_meaning.specs.Due.{closing}
 use mathlib.Core.Path.{sym, ap, _∙_}
 use mathlib.Core.Bool.{cond}

@@ -1,4 +1,4 @@
--- `conditions::singles::objects_due` meets its contract. Assumes nothing.
+-- `domain_conditions::singles::objects_due` meets its contract. Assumes nothing.
 use native.Mathlib.Omega.{arith}
 use Rattle.domain_conditions.proofs.Equals.{objects-past, objects-else, objects-word}
 use borrow.Author.Needs.{needs}

@@ -1,4 +1,4 @@
--- `conditions::singles::same_at` meets its contract. Assumes nothing.
+-- `domain_conditions::singles::same_at` meets its contract. Assumes nothing.
 use Rattle.domain_meaning.specs.Due.{closing}
 use denote.Ref.{now}
 use native.Mathlib.Omega.{arith}

@@ -1,4 +1,4 @@
--- `conditions::trees::negated_at` meets its contract. Assumes nothing.
+-- `domain_conditions::trees::negated_at` meets its contract. Assumes nothing.
 use mathlib.Core.Path.{refl}
 use mathlib.Core.Bool.{false}
 use Prim.Native.Nat.{_-_}

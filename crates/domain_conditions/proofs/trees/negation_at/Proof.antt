@@ -1,4 +1,4 @@
--- `conditions::trees::negation_at` meets its contract. Assumes nothing.
+-- `domain_conditions::trees::negation_at` meets its contract. Assumes nothing.
 use denote.Ref.{now}
 use native.Mathlib.Omega.{arith}
 use Rattle.domain_meaning.specs.Due.{closing}

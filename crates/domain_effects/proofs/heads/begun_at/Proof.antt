@@ -1,4 +1,4 @@
--- `effects::heads::begun_at` meets its contract. Assumes nothing.
+-- `domain_effects::heads::begun_at` meets its contract. Assumes nothing.
 use mathlib.Core.Path.{sym, _∙_}
 use denote.Ref.{now}
 use native.Mathlib.Omega.{arith}

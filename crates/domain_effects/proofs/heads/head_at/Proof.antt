@@ -1,4 +1,4 @@
--- `effects::heads::head_at` meets its contract. Assumes nothing.
+-- `domain_effects::heads::head_at` meets its contract. Assumes nothing.
 use mathlib.Core.Path.{refl, sym, _∙_}
 use denote.Ref.{now}
 use native.Mathlib.Omega.{arith}

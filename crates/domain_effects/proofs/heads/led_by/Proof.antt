@@ -1,4 +1,4 @@
--- `effects::heads::led_by` meets its contract. Assumes nothing.
+-- `domain_effects::heads::led_by` meets its contract. Assumes nothing.
 use native.Mathlib.Omega.{arith}
 use Rattle.domain_effects.proofs.Leading.{lead-all, lead-not, lead-assign, lead-raise, lead-lower, lead-fact, inside-all, inside-not, inside-change, inside-fact}
 use borrow.Author.Needs.{needs}

@@ -1,4 +1,4 @@
--- `effects::singles::change_at` meets its contract. Assumes nothing.
+-- `domain_effects::singles::change_at` meets its contract. Assumes nothing.
 use mathlib.Core.Path.{refl, ap, _∙_}
 use denote.Ref.{now}
 use native.Mathlib.Omega.{arith}

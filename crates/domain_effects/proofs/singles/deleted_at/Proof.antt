@@ -1,4 +1,4 @@
--- `effects::singles::deleted_at` meets its contract. Assumes nothing.
+-- `domain_effects::singles::deleted_at` meets its contract. Assumes nothing.
 use mathlib.Core.Path.{refl, sym, ap, _∙_}
 use mathlib.Core.Bool.{false}
 use denote.Ref.{now}

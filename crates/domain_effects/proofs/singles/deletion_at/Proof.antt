@@ -1,4 +1,4 @@
--- `effects::singles::deletion_at` meets its contract. Assumes nothing.
+-- `domain_effects::singles::deletion_at` meets its contract. Assumes nothing.
 use mathlib.Core.Path.{sym, ap, _∙_}
 use denote.Ref.{now}
 use native.Mathlib.Omega.{arith}

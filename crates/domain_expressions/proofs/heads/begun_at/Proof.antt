@@ -1,4 +1,4 @@
--- `expressions::heads::begun_at` meets its contract. Assumes nothing.
+-- `domain_expressions::heads::begun_at` meets its contract. Assumes nothing.
 use mir.Syntax.{w64}
 use mir.ValLaws.{toZ-ofZ}
 use mathlib.Core.Path.{refl, sym, _∙_}

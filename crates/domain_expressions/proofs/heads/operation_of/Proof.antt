@@ -1,4 +1,4 @@
--- `expressions::heads::operation_of` meets its contract. Assumes nothing.
+-- `domain_expressions::heads::operation_of` meets its contract. Assumes nothing.
 use mathlib.Core.Path.{refl}
 use native.Mathlib.Omega.{arith}
 use mathlib.Core.Bool.{true, false}

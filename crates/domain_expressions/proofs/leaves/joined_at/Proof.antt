@@ -1,4 +1,4 @@
--- `expressions::leaves::joined_at` meets its contract. Assumes nothing.
+-- `domain_expressions::leaves::joined_at` meets its contract. Assumes nothing.
 use mathlib.Core.Path.{ap, _∙_}
 use denote.Ref.{now}
 use Rattle.domain_expressions.proofs.Ends.{joined-refused, joined-done, spent-refused, spent-free, operator-small}

@@ -1,4 +1,4 @@
--- `expressions::leaves::lone_end` meets its contract. Assumes nothing.
+-- `domain_expressions::leaves::lone_end` meets its contract. Assumes nothing.
 use Rattle.text_tokens.specs.Tokens.{tokenAt}
 use mathlib.Core.Path.{sym, _∙_}
 use denote.Ref.{now}

@@ -1,4 +1,4 @@
--- `expressions::leaves::operands_end` meets its contract. Assumes nothing.
+-- `domain_expressions::leaves::operands_end` meets its contract. Assumes nothing.
 use mathlib.Core.Path.{sym, _∙_}
 use denote.Ref.{now}
 use Rattle.domain_expressions.proofs.Ends.{end-close, end-many, end-number, end-else}

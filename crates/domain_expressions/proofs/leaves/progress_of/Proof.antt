@@ -1,4 +1,4 @@
--- `expressions::leaves::progress_of` meets its contract. Assumes nothing.
+-- `domain_expressions::leaves::progress_of` meets its contract. Assumes nothing.
 use borrow.Author.Needs.{needs}
 use Rattle.domain_expressions.proofs.leaves.progress_of.Statement.{statement}
 use Rattle.domain_expressions.proofs.leaves.progress_of.Tie as tie

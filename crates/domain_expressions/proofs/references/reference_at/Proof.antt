@@ -1,4 +1,4 @@
--- `expressions::references::reference_at` meets its contract. Assumes nothing.
+-- `domain_expressions::references::reference_at` meets its contract. Assumes nothing.
 use Rattle.domain_expressions.proofs.Referred.{reference-wrote}
 use mathlib.Core.Path.{_∙_}
 use denote.Ref.{now}

@@ -1,4 +1,4 @@
--- `expressions::trees::expression_at` meets its contract. Assumes nothing.
+-- `domain_expressions::trees::expression_at` meets its contract. Assumes nothing.
 use mathlib.Core.Path.{refl}
 use denote.Ref.{now}
 use Rattle.domain_expressions.proofs.Whole.{own-places, own-done, own-refused, over-refused}

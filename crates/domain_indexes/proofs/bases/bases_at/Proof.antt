@@ -1,4 +1,4 @@
--- `bases::bases_at` meets its contract. Assumes nothing.
+-- `domain_indexes::bases::bases_at` meets its contract. Assumes nothing.
 use mathlib.Core.Path.{_≡_, refl, sym, _∙_}
 use Prim.Native.Nat.{ℕ, _+_, _-_, _≤_}
 use native.Mathlib.Omega.{arith}

@@ -1,4 +1,4 @@
--- `init::entries::entry_at` meets its contract. Assumes nothing.
+-- `domain_init::entries::entry_at` meets its contract. Assumes nothing.
 use Rattle.text_words.specs.Bytes.{bytes}
 use mathlib.Core.Path.{refl, sym, _∙_}
 use native.Mathlib.Omega.{arith}

@@ -1,4 +1,4 @@
--- `init::entries::fact_at` meets its contract. Assumes nothing.
+-- `domain_init::entries::fact_at` meets its contract. Assumes nothing.
 use denote.Ref.{now}
 use Rattle.domain_due.proofs.Dues.{ahead-done, ahead-refused, ahead-by}
 use Rattle.domain_init.proofs.Ways.{predicates-listed, fact-refused, fact-done}

@@ -1,4 +1,4 @@
--- `init::entries::init_to` meets its contract. Assumes nothing.
+-- `domain_init::entries::init_to` meets its contract. Assumes nothing.
 use mathlib.Core.Path.{_≡_, refl, sym, _∙_}
 use mathlib.Core.Bool.{true, false}
 use Prim.Native.Nat.{_-_, _≤_}

@@ -1,4 +1,4 @@
--- `init::entries::number_at` meets its contract. Assumes nothing.
+-- `domain_init::entries::number_at` meets its contract. Assumes nothing.
 use native.Mathlib.Omega.{arith}
 use denote.Ref.{now}
 use Rattle.domain_due.proofs.Dues.{ahead-done, ahead-refused}

@@ -1,4 +1,4 @@
--- `init::entries::target_at` meets its contract. Assumes nothing.
+-- `domain_init::entries::target_at` meets its contract. Assumes nothing.
 use Rattle.domain_due.proofs.Dues.{ahead-done, ahead-refused, ahead-by}
 use Rattle.domain_init.proofs.Ways.{functions-listed, target-shut, target-nameless, target-refused, target-twice, target-once}
 use mathlib.Core.Path.{refl, sym, _∙_}

@@ -1,4 +1,4 @@
--- `init::entries::value_at` meets its contract. Assumes nothing.
+-- `domain_init::entries::value_at` meets its contract. Assumes nothing.
 use mathlib.Core.Path.{sym, _∙_}
 use native.Mathlib.Omega.{arith}
 use denote.Ref.{now}

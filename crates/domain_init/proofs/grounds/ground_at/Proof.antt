@@ -1,4 +1,4 @@
--- `init::grounds::ground_at` meets its contract. Assumes nothing.
+-- `domain_init::grounds::ground_at` meets its contract. Assumes nothing.
 use mathlib.Core.Path.{refl, sym, ap, _∙_}
 use native.Mathlib.Omega.{arith}
 use denote.Ref.{now}

@@ -1,4 +1,4 @@
--- `init::grounds::index_at` meets its contract. Assumes nothing.
+-- `domain_init::grounds::index_at` meets its contract. Assumes nothing.
 use mathlib.Core.Path.{refl, sym, ap, _∙_}
 use Rattle.domain_init.proofs.Indexed.{stored-refused, behind-refused, behind-done, cells-room}
 use native.Mathlib.Omega.{arith}

@@ -1,4 +1,4 @@
--- `init::grounds::numeral_of` meets its contract. Assumes nothing.
+-- `domain_init::grounds::numeral_of` meets its contract. Assumes nothing.
 use mathlib.Core.Path.{_≡_, refl, sym, _∙_}
 use Prim.Native.Nat.{_-_, _^_, _≤_, _<_}
 use native.Mathlib.Omega.{arith}

@@ -1,4 +1,4 @@
--- `init::values::is_defined` meets its contract. Assumes nothing.
+-- `domain_init::values::is_defined` meets its contract. Assumes nothing.
 use denote.Ref.{now}
 use lib.IntN.{pos}
 use lib.ListN.{getD}

@@ -1,4 +1,4 @@
--- `init::values::put` meets its contract. Assumes nothing.
+-- `domain_init::values::put` meets its contract. Assumes nothing.
 use mathlib.Core.Path.{sym}
 use denote.Ref.{now}
 use lib.Seq.{set-out}

@@ -1,4 +1,4 @@
--- `vocabulary::constants_section` meets its contract. Assumes nothing.
+-- `domain_preamble::vocabulary::constants_section` meets its contract. Assumes nothing.
 use mathlib.Core.List.{[]}
 use native.Mathlib.Omega.{arith}
 use denote.Ref.{now}

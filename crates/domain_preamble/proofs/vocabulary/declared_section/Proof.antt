@@ -1,4 +1,4 @@
--- `vocabulary::declared_section` meets its contract. Assumes nothing.
+-- `domain_preamble::vocabulary::declared_section` meets its contract. Assumes nothing.
 use mathlib.Core.List.{[]}
 use Prim.Native.Nat.{_+_}
 use native.Mathlib.Omega.{arith}

@@ -1,4 +1,4 @@
--- `vocabulary::flags_section` meets its contract. Assumes nothing.
+-- `domain_preamble::vocabulary::flags_section` meets its contract. Assumes nothing.
 use mathlib.Core.Path.{sym, ap, _∙_}
 use Prim.Native.Nat.{_+_}
 use native.Mathlib.Omega.{arith}

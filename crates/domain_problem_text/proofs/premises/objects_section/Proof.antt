@@ -1,4 +1,4 @@
--- `premises::objects_section` meets its contract. Assumes nothing.
+-- `domain_problem_text::premises::objects_section` meets its contract. Assumes nothing.
 use mathlib.Core.Path.{refl, ap}
 use native.Mathlib.Omega.{arith}
 use denote.Ref.{now}

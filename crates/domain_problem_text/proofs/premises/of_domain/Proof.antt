@@ -1,4 +1,4 @@
--- `premises::of_domain` meets its contract. Assumes nothing.
+-- `domain_problem_text::premises::of_domain` meets its contract. Assumes nothing.
 use mathlib.Core.Path.{refl, sym, ap, _∙_}
 use native.Mathlib.Omega.{arith}
 use denote.Ref.{now}

@@ -1,4 +1,4 @@
--- `premises::premises_at` meets its contract. Assumes nothing.
+-- `domain_problem_text::premises::premises_at` meets its contract. Assumes nothing.
 use mathlib.Core.Path.{refl, sym, _∙_}
 use native.Mathlib.Omega.{arith}
 use denote.Ref.{now}

@@ -1,4 +1,4 @@
--- `premises::section_due` meets its contract. Assumes nothing.
+-- `domain_problem_text::premises::section_due` meets its contract. Assumes nothing.
 use mathlib.Core.Path.{sym, ap, _∙_}
 use native.Mathlib.Omega.{arith}
 use denote.Ref.{now}

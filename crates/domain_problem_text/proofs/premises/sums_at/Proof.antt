@@ -1,4 +1,4 @@
--- `premises::sums_at` meets its contract. Assumes nothing.
+-- `domain_problem_text::premises::sums_at` meets its contract. Assumes nothing.
 use mathlib.Core.Path.{sym, _∙_}
 use borrow.Author.Needs.{needs}
 use Rattle.domain_problem_text.proofs.premises.sums_at.Statement.{statement}

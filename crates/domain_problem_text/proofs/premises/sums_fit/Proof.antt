@@ -1,4 +1,4 @@
--- `premises::sums_fit` meets its contract. Assumes nothing.
+-- `domain_problem_text::premises::sums_fit` meets its contract. Assumes nothing.
 use denote.Ref.{now}
 use Rattle.domain_terms.proofs.Signatures.{predicates-signed, functions-signed}
 use Rattle.domain_problem_text.proofs.Judging.{predicates-passed, functions-judged}

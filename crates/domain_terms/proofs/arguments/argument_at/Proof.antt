@@ -1,4 +1,4 @@
--- `terms::arguments::argument_at` meets its contract. Assumes nothing.
+-- `domain_terms::arguments::argument_at` meets its contract. Assumes nothing.
 use mathlib.Core.Path.{refl, sym, ap, _∙_}
 use denote.Ref.{now}
 use native.Mathlib.Omega.{arith}

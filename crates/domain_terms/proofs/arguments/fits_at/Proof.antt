@@ -1,4 +1,4 @@
--- `terms::arguments::fits_at` meets its contract. Assumes nothing.
+-- `domain_terms::arguments::fits_at` meets its contract. Assumes nothing.
 use mathlib.Core.Path.{_∙_}
 use Prim.Native.Nat.{_-_}
 use borrow.Author.Needs.{needs}

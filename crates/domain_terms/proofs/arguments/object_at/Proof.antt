@@ -1,4 +1,4 @@
--- `terms::arguments::object_at` meets its contract. Assumes nothing.
+-- `domain_terms::arguments::object_at` meets its contract. Assumes nothing.
 use mathlib.Core.Path.{refl, sym, _∙_}
 use native.Mathlib.Omega.{arith}
 use Prim.Native.Nat.{_-_}

@@ -1,4 +1,4 @@
--- `terms::arguments::type_of_cell` meets its contract. Assumes nothing.
+-- `domain_terms::arguments::type_of_cell` meets its contract. Assumes nothing.
 use Prim.Native.Nat.{_-_}
 use Rattle.domain_terms.proofs.Givens.{cell-object, cell-variable}
 use borrow.Author.Needs.{needs}

@@ -1,4 +1,4 @@
--- `terms::scope::find_in` meets its contract. Assumes nothing.
+-- `domain_terms::scope::find_in` meets its contract. Assumes nothing.
 use mathlib.Core.Path.{_∙_}
 use denote.Ref.{now}
 use Prim.Native.Nat.{_-_}

@@ -1,4 +1,4 @@
--- `terms::scope::is_below` meets its contract. Assumes nothing.
+-- `domain_terms::scope::is_below` meets its contract. Assumes nothing.
 use mathlib.Core.Path.{_≡_, refl, sym, _∙_}
 use denote.Ref.{now}
 use native.Mathlib.Omega.{arith}

@@ -1,4 +1,4 @@
--- `terms::scope::kept_in` meets its contract. Assumes nothing.
+-- `domain_terms::scope::kept_in` meets its contract. Assumes nothing.
 use mathlib.Core.Path.{sym, _∙_}
 use denote.Ref.{now}
 use native.Mathlib.Omega.{arith}

@@ -1,4 +1,4 @@
--- `parts::bodies::body_at` meets its contract. Assumes nothing.
+-- `domain_timed_parts::bodies::body_at` meets its contract. Assumes nothing.
 use denote.Ref.{now}
 use native.Mathlib.Omega.{arith}
 use Rattle.domain_expressions.proofs.Ends.{spent-refused}

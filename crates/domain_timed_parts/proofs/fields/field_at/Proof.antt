@@ -1,4 +1,4 @@
--- `parts::fields::field_at` meets its contract. Assumes nothing.
+-- `domain_timed_parts::fields::field_at` meets its contract. Assumes nothing.
 use mathlib.Core.Path.{refl, sym, _∙_}
 use denote.Ref.{now}
 use native.Mathlib.Omega.{arith}

@@ -1,4 +1,4 @@
--- `parts::fields::field_parts` meets its contract. Assumes nothing.
+-- `domain_timed_parts::fields::field_parts` meets its contract. Assumes nothing.
 use mathlib.Core.Path.{sym, _∙_}
 use denote.Ref.{now}
 use Prim.Native.Nat.{_-_}

@@ -1,4 +1,4 @@
--- `parts::fields::held_at` meets its contract. Assumes nothing.
+-- `domain_timed_parts::fields::held_at` meets its contract. Assumes nothing.
 use denote.Ref.{now}
 use Prim.Native.Nat.{_-_}
 use native.Mathlib.Omega.{arith}

@@ -1,4 +1,4 @@
--- `parts::timed::part_behind` meets its contract. Assumes nothing.
+-- `domain_timed_parts::timed::part_behind` meets its contract. Assumes nothing.
 use mathlib.Core.Path.{sym, ap, _∙_}
 use denote.Ref.{now}
 use Prim.Native.Nat.{_-_}

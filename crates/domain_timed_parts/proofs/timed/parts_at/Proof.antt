@@ -1,4 +1,4 @@
--- `parts::timed::parts_at` meets its contract. Assumes nothing.
+-- `domain_timed_parts::timed::parts_at` meets its contract. Assumes nothing.
 use mathlib.Core.Path.{refl, sym, ap, _∙_}
 use denote.Ref.{now}
 use Prim.Native.Nat.{_+_, _-_}

@@ -1,4 +1,4 @@
--- `parts::timed::parts_to` meets its contract. Assumes nothing.
+-- `domain_timed_parts::timed::parts_to` meets its contract. Assumes nothing.
 use mathlib.Core.Path.{_≡_, refl, sym, _∙_}
 use denote.Ref.{now}
 use Prim.Native.Nat.{ℕ, _+_, _-_, _≤_, _<_}

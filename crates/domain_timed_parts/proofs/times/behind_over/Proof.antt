@@ -1,4 +1,4 @@
--- `parts::times::behind_over` meets its contract. Assumes nothing.
+-- `domain_timed_parts::times::behind_over` meets its contract. Assumes nothing.
 use denote.Ref.{now}
 use Rattle.domain_due.proofs.Dues.{ahead-done, ahead-refused, ahead-by}
 use Rattle.text_words.specs.Bytes.{bytes}

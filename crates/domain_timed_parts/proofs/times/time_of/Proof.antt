@@ -1,4 +1,4 @@
--- `parts::times::time_of` meets its contract. Assumes nothing.
+-- `domain_timed_parts::times::time_of` meets its contract. Assumes nothing.
 use mathlib.Core.Path.{refl, sym, _∙_}
 use denote.Ref.{now}
 use Rattle.domain_due.proofs.Dues.{ahead-refused}

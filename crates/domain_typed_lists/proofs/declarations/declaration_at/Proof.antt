@@ -1,4 +1,4 @@
--- `lists::declarations::declaration_at` meets its contract. Assumes nothing.
+-- `domain_typed_lists::declarations::declaration_at` meets its contract. Assumes nothing.
 use mathlib.Core.Path.{sym, ap, _∙_}
 use mathlib.Core.List.{[], _∷_}
 use Prim.Native.Nat.{_-_, _<_}

@@ -1,4 +1,4 @@
--- `lists::declarations::declarations_at` meets its contract. Assumes nothing.
+-- `domain_typed_lists::declarations::declarations_at` meets its contract. Assumes nothing.
 use mathlib.Core.Path.{_≡_, refl, sym, _∙_}
 use Prim.Native.Nat.{_-_, _≤_}
 use native.Mathlib.Omega.{arith}

@@ -1,4 +1,4 @@
--- `lists::declarations::signature_to` meets its contract. Assumes nothing.
+-- `domain_typed_lists::declarations::signature_to` meets its contract. Assumes nothing.
 use Prim.Native.Nat.{_-_}
 use native.Mathlib.Omega.{arith}
 use Rattle.domain_due.specs.Answers.{Ahead}

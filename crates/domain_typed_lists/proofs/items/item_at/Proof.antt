@@ -1,4 +1,4 @@
--- `lists::items::item_at` meets its contract. Assumes nothing.
+-- `domain_typed_lists::items::item_at` meets its contract. Assumes nothing.
 use mathlib.Core.Path.{refl, sym, _∙_}
 use denote.Ref.{now}
 use Rattle.domain_meaning.specs.Lists.{item}

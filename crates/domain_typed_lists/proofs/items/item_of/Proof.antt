@@ -1,4 +1,4 @@
--- `lists::items::item_of` meets its contract. Assumes nothing.
+-- `domain_typed_lists::items::item_of` meets its contract. Assumes nothing.
 use mathlib.Core.Path.{sym, _∙_}
 use Prim.Native.Nat.{_-_}
 use Rattle.text_words.specs.Bytes.{bytes}

@@ -1,4 +1,4 @@
--- `lists::typed::declare_name` meets its contract. Assumes nothing.
+-- `domain_typed_lists::typed::declare_name` meets its contract. Assumes nothing.
 use mathlib.Core.Path.{sym, _∙_}
 use Prim.Native.Nat.{_-_}
 use native.Mathlib.Omega.{arith}

@@ -1,4 +1,4 @@
--- `lists::typed::fresh_at` meets its contract. Assumes nothing.
+-- `domain_typed_lists::typed::fresh_at` meets its contract. Assumes nothing.
 use mathlib.Core.Path.{sym, ap}
 use Prim.Native.Nat.{_-_}
 use native.Mathlib.Omega.{arith}

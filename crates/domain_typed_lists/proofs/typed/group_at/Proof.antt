@@ -1,4 +1,4 @@
--- `lists::typed::group_at` meets its contract. Assumes nothing.
+-- `domain_typed_lists::typed::group_at` meets its contract. Assumes nothing.
 use mathlib.Core.Path.{refl, sym, _∙_}
 use Prim.Native.Nat.{_-_, _<_}
 use native.Mathlib.Omega.{arith}

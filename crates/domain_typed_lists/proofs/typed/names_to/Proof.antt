@@ -1,4 +1,4 @@
--- `lists::typed::names_to` meets its contract. Assumes nothing.
+-- `domain_typed_lists::typed::names_to` meets its contract. Assumes nothing.
 use Prim.Native.Nat.{_-_, _+_}
 use native.Mathlib.Omega.{arith}
 use denote.Ref.{now}

@@ -1,4 +1,4 @@
--- `lists::typed::type_of_group` meets its contract. Assumes nothing.
+-- `domain_typed_lists::typed::type_of_group` meets its contract. Assumes nothing.
 use Prim.Native.Nat.{_-_}
 use native.Mathlib.Omega.{arith}
 use Rattle.domain_typed_lists.proofs.Outcomes.{below-most}

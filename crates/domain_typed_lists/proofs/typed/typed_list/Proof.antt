@@ -1,4 +1,4 @@
--- `lists::typed::typed_list` meets its contract. Assumes nothing.
+-- `domain_typed_lists::typed::typed_list` meets its contract. Assumes nothing.
 use mathlib.Core.Path.{_≡_, refl}
 use Prim.Native.Nat.{_-_, _≤_}
 use native.Mathlib.Omega.{arith}

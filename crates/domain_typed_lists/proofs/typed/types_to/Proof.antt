@@ -1,4 +1,4 @@
--- `lists::typed::types_to` meets its contract. Assumes nothing.
+-- `domain_typed_lists::typed::types_to` meets its contract. Assumes nothing.
 use mathlib.Core.Path.{refl}
 use mathlib.Core.List.{[], _∷_}
 use Prim.Native.Nat.{_-_, _+_}

@@ -1,4 +1,4 @@
--- `lists::typed::variables_to` meets its contract. Assumes nothing.
+-- `domain_typed_lists::typed::variables_to` meets its contract. Assumes nothing.
 use mathlib.Core.List.{[]}
 use Prim.Native.Nat.{_-_, _+_}
 use native.Mathlib.Omega.{arith}

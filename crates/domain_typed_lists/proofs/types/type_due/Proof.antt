@@ -1,4 +1,4 @@
--- `lists::types::type_due` meets its contract. Assumes nothing.
+-- `domain_typed_lists::types::type_due` meets its contract. Assumes nothing.
 use mathlib.Core.Path.{refl, sym, _∙_}
 use Prim.Native.Nat.{_-_}
 use native.Mathlib.Omega.{arith}

@@ -1,4 +1,4 @@
--- `changes::facts::adds_one` meets its contract. Assumes nothing.
+-- `happening_changes::facts::adds_one` meets its contract. Assumes nothing.
 use Rattle.happening_changes.proofs.Changed.{adds-other, adds-fact}
 use borrow.Author.Needs.{needs}
 use Rattle.happening_changes.proofs.facts.adds_one.Statement.{statement}

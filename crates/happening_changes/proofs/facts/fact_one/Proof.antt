@@ -1,4 +1,4 @@
--- `changes::facts::fact_one` meets its contract. Assumes nothing.
+-- `happening_changes::facts::fact_one` meets its contract. Assumes nothing.
 use denote.Ref.{now}
 use borrow.Author.Needs.{needs}
 use Rattle.happening_changes.proofs.Changed.{fact-other, fact-added, fact-kept, fact-spared, fact-deleted}

@@ -1,4 +1,4 @@
--- `changes::facts::write_facts` meets its contract. Assumes nothing.
+-- `happening_changes::facts::write_facts` meets its contract. Assumes nothing.
 use mathlib.Core.Path.{_≡_, _∙_, refl}
 use mathlib.Core.Bool.{_||_}
 use native.Mathlib.Omega.{arith}

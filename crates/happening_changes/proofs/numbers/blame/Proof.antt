@@ -1,4 +1,4 @@
--- `changes::numbers::blame` meets its contract. Assumes nothing.
+-- `happening_changes::numbers::blame` meets its contract. Assumes nothing.
 use borrow.Author.Needs.{needs}
 use Rattle.happening_changes.proofs.Changed.{blame-number, blame-undefined, blame-range}
 use Rattle.happening_changes.proofs.numbers.blame.Statement.{statement}

@@ -1,4 +1,4 @@
--- `changes::numbers::change_all` meets its contract. Assumes nothing.
+-- `happening_changes::numbers::change_all` meets its contract. Assumes nothing.
 use mathlib.Core.Path.{_≡_, _∙_, refl}
 use native.Mathlib.Omega.{arith}
 use denote.Ref.{now}

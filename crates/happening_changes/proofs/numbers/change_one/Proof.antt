@@ -1,4 +1,4 @@
--- `changes::numbers::change_one` meets its contract. Assumes nothing.
+-- `happening_changes::numbers::change_one` meets its contract. Assumes nothing.
 use denote.Ref.{now}
 use mir.Syntax.{w64}
 use mir.ValLaws.{toZ-ofZ}

@@ -1,4 +1,4 @@
--- `instants::applying::stay_all` meets its contract. Assumes nothing.
+-- `happening_instants::applying::stay_all` meets its contract. Assumes nothing.
 use denote.Ref.{now}
 use mathlib.Core.Path.{_≡_, ap, _∙_}
 use native.Mathlib.Omega.{arith}

@@ -1,4 +1,4 @@
--- `instants::applying::write_points` meets its contract. Assumes nothing.
+-- `happening_instants::applying::write_points` meets its contract. Assumes nothing.
 use denote.Ref.{now}
 use mathlib.Core.Path.{_≡_, refl, ap, _∙_}
 use mathlib.Core.Bool.{_||_}

@@ -1,4 +1,4 @@
--- `instants::judging::allow` meets its contract. Assumes nothing.
+-- `happening_instants::judging::allow` meets its contract. Assumes nothing.
 use Rattle.happening_grounds.specs.Grounded.{groundsIn}
 use Rattle.happening_truths.specs.Judged.{stateIn}
 use Rattle.happening_instants.specs.Given.{pointsIn}

@@ -1,4 +1,4 @@
--- `instants::judging::clear_all` meets its contract. Assumes nothing.
+-- `happening_instants::judging::clear_all` meets its contract. Assumes nothing.
 use mathlib.Core.Path.{_≡_, _∙_, refl}
 use mathlib.Core.Logic.{⊎-elim}
 use Prim.Native.Nat.{_+_, _-_, _≤_}

@@ -1,4 +1,4 @@
--- `instants::judging::signature_at` meets its contract. Assumes nothing.
+-- `happening_instants::judging::signature_at` meets its contract. Assumes nothing.
 use mathlib.Core.Path.{refl}
 use Rattle.happening_instants.specs.Signing.{signatureIn}
 use borrow.Author.Needs.{needs}

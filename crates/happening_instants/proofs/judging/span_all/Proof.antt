@@ -1,4 +1,4 @@
--- `instants::judging::span_all` meets its contract. Assumes nothing.
+-- `happening_instants::judging::span_all` meets its contract. Assumes nothing.
 use mathlib.Core.Path.{_≡_, _∙_}
 use Prim.Native.Nat.{_-_, _≤_}
 use native.Mathlib.Omega.{arith}

@@ -1,4 +1,4 @@
--- `instants::pointing::point_at` meets its contract. Assumes nothing.
+-- `happening_instants::pointing::point_at` meets its contract. Assumes nothing.
 use Rattle.happening_instants.proofs.Places.{placed-of}
 use borrow.Author.Needs.{needs}
 use Rattle.happening_instants.proofs.pointing.point_at.Statement.{statement}

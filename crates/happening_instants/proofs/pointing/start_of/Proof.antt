@@ -1,4 +1,4 @@
--- `instants::pointing::start_of` meets its contract. Assumes nothing.
+-- `happening_instants::pointing::start_of` meets its contract. Assumes nothing.
 use Rattle.happening_instants.proofs.Places.{start-there, start-past}
 use borrow.Author.Needs.{needs}
 use Rattle.happening_instants.proofs.pointing.start_of.Statement.{statement}

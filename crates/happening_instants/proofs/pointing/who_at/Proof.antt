@@ -1,4 +1,4 @@
--- `instants::pointing::who_at` meets its contract. Assumes nothing.
+-- `happening_instants::pointing::who_at` meets its contract. Assumes nothing.
 use Rattle.happening_instants.proofs.Places.{who-of}
 use borrow.Author.Needs.{needs}
 use Rattle.happening_instants.proofs.pointing.who_at.Statement.{statement}

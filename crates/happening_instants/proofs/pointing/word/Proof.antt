@@ -1,4 +1,4 @@
--- `instants::pointing::word` meets its contract. Assumes nothing.
+-- `happening_instants::pointing::word` meets its contract. Assumes nothing.
 use mathlib.Core.Path.{sym}
 use lib.ListN.{List·getD-eq-default}
 use borrow.Author.Needs.{needs}

@@ -1,4 +1,4 @@
--- `marks::clashes::clash` meets its contract. Assumes nothing.
+-- `happening_marks::clashes::clash` meets its contract. Assumes nothing.
 use Rattle.happening_marks.proofs.Clashing.{clash-first, clash-undo, clash-none}
 use borrow.Author.Needs.{needs}
 use Rattle.happening_marks.proofs.clashes.clash.Statement.{statement}

@@ -1,4 +1,4 @@
--- `marks::clashes::clashes` meets its contract. Assumes nothing.
+-- `happening_marks::clashes::clashes` meets its contract. Assumes nothing.
 use mathlib.Core.Path.{_≡_, _∙_, refl}
 use native.Mathlib.Omega.{arith}
 use Prim.Native.Nat.{_-_}

@@ -1,4 +1,4 @@
--- `marks::clashes::clashes_later` meets its contract. Assumes nothing.
+-- `happening_marks::clashes::clashes_later` meets its contract. Assumes nothing.
 use denote.Ref.{now}
 use Rattle.domain_stored_meaning.specs.Decode.{whenOf}
 use Rattle.happening_grounds.specs.Grounded.{objectsIn, groundsIn}

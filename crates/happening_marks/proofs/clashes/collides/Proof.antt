@@ -1,4 +1,4 @@
--- `marks::clashes::collides` meets its contract. Assumes nothing.
+-- `happening_marks::clashes::collides` meets its contract. Assumes nothing.
 use Rattle.happening_marks.proofs.Clashing.{collide-left, collide-right, collide-first, collide-second, collide-apart}
 use borrow.Author.Needs.{needs}
 use Rattle.happening_marks.proofs.clashes.collides.Statement.{statement}

@@ -1,4 +1,4 @@
--- `marks::clashes::undoes` meets its contract. Assumes nothing.
+-- `happening_marks::clashes::undoes` meets its contract. Assumes nothing.
 use Rattle.happening_marks.proofs.Clashing.{undo-left, undo-right, undo-same, undo-apart}
 use borrow.Author.Needs.{needs}
 use Rattle.happening_marks.proofs.clashes.undoes.Statement.{statement}

@@ -1,4 +1,4 @@
--- `marks::steps::begins_effect` meets its contract. Assumes nothing.
+-- `happening_marks::steps::begins_effect` meets its contract. Assumes nothing.
 use Rattle.happening_marks.proofs.Noting.{begins-low, begins-high}
 use Rattle.happening_marks.proofs.steps.begins_effect.Statement.{statement}
 use Rattle.happening_marks.proofs.steps.begins_effect.Tie as tie

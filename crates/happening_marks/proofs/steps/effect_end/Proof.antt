@@ -1,4 +1,4 @@
--- `marks::steps::effect_end` meets its contract. Assumes nothing.
+-- `happening_marks::steps::effect_end` meets its contract. Assumes nothing.
 use denote.Ref.{now}
 use Rattle.happening_marks.proofs.Noting.{end-fact, end-number}
 use borrow.Author.Needs.{needs}

@@ -1,4 +1,4 @@
--- `marks::steps::mark_at` meets its contract. Assumes nothing.
+-- `happening_marks::steps::mark_at` meets its contract. Assumes nothing.
 use mathlib.Core.Path.{_∙_}
 use denote.Ref.{now}
 use Rattle.domain_stored_meaning.specs.Decode.{whenOf}

@@ -1,4 +1,4 @@
--- `marks::steps::note` meets its contract. Assumes nothing.
+-- `happening_marks::steps::note` meets its contract. Assumes nothing.
 use denote.Ref.{now}
 use Rattle.happening_grounds.specs.Grounded.{objectsIn}
 use Rattle.happening_marks.proofs.Noting.{note-fact, note-number}

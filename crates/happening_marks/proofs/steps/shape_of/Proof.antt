@@ -1,4 +1,4 @@
--- `marks::steps::shape_of` meets its contract. Assumes nothing.
+-- `happening_marks::steps::shape_of` meets its contract. Assumes nothing.
 use native.Mathlib.Omega.{arith}
 use Rattle.happening_marks.proofs.Noting.{begins-within, shape-8, shape-12, shape-15, shape-18, shape-21}
 use Rattle.happening_marks.proofs.steps.shape_of.Statement.{statement}

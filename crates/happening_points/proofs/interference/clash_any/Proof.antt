@@ -1,4 +1,4 @@
--- `points::interference::clash_any` meets its contract. Assumes nothing.
+-- `happening_points::interference::clash_any` meets its contract. Assumes nothing.
 use mathlib.Core.Path.{_≡_, ap, _∙_}
 use Rattle.domain_stored_meaning.specs.Decode.{whenOf}
 use Rattle.happening_marks.specs.Flat.{flatAt}

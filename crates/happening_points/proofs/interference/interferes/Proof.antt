@@ -1,4 +1,4 @@
--- `points::interference::interferes` meets its contract. Assumes nothing.
+-- `happening_points::interference::interferes` meets its contract. Assumes nothing.
 use Rattle.happening_grounds.specs.Grounded.{groundsIn}
 use Rattle.happening_points.specs.Placed.{pointIn}
 use Rattle.happening_points.proofs.Crossed.{interfere-reads, interfere-read, interfere-clash}

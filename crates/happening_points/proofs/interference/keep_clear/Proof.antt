@@ -1,4 +1,4 @@
--- `points::interference::keep_clear` meets its contract. Assumes nothing.
+-- `happening_points::interference::keep_clear` meets its contract. Assumes nothing.
 use Rattle.happening_grounds.specs.Grounded.{groundsIn}
 use Rattle.happening_points.specs.Placed.{pointIn}
 use Rattle.happening_points.proofs.Crossed.{clear-not, clear-so}

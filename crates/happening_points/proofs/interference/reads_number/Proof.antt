@@ -1,4 +1,4 @@
--- `points::interference::reads_number` meets its contract. Assumes nothing.
+-- `happening_points::interference::reads_number` meets its contract. Assumes nothing.
 use mathlib.Core.Path.{_∙_}
 use Rattle.happening_grounds.specs.Grounded.{groundsIn}
 use Rattle.happening_points.specs.Placed.{pointIn}

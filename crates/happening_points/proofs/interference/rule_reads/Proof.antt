@@ -1,4 +1,4 @@
--- `points::interference::rule_reads` meets its contract. Assumes nothing.
+-- `happening_points::interference::rule_reads` meets its contract. Assumes nothing.
 use Rattle.happening_grounds.specs.Grounded.{objectsIn, groundsIn}
 use native.Mathlib.Omega.{arith}
 use Prim.Native.Nat.{_+_}

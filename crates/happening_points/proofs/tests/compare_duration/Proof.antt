@@ -1,4 +1,4 @@
--- `points::tests::compare_duration` meets its contract. Assumes nothing.
+-- `happening_points::tests::compare_duration` meets its contract. Assumes nothing.
 use mir.Syntax.{w64}
 use mir.ValLaws.{toZ-ofZ}
 use Rattle.happening_points.proofs.Ruled.{lasts-so, lasts-else, lasts-undefined, lasts-range}

@@ -1,4 +1,4 @@
--- `points::tests::is_same` meets its contract. Assumes nothing.
+-- `happening_points::tests::is_same` meets its contract. Assumes nothing.
 use mir.Syntax.{w64}
 use mir.ValLaws.{toZ-ofZ, toZ-pos}
 use native.Mathlib.Omega.{arith}

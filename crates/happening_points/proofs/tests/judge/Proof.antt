@@ -1,4 +1,4 @@
--- `points::tests::judge` meets its contract. Assumes nothing.
+-- `happening_points::tests::judge` meets its contract. Assumes nothing.
 use Rattle.happening_points.proofs.Tested.{judged-holds, judged-fails, judged-undefined, judged-range}
 use borrow.Author.Needs.{needs}
 use Rattle.happening_points.proofs.tests.judge.Statement.{statement}

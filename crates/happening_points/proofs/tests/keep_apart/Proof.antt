@@ -1,4 +1,4 @@
--- `points::tests::keep_apart` meets its contract. Assumes nothing.
+-- `happening_points::tests::keep_apart` meets its contract. Assumes nothing.
 use Rattle.happening_grounds.specs.Grounded.{groundsIn}
 use Rattle.happening_points.proofs.Tested.{apart-not, apart-so}
 use borrow.Author.Needs.{needs}

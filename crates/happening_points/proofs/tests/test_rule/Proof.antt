@@ -1,4 +1,4 @@
--- `points::tests::test_rule` meets its contract. Assumes nothing.
+-- `happening_points::tests::test_rule` meets its contract. Assumes nothing.
 use Rattle.happening_grounds.specs.Grounded.{groundsIn}
 use Rattle.happening_points.specs.Placed.{pointIn}
 use native.Mathlib.Omega.{arith}

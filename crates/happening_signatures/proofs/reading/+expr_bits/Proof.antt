@@ -1,4 +1,4 @@
--- `signatures::reading::expr_bits` meets its contract. Assumes nothing.
+-- `happening_signatures::reading::expr_bits` meets its contract. Assumes nothing.
 use native.Mathlib.Omega.{arith}
 use borrow.Author.Needs.{needs}
 use Prim.Native.Nat.{_+_, _-_}

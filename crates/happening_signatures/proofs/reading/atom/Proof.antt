@@ -1,4 +1,4 @@
--- `signatures::reading::atom` meets its contract. Assumes nothing.
+-- `happening_signatures::reading::atom` meets its contract. Assumes nothing.
 use Rattle.happening_grounds.specs.Grounded.{objectsIn, groundsIn}
 use Rattle.happening_signatures.proofs.Walking.{bits-atom}
 use borrow.Author.Needs.{needs}

@@ -1,4 +1,4 @@
--- `signatures::reading::bit` meets its contract. Assumes nothing.
+-- `happening_signatures::reading::bit` meets its contract. Assumes nothing.
 use Rattle.happening_signatures.proofs.Masks.{bit-made}
 use borrow.Author.Needs.{needs}
 use Rattle.happening_signatures.proofs.reading.bit.Statement.{statement}

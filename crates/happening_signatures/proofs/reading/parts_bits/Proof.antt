@@ -1,4 +1,4 @@
--- `signatures::reading::parts_bits` meets its contract. Assumes nothing.
+-- `happening_signatures::reading::parts_bits` meets its contract. Assumes nothing.
 use native.Mathlib.Omega.{arith}
 use borrow.Author.Needs.{needs}
 use Rattle.happening_grounds.specs.Grounded.{objectsIn, groundsIn}

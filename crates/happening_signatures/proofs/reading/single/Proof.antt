@@ -1,4 +1,4 @@
--- `signatures::reading::single` meets its contract. Assumes nothing.
+-- `happening_signatures::reading::single` meets its contract. Assumes nothing.
 use mathlib.Core.Path.{refl}
 use mathlib.Core.Bool.{true, false}
 use Prim.Native.Nat.{_+_, _-_}

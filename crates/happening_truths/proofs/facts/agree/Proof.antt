@@ -1,4 +1,4 @@
--- `judgement::facts::agree` meets its contract. Assumes nothing.
+-- `happening_truths::facts::agree` meets its contract. Assumes nothing.
 use Rattle.happening_meaning.specs.Truths.{agrees}
 use Rattle.happening_truths.proofs.facts.agree.Statement.{statement}
 use Rattle.happening_truths.proofs.facts.agree.Tie as tie

@@ -1,4 +1,4 @@
--- `judgement::facts::atom` meets its contract. Assumes nothing.
+-- `happening_truths::facts::atom` meets its contract. Assumes nothing.
 use denote.Ref.{now}
 use Rattle.happening_grounds.specs.Grounded.{objectsIn, groundsIn}
 use Rattle.happening_truths.specs.Judged.{stateIn}

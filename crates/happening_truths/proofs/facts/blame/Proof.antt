@@ -1,4 +1,4 @@
--- `judgement::facts::blame` meets its contract. Assumes nothing.
+-- `happening_truths::facts::blame` meets its contract. Assumes nothing.
 use Rattle.happening_truths.specs.Judged.{blamed}
 use borrow.Author.Needs.{needs}
 use Rattle.happening_truths.proofs.facts.blame.Statement.{statement}

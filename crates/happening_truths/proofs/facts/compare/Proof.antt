@@ -1,4 +1,4 @@
--- `judgement::facts::compare` meets its contract. Assumes nothing.
+-- `happening_truths::facts::compare` meets its contract. Assumes nothing.
 use mir.Syntax.{w64}
 use mir.ValLaws.{toZ-ofZ}
 use Rattle.happening_truths.proofs.Singles.{first-blamed, second-blamed, both-numbers}

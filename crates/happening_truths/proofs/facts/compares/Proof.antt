@@ -1,4 +1,4 @@
--- `judgement::facts::compares` meets its contract. Assumes nothing.
+-- `happening_truths::facts::compares` meets its contract. Assumes nothing.
 use mir.Syntax.{w64}
 use mir.ValLaws.{toZ-ofZ}
 use Rattle.happening_truths.proofs.Singles.{by-equal, by-unequal, by-less, by-most, by-more, by-least}

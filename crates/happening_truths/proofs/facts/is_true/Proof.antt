@@ -1,4 +1,4 @@
--- `judgement::facts::is_true` meets its contract. Assumes nothing.
+-- `happening_truths::facts::is_true` meets its contract. Assumes nothing.
 use mathlib.Core.Path.{refl}
 use denote.Ref.{now}
 use Rattle.happening_meaning.specs.State.{isTrue}

@@ -1,4 +1,4 @@
--- `judgement::truths::cond_at` and `judgement::truths::conds_at` meet their contracts. Assumes nothing.
+-- `happening_truths::truths::cond_at` and `happening_truths::truths::conds_at` meet their contracts. Assumes nothing.
 use native.Mathlib.Omega.{arith}
 use denote.Ref.{now}
 use lib.ListN.{length}

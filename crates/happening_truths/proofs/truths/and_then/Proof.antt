@@ -1,4 +1,4 @@
--- `judgement::truths::and_then` meets its contract. Assumes nothing.
+-- `happening_truths::truths::and_then` meets its contract. Assumes nothing.
 use Rattle.happening_truths.proofs.Joined.{decided, undecided}
 use borrow.Author.Needs.{needs}
 use Rattle.happening_truths.proofs.truths.and_then.Statement.{statement}

@@ -1,4 +1,4 @@
--- `judgement::truths::hold` meets its contract. Assumes nothing.
+-- `happening_truths::truths::hold` meets its contract. Assumes nothing.
 use native.Mathlib.Omega.{arith}
 use denote.Ref.{now}
 use lib.ListN.{length}

@@ -1,4 +1,4 @@
--- `evaluation::ends::cond_end` and `evaluation::ends::conds_end` meet their contracts. The measure is twice the number of levels that are left, and
+-- `happening_values::ends::cond_end` and `happening_values::ends::conds_end` meet their contracts. The measure is twice the number of levels that are left, and
 -- one more for a list. Assumes nothing.
 use native.Mathlib.Omega.{arith}
 use mathlib.Core.Path.{_∙_}

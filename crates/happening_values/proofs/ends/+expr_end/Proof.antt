@@ -1,4 +1,4 @@
--- `evaluation::ends::expr_end` meets its contract. Assumes nothing.
+-- `happening_values::ends::expr_end` meets its contract. Assumes nothing.
 use native.Mathlib.Omega.{arith}
 use mathlib.Core.Path.{_∙_}
 use borrow.Author.Needs.{needs}

@@ -1,4 +1,4 @@
--- `evaluation::ends::leaf_end` meets its contract. Assumes nothing.
+-- `happening_values::ends::leaf_end` meets its contract. Assumes nothing.
 use native.Mathlib.Omega.{arith}
 use Rattle.happening_values.proofs.Shapes.{leaf-low, leaf-value, leaf-gap, leaf-number, leaf-long}
 use Rattle.happening_values.proofs.Passing.{end-at}

@@ -1,4 +1,4 @@
--- `evaluation::ends::single_end` meets its contract. Assumes nothing.
+-- `happening_values::ends::single_end` meets its contract. Assumes nothing.
 use native.Mathlib.Omega.{arith}
 use Rattle.happening_values.proofs.Groups.{low-ends, same-ends, atom-ends, no-atom-ends, compare-ends, high-ends}
 use borrow.Author.Needs.{needs}

@@ -1,4 +1,4 @@
--- `evaluation::reads::expr_reads` meets its contract. Assumes nothing.
+-- `happening_values::reads::expr_reads` meets its contract. Assumes nothing.
 use native.Mathlib.Omega.{arith}
 use Rattle.happening_grounds.specs.Grounded.{objectsIn, groundsIn}
 use Prim.Native.Nat.{_+_, _-_}

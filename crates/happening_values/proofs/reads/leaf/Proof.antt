@@ -1,4 +1,4 @@
--- `evaluation::reads::leaf` meets its contract. Assumes nothing.
+-- `happening_values::reads::leaf` meets its contract. Assumes nothing.
 use native.Mathlib.Omega.{arith}
 use Rattle.happening_grounds.specs.Grounded.{objectsIn, groundsIn}
 use Rattle.happening_values.proofs.Shapes.{leaf-low, leaf-value, leaf-gap, leaf-number, leaf-long}

@@ -1,4 +1,4 @@
--- `evaluation::values::expr` meets its contract. Assumes nothing.
+-- `happening_values::values::expr` meets its contract. Assumes nothing.
 use native.Mathlib.Omega.{arith}
 use Prim.Native.Nat.{_+_, _-_}
 use borrow.Author.Needs.{needs}

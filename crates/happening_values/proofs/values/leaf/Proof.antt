@@ -1,4 +1,4 @@
--- `evaluation::values::leaf` meets its contract. Assumes nothing.
+-- `happening_values::values::leaf` meets its contract. Assumes nothing.
 use mathlib.Core.Path.{_∙_}
 use native.Mathlib.Omega.{arith}
 use mir.Syntax.{w64}

@@ -1,4 +1,4 @@
--- `evaluation::values::literal_at` meets its contract. Assumes nothing.
+-- `happening_values::values::literal_at` meets its contract. Assumes nothing.
 use mathlib.Core.Logic.{⊎-elim}
 use native.Mathlib.Omega.{arith}
 use mir.Syntax.{w64}

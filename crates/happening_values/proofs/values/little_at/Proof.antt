@@ -1,4 +1,4 @@
--- `evaluation::values::little_at` meets its contract. Assumes nothing.
+-- `happening_values::values::little_at` meets its contract. Assumes nothing.
 use native.Mathlib.Omega.{arith}
 use borrow.Author.Needs.{needs}
 use Rattle.happening_values.proofs.Numerals.{Read, read-none, read-step, read-small, read-all}

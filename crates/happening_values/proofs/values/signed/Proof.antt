@@ -1,4 +1,4 @@
--- `evaluation::values::signed` meets its contract. Assumes nothing.
+-- `happening_values::values::signed` meets its contract. Assumes nothing.
 use native.Mathlib.Omega.{arith}
 use mir.Syntax.{w64}
 use mir.ValLaws.{toZ-pos}

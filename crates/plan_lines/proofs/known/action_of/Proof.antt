@@ -1,4 +1,4 @@
--- `lines::known::action_of` meets its contract. Assumes nothing.
+-- `plan_lines::known::action_of` meets its contract. Assumes nothing.
 use mathlib.Core.Path.{_∙_}
 use denote.Ref.{now}
 use native.Mathlib.Omega.{arith}

@@ -1,4 +1,4 @@
--- `lines::known::arity` meets its contract. Assumes nothing.
+-- `plan_lines::known::arity` meets its contract. Assumes nothing.
 use native.Mathlib.Omega.{arith}
 use denote.Ref.{now}
 use Rattle.plan_lines.proofs.Names.{arity-signed}

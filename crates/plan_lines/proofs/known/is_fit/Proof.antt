@@ -1,4 +1,4 @@
--- `lines::known::is_fit` meets its contract. Assumes nothing.
+-- `plan_lines::known::is_fit` meets its contract. Assumes nothing.
 use denote.Ref.{now}
 use native.Mathlib.Omega.{arith}
 use Rattle.plan_lines.proofs.Names.{kept-typed, below-typed}

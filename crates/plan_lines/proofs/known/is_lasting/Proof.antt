@@ -1,4 +1,4 @@
--- `lines::known::is_lasting` meets its contract. Assumes nothing.
+-- `plan_lines::known::is_lasting` meets its contract. Assumes nothing.
 use Prim.Native.Nat.{_*_}
 use denote.Ref.{now}
 use Rattle.domain_rows.proofs.Rows.{byte-past, byte-is}

@@ -1,4 +1,4 @@
--- `lines::known::wanted` meets its contract. Assumes nothing.
+-- `plan_lines::known::wanted` meets its contract. Assumes nothing.
 use mathlib.Core.Path.{_∙_}
 use native.Mathlib.Omega.{arith}
 use denote.Ref.{now}

@@ -1,4 +1,4 @@
--- `lines::reading::action_at` meets its contract. Assumes nothing.
+-- `plan_lines::reading::action_at` meets its contract. Assumes nothing.
 use mathlib.Core.Path.{refl, sym, ap, _∙_}
 use denote.Ref.{now}
 use Rattle.domain_due.specs.Answers.{answerOf}

@@ -1,4 +1,4 @@
--- `lines::reading::amount_of` meets its contract. Assumes nothing.
+-- `plan_lines::reading::amount_of` meets its contract. Assumes nothing.
 use mathlib.Core.Path.{refl}
 use mir.Syntax.{w64}
 use mir.ValLaws.{toZ-ofZ}

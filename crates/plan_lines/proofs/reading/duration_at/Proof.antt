@@ -1,4 +1,4 @@
--- `lines::reading::duration_at` meets its contract. Assumes nothing.
+-- `plan_lines::reading::duration_at` meets its contract. Assumes nothing.
 use mathlib.Core.Path.{sym, _∙_}
 use denote.Ref.{now}
 use mir.Syntax.{w64}

@@ -1,4 +1,4 @@
--- `lines::reading::object_at` meets its contract. Assumes nothing.
+-- `plan_lines::reading::object_at` meets its contract. Assumes nothing.
 use mathlib.Core.Path.{refl, sym, _∙_}
 use denote.Ref.{now}
 use Rattle.plan_lines.specs.Knowing.{objectsIn}

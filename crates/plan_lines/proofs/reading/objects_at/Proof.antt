@@ -1,4 +1,4 @@
--- `lines::reading::objects_at` meets its contract. Assumes nothing.
+-- `plan_lines::reading::objects_at` meets its contract. Assumes nothing.
 use mathlib.Core.Path.{_≡_, refl, sym, ap, _∙_}
 use denote.Ref.{now}
 use native.Mathlib.Omega.{arith}

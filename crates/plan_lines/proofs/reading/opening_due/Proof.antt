@@ -1,4 +1,4 @@
--- `lines::reading::opening_due` meets its contract. Assumes nothing.
+-- `plan_lines::reading::opening_due` meets its contract. Assumes nothing.
 use mathlib.Core.Path.{sym, _∙_}
 use denote.Ref.{now}
 use Rattle.plan_lines.proofs.Marks.{opening-else, opening-read}

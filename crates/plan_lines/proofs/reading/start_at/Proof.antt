@@ -1,4 +1,4 @@
--- `lines::reading::start_at` meets its contract. Assumes nothing.
+-- `plan_lines::reading::start_at` meets its contract. Assumes nothing.
 use mir.Syntax.{w64}
 use mir.ValLaws.{toZ-ofZ}
 use native.Mathlib.Omega.{arith}

@@ -1,4 +1,4 @@
--- `lines::steps::act_at` meets its contract. Assumes nothing.
+-- `plan_lines::steps::act_at` meets its contract. Assumes nothing.
 use mathlib.Core.Path.{refl, sym, ap, _∙_}
 use mathlib.Core.Bool.{Bool}
 use native.Mathlib.Omega.{arith}

@@ -1,4 +1,4 @@
--- `lines::steps::line_at` meets its contract. Assumes nothing.
+-- `plan_lines::steps::line_at` meets its contract. Assumes nothing.
 use mathlib.Core.Path.{sym, _∙_}
 use denote.Ref.{now}
 use Rattle.plan_lines.specs.Knowing.{knownIn}

@@ -1,4 +1,4 @@
--- `lines::steps::refused` meets its contract. Assumes nothing.
+-- `plan_lines::steps::refused` meets its contract. Assumes nothing.
 use borrow.Author.Needs.{needs}
 use Rattle.plan_lines.proofs.steps.refused.Statement.{statement}
 use Rattle.plan_lines.proofs.steps.refused.Tie as tie

@@ -1,4 +1,4 @@
--- `running::layout::lay` meets its contract. Assumes nothing.
+-- `plan_running::layout::lay` meets its contract. Assumes nothing.
 use Prim.Native.Nat.{_+_, _*_, _≤_}
 use native.Mathlib.Omega.{arith}
 use denote.Ref.{now}

@@ -1,4 +1,4 @@
--- `running::layout::lay_points` meets its contract. Assumes nothing.
+-- `plan_running::layout::lay_points` meets its contract. Assumes nothing.
 use Prim.Native.Nat.{_≤_, _-_}
 use mathlib.Core.Logic.{⊎-elim}
 use mathlib.Core.Path.{_≡_, sym, ap, _∙_}

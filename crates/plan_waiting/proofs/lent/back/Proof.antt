@@ -1,4 +1,4 @@
--- `waiting::lent::back` meets its contract. Assumes nothing.
+-- `plan_waiting::lent::back` meets its contract. Assumes nothing.
 use Prim.Native.Nat.{_≤_, _-_, _<_}
 use mathlib.Core.Path.{_≡_, sym, ap, _∙_}
 use native.Mathlib.Omega.{arith}

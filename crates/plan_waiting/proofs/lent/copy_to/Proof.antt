@@ -1,4 +1,4 @@
--- `waiting::lent::copy_to` meets its contract. Assumes nothing.
+-- `plan_waiting::lent::copy_to` meets its contract. Assumes nothing.
 use mathlib.Core.Path.{sym}
 use denote.Ref.{now}
 use lib.Seq.{set-getD}

@@ -1,4 +1,4 @@
--- `waiting::lent::enter` meets its contract. Assumes nothing.
+-- `plan_waiting::lent::enter` meets its contract. Assumes nothing.
 use Prim.Native.Nat.{_+_, _<_}
 use mathlib.Core.List.{List, [], _∷_, _++_, map}
 use mathlib.Core.Path.{_≡_, ap, _∙_}

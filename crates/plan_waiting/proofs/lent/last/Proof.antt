@@ -1,4 +1,4 @@
--- `waiting::lent::last` meets its contract. Assumes nothing.
+-- `plan_waiting::lent::last` meets its contract. Assumes nothing.
 use Prim.Native.Nat.{ℕ, _≤_, _-_, _<_}
 use mathlib.Core.Logic.{⊎-elim}
 use mathlib.Core.List.{List, map}

@@ -1,4 +1,4 @@
--- `waiting::lent::later` meets its contract. Assumes nothing.
+-- `plan_waiting::lent::later` meets its contract. Assumes nothing.
 use Prim.Native.Nat.{suc, _≤_, _-_}
 use mathlib.Core.Logic.{⊎-elim}
 use mathlib.Core.List.{map}

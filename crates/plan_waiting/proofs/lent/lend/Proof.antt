@@ -1,4 +1,4 @@
--- `waiting::lent::lend` meets its contract. Assumes nothing.
+-- `plan_waiting::lent::lend` meets its contract. Assumes nothing.
 use Rattle.plan_waiting.proofs.LentPlaces.{slots-long}
 use Prim.Native.Nat.{_≤_, _-_}
 use mathlib.Core.Path.{_≡_, refl}

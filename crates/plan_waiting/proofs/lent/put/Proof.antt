@@ -1,4 +1,4 @@
--- `waiting::lent::put` meets its contract. Assumes nothing.
+-- `plan_waiting::lent::put` meets its contract. Assumes nothing.
 use native.Mathlib.Omega.{arith}
 use lib.ListN.{length-set}
 use denote.Ref.{now}

@@ -1,4 +1,4 @@
--- `waiting::lent::slot_at` meets its contract. Assumes nothing.
+-- `plan_waiting::lent::slot_at` meets its contract. Assumes nothing.
 use mathlib.Core.Path.{refl}
 use Rattle.plan_waiting.specs.Lent.{slotIn}
 use borrow.Author.Needs.{needs}

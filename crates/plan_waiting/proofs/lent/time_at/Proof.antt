@@ -1,4 +1,4 @@
--- `waiting::lent::time_at` meets its contract. Assumes nothing.
+-- `plan_waiting::lent::time_at` meets its contract. Assumes nothing.
 use mathlib.Core.Path.{sym}
 use native.Mathlib.Omega.{arith}
 use denote.Ref.{now}

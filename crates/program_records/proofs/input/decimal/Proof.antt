@@ -1,4 +1,4 @@
--- `records::input::decimal` is safe and ends: the measure is how many bytes are left. Assumes nothing.
+-- `program_records::input::decimal` is safe and ends: the measure is how many bytes are left. Assumes nothing.
 use Prim.Native.Nat.{_-_}
 use borrow.Author.Needs.{needs}
 use Rattle.program_records.proofs.input.decimal.Statement.{statement}

@@ -1,4 +1,4 @@
--- `records::input::read_text` is safe and ends. Assumes nothing.
+-- `program_records::input::read_text` is safe and ends. Assumes nothing.
 use mathlib.Core.Path.{sym}
 use native.Mathlib.Omega.{arith}
 use lib.Seq.{length-take-le}

@@ -1,4 +1,4 @@
--- `records::output::plain` is safe and ends. Assumes nothing.
+-- `program_records::output::plain` is safe and ends. Assumes nothing.
 use mathlib.Core.Path.{sym, _∙_}
 use native.Mathlib.Nat.{lt-of-le-of-lt}
 use lib.Dec.{lit<}

@@ -1,4 +1,4 @@
--- `records::output::turned` is safe and ends. Assumes nothing.
+-- `program_records::output::turned` is safe and ends. Assumes nothing.
 use mathlib.Core.Path.{sym, _∙_}
 use mir.Syntax.{w64}
 use mir.Val.{toZ, ofZ}

@@ -1,4 +1,4 @@
--- `records::output::word` is safe and ends: the measure is how many bytes of the word are left. Assumes nothing.
+-- `program_records::output::word` is safe and ends: the measure is how many bytes of the word are left. Assumes nothing.
 use mathlib.Core.Path.{_≡_, refl}
 use Prim.Native.Nat.{_-_}
 use lib.ListN.{length}

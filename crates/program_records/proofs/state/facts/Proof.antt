@@ -1,4 +1,4 @@
--- `records::state::facts` is safe and ends. Assumes nothing.
+-- `program_records::state::facts` is safe and ends. Assumes nothing.
 use mathlib.Core.Path.{_≡_}
 use Prim.Native.Nat.{_-_}
 use lib.ListN.{length}

@@ -1,4 +1,4 @@
--- `text::classes::begins_number` meets its contract. Assumes nothing.
+-- `text_tokens::classes::begins_number` meets its contract. Assumes nothing.
 use mathlib.Core.Path.{sym, _∙_}
 use Prim.Native.Nat.{_-_}
 use native.Mathlib.Omega.{arith}

@@ -1,4 +1,4 @@
--- `text::classes::begins_with` meets its contract. Assumes nothing.
+-- `text_tokens::classes::begins_with` meets its contract. Assumes nothing.
 use mathlib.Core.Path.{sym}
 use Prim.Native.Nat.{_-_}
 use denote.Ref.{now}

@@ -1,4 +1,4 @@
--- `text::classes::class_of` meets its contract. Assumes nothing.
+-- `text_tokens::classes::class_of` meets its contract. Assumes nothing.
 use mathlib.Core.Path.{sym, _∙_}
 use Rattle.text_tokens.specs.Classes.{classOf}
 use borrow.Author.Needs.{needs}

@@ -1,4 +1,4 @@
--- `text::classes::is_marked` meets its contract. Assumes nothing.
+-- `text_tokens::classes::is_marked` meets its contract. Assumes nothing.
 use mathlib.Core.Path.{sym, _∙_}
 use Prim.Native.Nat.{_-_}
 use borrow.Author.Tests.{not-true, not-false}

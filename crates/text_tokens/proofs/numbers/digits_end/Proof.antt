@@ -1,4 +1,4 @@
--- `text::numbers::digits_end` meets its contract. Assumes nothing.
+-- `text_tokens::numbers::digits_end` meets its contract. Assumes nothing.
 use mathlib.Core.Path.{_≡_, refl, sym, _∙_}
 use Prim.Native.Nat.{_-_}
 use native.Mathlib.Omega.{arith}

@@ -1,4 +1,4 @@
--- `text::numbers::fraction` meets its contract. Assumes nothing.
+-- `text_tokens::numbers::fraction` meets its contract. Assumes nothing.
 use mathlib.Core.Path.{_≡_}
 use Prim.Native.Nat.{_-_, _+_}
 use native.Mathlib.Omega.{arith}

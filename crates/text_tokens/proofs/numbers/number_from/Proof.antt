@@ -1,4 +1,4 @@
--- `text::numbers::number_from` meets its contract. Assumes nothing.
+-- `text_tokens::numbers::number_from` meets its contract. Assumes nothing.
 use mathlib.Core.Path.{sym, _∙_}
 use Prim.Native.Nat.{_-_}
 use native.Mathlib.Omega.{arith}

@@ -1,4 +1,4 @@
--- `text::numbers::number_of` meets its contract. Assumes nothing.
+-- `text_tokens::numbers::number_of` meets its contract. Assumes nothing.
 use mathlib.Core.Path.{sym, _∙_}
 use Prim.Native.Nat.{_-_}
 use denote.Ref.{now}

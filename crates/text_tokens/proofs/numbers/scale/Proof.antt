@@ -1,4 +1,4 @@
--- `text::numbers::scale` meets its contract. Assumes nothing.
+-- `text_tokens::numbers::scale` meets its contract. Assumes nothing.
 use Prim.Native.Nat.{_-_}
 use native.Mathlib.Omega.{arith}
 use borrow.Author.Tests.{eq-eqb, ne-eqb}

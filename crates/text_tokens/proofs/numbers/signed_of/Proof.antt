@@ -1,4 +1,4 @@
--- `text::numbers::signed_of` meets its contract. Assumes nothing.
+-- `text_tokens::numbers::signed_of` meets its contract. Assumes nothing.
 use Prim.Native.Nat.{_-_, _^_, _<_}
 use native.Mathlib.Omega.{arith}
 use mir.Syntax.{w64}

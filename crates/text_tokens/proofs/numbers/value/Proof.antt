@@ -1,4 +1,4 @@
--- `text::numbers::value` meets its contract. Assumes nothing.
+-- `text_tokens::numbers::value` meets its contract. Assumes nothing.
 use mathlib.Core.Path.{_≡_, refl, sym, _∙_}
 use Prim.Native.Nat.{_-_, _+_, _*_, _^_, _≤_}
 use native.Mathlib.Omega.{arith}

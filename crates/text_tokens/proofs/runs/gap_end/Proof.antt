@@ -1,4 +1,4 @@
--- `text::runs::gap_end` meets its contract. Assumes nothing.
+-- `text_tokens::runs::gap_end` meets its contract. Assumes nothing.
 use mathlib.Core.Path.{_≡_, sym, _∙_}
 use mathlib.Core.Logic.{⊎-elim}
 use Prim.Native.Nat.{_-_}

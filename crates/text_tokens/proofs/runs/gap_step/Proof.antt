@@ -1,4 +1,4 @@
--- `text::runs::gap_step` meets its contract. Assumes nothing.
+-- `text_tokens::runs::gap_step` meets its contract. Assumes nothing.
 use mathlib.Core.Path.{sym, _∙_}
 use borrow.Author.Tests.{eq-eqb, ne-eqb}
 use Rattle.text_tokens.specs.Runs.{gapStep}

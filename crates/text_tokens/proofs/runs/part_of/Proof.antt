@@ -1,4 +1,4 @@
--- `text::runs::part_of` meets its contract. Assumes nothing.
+-- `text_tokens::runs::part_of` meets its contract. Assumes nothing.
 use lib.ListN.{length-drop}
 use lib.Seq.{take-all}
 use mathlib.Core.Path.{sym, _∙_}

@@ -1,4 +1,4 @@
--- `text::tokens::bracket` meets its contract. Assumes nothing.
+-- `text_tokens::tokens::bracket` meets its contract. Assumes nothing.
 use borrow.Author.Tests.{eq-eqb, ne-eqb}
 use Rattle.text_tokens.specs.Tokens.{bracketOf}
 use borrow.Author.Needs.{needs}

@@ -1,4 +1,4 @@
--- `text::tokens::domain_word` meets its contract. Assumes nothing.
+-- `text_tokens::tokens::domain_word` meets its contract. Assumes nothing.
 use mathlib.Core.Path.{sym, _∙_}
 use Rattle.text_tokens.specs.Tokens.{domainWord}
 use borrow.Author.Needs.{needs}

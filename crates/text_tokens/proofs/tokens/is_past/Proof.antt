@@ -1,4 +1,4 @@
--- `text::tokens::is_past` meets its contract. Assumes nothing.
+-- `text_tokens::tokens::is_past` meets its contract. Assumes nothing.
 use borrow.Author.Tests.{le-leb, lt-leb}
 use Rattle.text_tokens.specs.Tokens.{isPast}
 use Rattle.text_tokens.proofs.tokens.is_past.Statement.{statement}

@@ -1,4 +1,4 @@
--- `text::tokens::judged` meets its contract. Assumes nothing.
+-- `text_tokens::tokens::judged` meets its contract. Assumes nothing.
 use borrow.Author.Tests.{lt-ltb, le-ltb}
 use Rattle.text_tokens.specs.Tokens.{judgedOf}
 use Rattle.text_tokens.proofs.tokens.judged.Statement.{statement}

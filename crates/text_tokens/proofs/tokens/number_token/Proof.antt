@@ -1,4 +1,4 @@
--- `text::tokens::number_token` meets its contract. Assumes nothing.
+-- `text_tokens::tokens::number_token` meets its contract. Assumes nothing.
 use mathlib.Core.Path.{sym, _∙_}
 use Prim.Native.Nat.{_-_}
 use mir.Syntax.{w64}

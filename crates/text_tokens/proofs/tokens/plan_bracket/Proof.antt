@@ -1,4 +1,4 @@
--- `text::tokens::plan_bracket` meets its contract. Assumes nothing.
+-- `text_tokens::tokens::plan_bracket` meets its contract. Assumes nothing.
 use borrow.Author.Tests.{eq-eqb, ne-eqb}
 use Rattle.text_tokens.specs.Tokens.{squareOf}
 use borrow.Author.Needs.{needs}

@@ -1,4 +1,4 @@
--- `text::tokens::plan_number` meets its contract. Assumes nothing.
+-- `text_tokens::tokens::plan_number` meets its contract. Assumes nothing.
 use mathlib.Core.Path.{sym, _∙_}
 use Rattle.text_tokens.specs.Tokens.{planNumber}
 use borrow.Author.Needs.{needs}

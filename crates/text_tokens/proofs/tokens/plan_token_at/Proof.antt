@@ -1,4 +1,4 @@
--- `text::tokens::plan_token_at` meets its contract. Assumes nothing.
+-- `text_tokens::tokens::plan_token_at` meets its contract. Assumes nothing.
 use mathlib.Core.Path.{sym, _∙_}
 use denote.Ref.{now}
 use Rattle.text_tokens.proofs.Ways.{plan-end, plan-colon, plan-bad, plan-bracket, plan-run}

@@ -1,4 +1,4 @@
--- `text::tokens::sized` meets its contract. Assumes nothing.
+-- `text_tokens::tokens::sized` meets its contract. Assumes nothing.
 use borrow.Author.Tests.{lt-ltb, le-ltb}
 use Rattle.text_tokens.specs.Tokens.{sizedOf}
 use Rattle.text_tokens.proofs.tokens.sized.Statement.{statement}

@@ -1,4 +1,4 @@
--- `text::tokens::spot_at` meets its contract. Assumes nothing.
+-- `text_tokens::tokens::spot_at` meets its contract. Assumes nothing.
 use mathlib.Core.Path.{sym, _∙_}
 use denote.Ref.{now}
 use Rattle.text_tokens.proofs.Ways.{spot-past, spot-end, spot-found, spot-other}

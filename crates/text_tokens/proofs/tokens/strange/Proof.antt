@@ -1,4 +1,4 @@
--- `text::tokens::strange` meets its contract. Assumes nothing.
+-- `text_tokens::tokens::strange` meets its contract. Assumes nothing.
 use borrow.Author.Tests.{lt-ltb, le-ltb}
 use Rattle.text_tokens.specs.Tokens.{strangeOf}
 use Rattle.text_tokens.proofs.tokens.strange.Statement.{statement}

@@ -1,4 +1,4 @@
--- `text::tokens::token_at` meets its contract. Assumes nothing.
+-- `text_tokens::tokens::token_at` meets its contract. Assumes nothing.
 use mathlib.Core.Path.{sym, _∙_}
 use denote.Ref.{now}
 use Rattle.text_tokens.proofs.Ways.{token-past, token-end, token-bad, token-bracket, token-run}

@@ -1,4 +1,4 @@
--- `text::tokens::word_of` meets its contract. Assumes nothing.
+-- `text_tokens::tokens::word_of` meets its contract. Assumes nothing.
 use mathlib.Core.Path.{sym, _∙_}
 use denote.Ref.{now}
 use Rattle.text_tokens.proofs.Words.{word-is, word-none}

@@ -1,4 +1,4 @@
--- `words::bytes::in_run` meets its contract. Assumes nothing.
+-- `text_words::bytes::in_run` meets its contract. Assumes nothing.
 use mathlib.Core.Path.{sym, _∙_}
 use borrow.Author.Tests.{eq-eqb, ne-eqb}
 use Rattle.text_words.specs.Bytes.{inRun}

@@ -1,4 +1,4 @@
--- `words::bytes::is_white` meets its contract. Assumes nothing.
+-- `text_words::bytes::is_white` meets its contract. Assumes nothing.
 use mathlib.Core.Path.{sym, _∙_}
 use Rattle.text_words.specs.Bytes.{kindOf}
 use Rattle.text_words.proofs.Others.{not-white}

@@ -1,4 +1,4 @@
--- `words::bytes::kind_of` meets its contract. Assumes nothing.
+-- `text_words::bytes::kind_of` meets its contract. Assumes nothing.
 use mathlib.Core.Path.{_≡_, refl}
 use mathlib.Core.Logic.{⊎-elim, inl, inr}
 use native.Mathlib.Omega.{arith}

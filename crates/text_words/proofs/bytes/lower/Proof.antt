@@ -1,4 +1,4 @@
--- `words::bytes::lower` meets its contract. Assumes nothing.
+-- `text_words::bytes::lower` meets its contract. Assumes nothing.
 use borrow.Author.Tests.{lt-ltb, le-ltb}
 use Rattle.text_words.specs.Bytes.{lowerOf}
 use borrow.Author.Needs.{needs}

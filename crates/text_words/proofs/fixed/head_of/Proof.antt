@@ -1,4 +1,4 @@
--- `words::fixed::head_of` meets its contract. Assumes nothing.
+-- `text_words::fixed::head_of` meets its contract. Assumes nothing.
 use mathlib.Core.Path.{sym, _∙_}
 use native.Mathlib.Omega.{arith}
 use Rattle.text_words.specs.Bytes.{bytes}

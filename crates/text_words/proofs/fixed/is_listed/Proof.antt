@@ -1,4 +1,4 @@
--- `words::fixed::is_listed` meets its contract. Assumes nothing.
+-- `text_words::fixed::is_listed` meets its contract. Assumes nothing.
 use mathlib.Core.Path.{ap, _∙_}
 use Rattle.text_words.specs.Bytes.{bytes}
 use Rattle.text_words.specs.Spelling.{isAt}

@@ -1,4 +1,4 @@
--- `words::names::find` meets its contract. Assumes nothing.
+-- `text_words::names::find` meets its contract. Assumes nothing.
 use mathlib.Core.Path.{_≡_, sym, _∙_}
 use mathlib.Core.Logic.{⊎-elim}
 use Prim.Native.Nat.{_-_, _≤_}

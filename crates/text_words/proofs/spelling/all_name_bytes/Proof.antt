@@ -1,4 +1,4 @@
--- `words::spelling::all_name_bytes` meets its contract. Assumes nothing.
+-- `text_words::spelling::all_name_bytes` meets its contract. Assumes nothing.
 use mathlib.Core.Path.{_≡_, refl, sym, _∙_}
 use Prim.Native.Nat.{_-_}
 use native.Mathlib.Omega.{arith}

@@ -1,4 +1,4 @@
--- `words::spelling::is_name` meets its contract. Assumes nothing.
+-- `text_words::spelling::is_name` meets its contract. Assumes nothing.
 use mathlib.Core.Path.{sym, ap, _∙_}
 use mathlib.Core.Bool.{Bool, _&&_}
 use Prim.Native.Nat.{_-_, _+_}

@@ -1,4 +1,4 @@
--- `words::spelling::is_name_byte` meets its contract. Assumes nothing.
+-- `text_words::spelling::is_name_byte` meets its contract. Assumes nothing.
 use mathlib.Core.Path.{sym, _∙_}
 use borrow.Author.Tests.{eq-eqb, ne-eqb}
 use Rattle.text_words.specs.Spelling.{nameByte}

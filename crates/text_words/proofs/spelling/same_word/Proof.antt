@@ -1,4 +1,4 @@
--- `words::spelling::same_word` meets its contract. Assumes nothing.
+-- `text_words::spelling::same_word` meets its contract. Assumes nothing.
 use mathlib.Core.Path.{_≡_, sym, _∙_}
 use mathlib.Core.Bool.{true}
 use Prim.Native.Nat.{_≤_}

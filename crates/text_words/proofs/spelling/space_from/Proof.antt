@@ -1,4 +1,4 @@
--- `words::spelling::space_from` meets its contract. Assumes nothing.
+-- `text_words::spelling::space_from` meets its contract. Assumes nothing.
 use mathlib.Core.Path.{_≡_, refl, sym, _∙_}
 use Prim.Native.Nat.{_-_}
 use native.Mathlib.Omega.{arith}

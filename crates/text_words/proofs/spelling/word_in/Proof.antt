@@ -1,4 +1,4 @@
--- `words::spelling::word_in` meets its contract. Assumes nothing.
+-- `text_words::spelling::word_in` meets its contract. Assumes nothing.
 use mathlib.Core.Path.{_≡_, sym, _∙_}
 use Prim.Native.Nat.{_-_, _+_, _≤_}
 use native.Mathlib.Omega.{arith}
