@@ -1,0 +1,36 @@
+; A yard in which robots carry crates: an action of 4 parameters, atoms of 3 arguments, 16 effects, arithmetic.
+(define (domain yard)
+  (:requirements :strips :typing :equality :negative-preconditions :fluents :durative-actions)
+  (:types thing - object robot crate - thing place)
+  (:constants depot - place)
+  (:predicates
+    (free ?r - robot) (stands ?r - robot ?p - place) (lies ?c - crate ?p - place)
+    (route ?r - robot ?from ?to - place) (moving ?r - robot ?from ?to - place)
+    (trusted ?r - robot ?c - crate ?p - place) (carries ?r - robot ?c - crate) (open ?p - place))
+  (:functions
+    (way ?from ?to - place) (trips ?from ?to - place) (left ?r - robot ?c - crate)
+    (handling ?c - crate) (weight ?c - crate) (stock ?p - place) (energy ?r - robot) (most ?r - robot))
+  (:durative-action carry
+    :parameters (?r - robot ?c - crate ?from ?to - place)
+    :duration (= ?duration (+ (way ?from ?to) (handling ?c)))
+    :condition (and
+      (at start (and (free ?r) (stands ?r ?from) (lies ?c ?from)))
+      (over all (route ?r ?from ?to))
+      (at start (and (trusted ?r ?c ?to) (not (= ?from ?to)) (not (moving ?r ?to ?from))))
+      (at start (<= (+ (weight ?c) 1) (- (most ?r) (way ?from ?to))))
+      (over all (and (open ?from) (open ?to) (carries ?r ?c)))
+      (over all (>= (+ (stock ?from) (stock ?to)) (- (weight ?c) 100)))
+      (at start (>= (- (energy ?r) (+ (way ?from ?to) (weight ?c))) 0))
+      (over all (not (lies ?c ?from)))
+      (at end (and (moving ?r ?from ?to) (trusted ?r ?c depot)))
+      (at end (= (left ?r ?c) (- (+ (way ?from ?to) (handling ?c)) 1))))
+    :effect (and
+      (at start (and (not (free ?r)) (not (stands ?r ?from)) (not (lies ?c ?from))))
+      (at start (and (carries ?r ?c) (moving ?r ?from ?to)))
+      (at start (assign (left ?r ?c) (- (+ (way ?from ?to) (handling ?c)) 1)))
+      (at start (decrease (stock ?from) (weight ?c)))
+      (at start (decrease (energy ?r) (+ (way ?from ?to) (weight ?c))))
+      (at end (and (free ?r) (stands ?r ?to) (lies ?c ?to) (not (carries ?r ?c)) (not (moving ?r ?from ?to))))
+      (at end (increase (stock ?to) (weight ?c)))
+      (at end (increase (energy ?r) (+ (way ?from ?to) (weight ?c))))
+      (at end (increase (trips ?from ?to) (- (left ?r ?c) 1))))))
