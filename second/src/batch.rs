@@ -9,23 +9,31 @@ use crate::{answer, written};
 /// says how the plan would be fed in parts; whole texts are read here, so it changes nothing.
 pub fn answer_records(input: &mut dyn BufRead, output: &mut dyn Write) -> io::Result<()> {
     for record in 1u64.. {
-        let Some([domain, problem, plan]) = read_record(input, record)? else {
+        let Some(case) = read_record(input, record)? else {
             break;
         };
-        let written = written(&answer(&domain, &problem, &plan));
+        let written = written(&answer(&case.domain, &case.problem, &case.plan));
         writeln!(output, "{written}--")?;
     }
     output.flush()
 }
 
-/// The three texts of the next record, none if the input ends before it.
-fn read_record(input: &mut dyn BufRead, record: u64) -> io::Result<Option<[Vec<u8>; 3]>> {
+/// The texts of a record, and how many bytes of the plan would be fed at a time.
+pub(crate) struct Record {
+    pub domain: Vec<u8>,
+    pub problem: Vec<u8>,
+    pub plan: Vec<u8>,
+    pub part: usize,
+}
+
+/// The next record, none if the input ends before it.
+pub(crate) fn read_record(input: &mut dyn BufRead, record: u64) -> io::Result<Option<Record>> {
     let mut header = Vec::new();
     input.read_until(b'\n', &mut header)?;
     if header.is_empty() {
         return Ok(None);
     }
-    let lengths = lengths(&header).ok_or_else(|| malformed(record, "its header"))?;
+    let (lengths, part) = lengths(&header).ok_or_else(|| malformed(record, "its header"))?;
     let mut texts = [Vec::new(), Vec::new(), Vec::new()];
     for (text, length) in texts.iter_mut().zip(lengths) {
         let read = (&mut *input).take(length).read_to_end(text)?;
@@ -33,11 +41,18 @@ fn read_record(input: &mut dyn BufRead, record: u64) -> io::Result<Option<[Vec<u
             return Err(malformed(record, "fewer bytes than its header says"));
         }
     }
-    Ok(Some(texts))
+    let [domain, problem, plan] = texts;
+    let part = part.map_or(plan.len(), |part| part as usize).max(1);
+    Ok(Some(Record {
+        domain,
+        problem,
+        plan,
+        part,
+    }))
 }
 
-/// The three lengths of a header line, none if it is malformed.
-fn lengths(header: &[u8]) -> Option<[u64; 3]> {
+/// The three lengths of a header line and its PART, none if it is malformed.
+fn lengths(header: &[u8]) -> Option<([u64; 3], Option<u64>)> {
     let line = std::str::from_utf8(header.strip_suffix(b"\n")?).ok()?;
     let decimal = |field: &str| {
         let digits = !field.is_empty() && field.bytes().all(|byte| byte.is_ascii_digit());
@@ -45,7 +60,8 @@ fn lengths(header: &[u8]) -> Option<[u64; 3]> {
     };
     let fields: Option<Vec<u64>> = line.split(' ').map(decimal).collect();
     match fields?[..] {
-        [domain, problem, plan] | [domain, problem, plan, _] => Some([domain, problem, plan]),
+        [domain, problem, plan] => Some(([domain, problem, plan], None)),
+        [domain, problem, plan, part] => Some(([domain, problem, plan], Some(part))),
         _ => None,
     }
 }

@@ -1,7 +1,7 @@
 //! Which facts and numbers a point reads and writes, and what of that sets two points, or a point
 //! and itself, against each other (steps 2 and 3; Definition 12 of Fox and Long).
 
-use crate::forms::{Effect, Expression, Test, Write};
+use crate::forms::{Condition, Effect, Expression, Test, Write};
 use crate::happening::Point;
 
 /// Indexes of ground facts and numbers. Over all conditions are read by no point.
@@ -23,16 +23,7 @@ impl Footprint {
         if let Some(rules) = point.durative_start() {
             footprint.read(point, &rules.duration);
         }
-        for condition in &point.rules().conditions {
-            match &condition.test {
-                Test::Atom(atom) => footprint.read_facts.push(point.binding.fact(atom)),
-                Test::SameObject(..) => {}
-                Test::Compare(_, left, right) => {
-                    footprint.read(point, left);
-                    footprint.read(point, right);
-                }
-            }
-        }
+        footprint.read_all(point, &point.rules().conditions);
         for effect in &point.rules().effects {
             match effect {
                 Effect::Add(atom) => footprint.added.push(point.binding.fact(atom)),
@@ -48,6 +39,28 @@ impl Footprint {
             }
         }
         footprint
+    }
+
+    /// What the over all conditions of a durative line's start read.
+    pub fn over_all(start: &Point) -> Self {
+        let mut footprint = Footprint::default();
+        if let Some(rules) = start.durative_start() {
+            footprint.read_all(start, &rules.over_all);
+        }
+        footprint
+    }
+
+    fn read_all(&mut self, point: &Point, conditions: &[Condition]) {
+        for condition in conditions {
+            match &condition.test {
+                Test::Atom(atom) => self.read_facts.push(point.binding.fact(atom)),
+                Test::SameObject(..) => {}
+                Test::Compare(_, left, right) => {
+                    self.read(point, left);
+                    self.read(point, right);
+                }
+            }
+        }
     }
 
     fn read(&mut self, point: &Point, expression: &Expression) {
@@ -67,6 +80,12 @@ impl Footprint {
     /// The numbers this point writes.
     pub fn written(&self) -> impl Iterator<Item = &usize> {
         self.assigned.iter().chain(&self.shifted)
+    }
+
+    /// Whether this point writes a fact or number that the other reads.
+    pub fn writes_what(&self, other: &Footprint) -> bool {
+        meet(self.added.iter().chain(&self.deleted), &other.read_facts)
+            || meet(self.written(), &other.read_numbers)
     }
 
     /// Step 2: a number "assigned twice, or assigned and also raised or lowered"; two equal

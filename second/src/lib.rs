@@ -3,6 +3,7 @@
 
 pub mod batch;
 pub mod generate;
+pub mod survey;
 
 mod actions;
 mod domain;

@@ -8,7 +8,7 @@ use std::path::Path;
 use std::process::ExitCode;
 
 const USAGE: &str = "usage: second [--state] DOMAIN PROBLEM PLAN | second --batch | \
-                     second --generate SEED N | second --texts SEED DOMAIN PROBLEM";
+                     second --generate SEED N | second --texts SEED DOMAIN PROBLEM | second --survey";
 
 fn main() -> ExitCode {
     let arguments: Vec<OsString> = env::args_os().skip(1).collect();
@@ -28,6 +28,10 @@ fn run(arguments: &[OsString]) -> Result<(), String> {
         (Some("--batch"), [_]) => {
             let input = &mut BufReader::new(io::stdin().lock());
             second::batch::answer_records(input, output).map_err(|error| error.to_string())
+        }
+        (Some("--survey"), [_]) => {
+            let input = &mut BufReader::new(io::stdin().lock());
+            second::survey::survey(input, output).map_err(|error| error.to_string())
         }
         (Some("--generate"), [_, seed, count]) => {
             second::generate::generate(number(seed)?, number(count)?, output)

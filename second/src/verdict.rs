@@ -19,6 +19,17 @@ pub struct Verdict {
 }
 
 pub fn judge(domain: &Domain, problem: &Problem, steps: &[Step]) -> Verdict {
+    judge_telling(domain, problem, steps, |_, _, _| {})
+}
+
+/// The same, and tells of each happening: its points, the lines under way after it (of one that
+/// fails in steps 1 to 4: before it), and whether it passed.
+pub fn judge_telling(
+    domain: &Domain,
+    problem: &Problem,
+    steps: &[Step],
+    mut tell: impl FnMut(&[Point], &[Point], bool),
+) -> Verdict {
     let points = all_points(domain, problem, steps);
     let mut state = problem.initial.clone();
     let mut under_way = Vec::new();
@@ -31,6 +42,7 @@ pub fn judge(domain: &Domain, problem: &Problem, steps: &[Step]) -> Verdict {
             start_and_end(&mut under_way, happening);
             over_all_hold(&under_way, &state)
         });
+        tell(happening, &under_way, outcome.is_ok());
         if let Err(failure) = outcome {
             return Verdict {
                 word: failure.word,

@@ -1,7 +1,8 @@
-//! The generated cases: the same for the same seed, well-formed as records, and every answer among
-//! them.
+//! The generated cases: the same for the same seed, well-formed as records, every answer among
+//! them, and many points and lines under way.
 
 use second::generate::generate;
+use second::survey::survey;
 use std::collections::BTreeSet;
 
 struct Record<'b> {
@@ -88,4 +89,42 @@ fn every_answer_occurs() {
     expected.remove("15");
     let missing: Vec<&String> = expected.difference(&answers).collect();
     assert!(missing.is_empty(), "no case for {missing:?}");
+}
+
+/// How many cases of a row of the survey have a verdict.
+fn reached(survey: &str, row: &str, word: &str) -> usize {
+    let line = survey.lines().find(|line| line.starts_with(row));
+    let (_, words) = line.expect("the row").split_once('(').expect("words");
+    let mut counts = words.trim_end_matches(')').split(", ");
+    let count = counts.find_map(|count| count.strip_prefix(word));
+    count.map_or(0, |count| count.trim().parse().expect("a number"))
+}
+
+/// Happenings of many points that nearly meet and that meet, over all conditions that are touched
+/// and that are broken: each among so many cases of 3,000 at least.
+#[test]
+fn many_points_and_touched_conditions_occur() {
+    let mut out = Vec::new();
+    survey(&mut &made(10, 3000)[..], &mut out).expect("whole records");
+    let survey = String::from_utf8(out).expect("text");
+    let rows = [
+        ("a happening of 8 points", "valid", 120),
+        ("a happening of 8 points", "conflict", 50),
+        ("a happening of 16 points", "valid", 40),
+        ("a happening of 16 points", "conflict", 20),
+        ("the first pair is not the first met", "conflict", 8),
+        ("16 lines under way", "valid", 30),
+        ("31 lines under way", "valid", 4),
+        ("over all touched, not broken", "valid", 150),
+        ("over all touched, not broken", "invariant", 15),
+        ("over all touched at the own start", "valid", 120),
+        ("over all touched where another line ends", "valid", 80),
+        ("a part ends while lines are under way", "valid", 200),
+    ];
+    for (row, word, least) in rows {
+        assert!(
+            reached(&survey, row, word) >= least,
+            "{row}, {word}: {survey}"
+        );
+    }
 }

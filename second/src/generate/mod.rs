@@ -10,6 +10,7 @@ mod bench;
 mod bulk;
 mod crowd;
 mod damage;
+mod gather;
 mod invent;
 mod layout;
 mod lengths;
@@ -19,6 +20,8 @@ mod names;
 mod phrase;
 mod pool;
 mod random;
+mod roles;
+mod scene;
 mod sizes;
 mod steps;
 mod world;
@@ -63,6 +66,8 @@ const KINDS: &[(usize, Maker)] = &[
     (26, clash),
     (20, edge),
     (5, on_the_bench),
+    (22, throng),
+    (22, vigil),
     (29, |random| damaged(Text::Domain, random)),
     (22, |random| damaged(Text::Problem, random)),
     (18, |random| damaged(Text::Plan, random)),
@@ -131,6 +136,14 @@ fn edge(random: &mut Random) -> Case {
 
 fn on_the_bench(random: &mut Random) -> Case {
     steps::told(bench::bench(), false, random).laid_out(random)
+}
+
+fn throng(random: &mut Random) -> Case {
+    gather::throng(random).laid_out(random)
+}
+
+fn vigil(random: &mut Random) -> Case {
+    gather::vigil(random).laid_out(random)
 }
 
 /// A world and some steps in it that nobody has asked about.

@@ -153,7 +153,7 @@ fn start(steps: &[Step], random: &mut Random) -> i64 {
 
 /// Sets a goal if there is none; if `met`, condition by condition one that holds in the end, with
 /// few exceptions.
-fn aim(world: &mut World, steps: &[Step], met: bool, edge: bool, random: &mut Random) {
+pub fn aim(world: &mut World, steps: &[Step], met: bool, edge: bool, random: &mut Random) {
     if !world.goal.is_empty() {
         return;
     }
