@@ -17,6 +17,49 @@ pub struct Footprint {
     shifted: Vec<usize>,
 }
 
+/// How facts and numbers that are read are written.
+#[derive(Clone, Copy, PartialEq)]
+pub struct Touch {
+    added: bool,
+    deleted: bool,
+    assigned: bool,
+    shifted: bool,
+}
+
+impl Touch {
+    pub const NONE: Touch = Touch {
+        added: false,
+        deleted: false,
+        assigned: false,
+        shifted: false,
+    };
+    pub const ADDED: Touch = Touch {
+        added: true,
+        ..Touch::NONE
+    };
+    pub const DELETED: Touch = Touch {
+        deleted: true,
+        ..Touch::NONE
+    };
+    pub const ASSIGNED: Touch = Touch {
+        assigned: true,
+        ..Touch::NONE
+    };
+    pub const SHIFTED: Touch = Touch {
+        shifted: true,
+        ..Touch::NONE
+    };
+
+    pub fn and(self, other: Touch) -> Touch {
+        Touch {
+            added: self.added || other.added,
+            deleted: self.deleted || other.deleted,
+            assigned: self.assigned || other.assigned,
+            shifted: self.shifted || other.shifted,
+        }
+    }
+}
+
 impl Footprint {
     pub fn of(point: &Point) -> Self {
         let mut footprint = Footprint::default();
@@ -82,10 +125,14 @@ impl Footprint {
         self.assigned.iter().chain(&self.shifted)
     }
 
-    /// Whether this point writes a fact or number that the other reads.
-    pub fn writes_what(&self, other: &Footprint) -> bool {
-        meet(self.added.iter().chain(&self.deleted), &other.read_facts)
-            || meet(self.written(), &other.read_numbers)
+    /// How this point writes facts or numbers that the other reads.
+    pub fn touch(&self, other: &Footprint) -> Touch {
+        Touch {
+            added: meet(self.added.iter(), &other.read_facts),
+            deleted: meet(self.deleted.iter(), &other.read_facts),
+            assigned: meet(self.assigned.iter(), &other.read_numbers),
+            shifted: meet(self.shifted.iter(), &other.read_numbers),
+        }
     }
 
     /// Step 2: a number "assigned twice, or assigned and also raised or lowered"; two equal

@@ -6,7 +6,7 @@ use std::io::{self, BufRead, Write};
 
 use crate::batch::{read_record, Record};
 use crate::happening::{Point, Word};
-use crate::interference::Footprint;
+use crate::interference::{Footprint, Touch};
 use crate::plan::{read_plan, Step};
 use crate::verdict::judge_telling;
 use crate::{load, word_written};
@@ -56,7 +56,10 @@ impl Reached {
         let ended = happening.iter().any(|point| point.is_end);
         for line in under_way {
             let watched = Footprint::over_all(line);
-            if footprints.iter().any(|one| one.writes_what(&watched)) {
+            if footprints
+                .iter()
+                .any(|one| one.touch(&watched) != Touch::NONE)
+            {
                 self.touched += 1;
                 self.touched_at_start += usize::from(line.time == time);
                 self.touched_at_end += usize::from(ended);

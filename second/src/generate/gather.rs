@@ -1,24 +1,23 @@
-//! Plans of many points: steps thrown together, those left out that the checker names, and then
-//! perhaps one put in that breaks the plan at one place.
+//! Plans of many points: steps thrown together, those left out that the checker names.
 
 use super::acts::binding;
+use super::flaws::flaw;
 use super::layout::plain;
 use super::random::Random;
 use super::steps::{aim, draft, Step};
+use super::touch::touching;
 use super::world::{World, LARGEST};
 use super::{roles, write, Draft};
 use crate::domain::Domain;
 use crate::happening::Word;
-use crate::interference::Footprint;
 use crate::plan::{self, read_plan, PlanRefusal};
 use crate::problem::Problem;
-use crate::survey::crossed;
-use crate::verdict::{judge, judge_telling};
+use crate::verdict::judge;
 
 /// A step and its plan line.
 #[derive(Clone)]
-struct Line {
-    step: Step,
+pub struct Line {
+    pub step: Step,
     text: Vec<u8>,
 }
 
@@ -29,7 +28,7 @@ impl Line {
 }
 
 /// What the checker says of a plan; lines count from 1.
-enum Said {
+pub enum Said {
     Valid,
     Refused {
         line: usize,
@@ -43,38 +42,30 @@ enum Said {
 }
 
 /// A world whose texts have loaded, to be asked about plans.
-struct Gathering<'a> {
+pub struct Gathering<'a> {
     world: &'a World,
-    domain: Domain,
-    problem: Problem,
-    lines: Vec<Line>,
+    pub domain: Domain,
+    pub problem: Problem,
+    pub lines: Vec<Line>,
 }
 
 /// Many points at a few instants.
 pub fn throng(random: &mut Random) -> Draft {
-    told(crowded, random)
+    told(crowded, &[44, 36, 10, 10], random)
 }
 
 /// Many lines under way over many happenings.
 pub fn vigil(random: &mut Random) -> Draft {
-    told(drawn_out, random)
+    told(drawn_out, &[44, 8, 40, 8], random)
 }
 
-fn told(throw: fn(&mut Gathering, &mut Random), random: &mut Random) -> Draft {
+fn told(throw: fn(&mut Gathering, &mut Random), flaws: &[usize; 4], random: &mut Random) -> Draft {
     let mut world = roles::world(random);
     let mut steps = Vec::new();
     let mut sound = true;
     if let Some(mut gathering) = Gathering::of(&world, random) {
         throw(&mut gathering, random);
-        sound = match random.weighted(&[46, 26, 18, 10]) {
-            0 => true,
-            1 => !gathering.meet(random),
-            2 => !gathering.spoil(Word::Invariant, random),
-            _ => !gathering.disturb(random),
-        };
-        if !sound && random.chance(15) {
-            gathering.disturb(random);
-        }
+        sound = !flaw(&mut gathering, flaws, random);
         steps.extend(gathering.lines.into_iter().map(|line| line.step));
     }
     aim(&mut world, &steps, sound, false, random);
@@ -125,7 +116,9 @@ fn drawn_out(gathering: &mut Gathering, random: &mut Random) {
             let ends = gathering.lines.iter().map(|line| line.step.end());
             time = ends.filter(|end| *end >= time).min().unwrap_or(time);
         }
-        gathering.throw_at(time, random.chance(20), random);
+        if random.chance(50) || gathering.touch(Some(time), random).is_none() {
+            gathering.throw_at(time, random.chance(20), random);
+        }
     }
     gathering.prune(random);
 }
@@ -143,12 +136,12 @@ impl<'a> Gathering<'a> {
         })
     }
 
-    fn steps(&self) -> Result<Vec<plan::Step>, PlanRefusal> {
+    pub fn steps(&self) -> Result<Vec<plan::Step>, PlanRefusal> {
         let texts: Vec<&[u8]> = self.lines.iter().map(|line| &line.text[..]).collect();
         read_plan(&self.domain, &self.problem, &texts.concat())
     }
 
-    fn ask(&self) -> Said {
+    pub fn ask(&self) -> Said {
         let steps = match self.steps() {
             Ok(steps) => steps,
             Err(refusal) => return Said::Refused { line: refusal.line },
@@ -165,7 +158,7 @@ impl<'a> Gathering<'a> {
         }
     }
 
-    fn word(&self) -> Option<Word> {
+    pub fn word(&self) -> Option<Word> {
         match self.ask() {
             Said::Valid => Some(Word::Valid),
             Said::Failed { word, .. } => Some(word),
@@ -208,7 +201,7 @@ impl<'a> Gathering<'a> {
     }
 
     /// A step that starts or ends at this time.
-    fn step_at(&self, time: i64, random: &mut Random) -> Option<Step> {
+    pub fn step_at(&self, time: i64, random: &mut Random) -> Option<Step> {
         let mut step = self.any_step(random)?;
         let before = time - step.duration.unwrap_or(0);
         step.start = match before >= 0 && random.chance(45) {
@@ -219,7 +212,7 @@ impl<'a> Gathering<'a> {
     }
 
     /// Puts a step in at any place that its start allows, which is given.
-    fn insert(&mut self, step: Step, random: &mut Random) -> usize {
+    pub fn insert(&mut self, step: Step, random: &mut Random) -> usize {
         let low = self
             .lines
             .partition_point(|line| line.step.start < step.start);
@@ -233,7 +226,7 @@ impl<'a> Gathering<'a> {
         place
     }
 
-    fn throw_in(&mut self, time: i64, random: &mut Random) -> Option<usize> {
+    pub fn throw_in(&mut self, time: i64, random: &mut Random) -> Option<usize> {
         let step = self.step_at(time, random)?;
         Some(self.insert(step, random))
     }
@@ -254,6 +247,16 @@ impl<'a> Gathering<'a> {
             step.start = time;
             self.insert(step, random);
         }
+    }
+
+    /// Throws in a step that writes what a line watches, at this time or at one while it is under
+    /// way; gives its place.
+    pub fn touch(&mut self, time: Option<i64>, random: &mut Random) -> Option<usize> {
+        let like = &self.lines.get(random.below(self.lines.len()))?.step;
+        let moments = like.duration? as usize / 250 + 1;
+        let within = like.start + 250 * random.below(moments) as i64;
+        let step = touching(self.world, like, time.unwrap_or(within), random)?;
+        Some(self.insert(step, random))
     }
 
     /// Takes out lines that the checker names until it names none.
@@ -296,7 +299,7 @@ impl<'a> Gathering<'a> {
     }
 
     /// A time at which something happens, rather one with many points.
-    fn time(&self, random: &mut Random) -> i64 {
+    pub fn time(&self, random: &mut Random) -> i64 {
         let Some(line) = self.lines.get(random.below(self.lines.len())) else {
             return 0;
         };
@@ -304,80 +307,5 @@ impl<'a> Gathering<'a> {
             true => line.step.start,
             false => line.step.end(),
         }
-    }
-
-    /// Puts in a step that gives the plan this verdict, if one is found.
-    fn spoil(&mut self, wanted: Word, random: &mut Random) -> bool {
-        for _ in 0..24 {
-            let later = *random.pick(&[0, 0, 0, 1, 250]);
-            let time = self.time(random) + later;
-            if let Some(place) = self.throw_in(time, random) {
-                if self.word() == Some(wanted) {
-                    return true;
-                }
-                self.lines.remove(place);
-            }
-        }
-        false
-    }
-
-    /// Lets two points interfere, and often further ones at the same instant.
-    fn meet(&mut self, random: &mut Random) -> bool {
-        if !self.spoil(Word::Conflict, random) {
-            return false;
-        }
-        for _ in 0..random.below(6) {
-            let Said::Failed { time, .. } = self.ask() else {
-                break;
-            };
-            if let Some(place) = self.throw_in(time, random) {
-                if self.word() != Some(Word::Conflict) {
-                    self.lines.remove(place);
-                }
-            }
-        }
-        for _ in 0..random.below(12) {
-            if self.crosses() {
-                break;
-            }
-            self.reorder(random);
-        }
-        true
-    }
-
-    /// Whether the pair to be named is not the first one that is met.
-    fn crosses(&self) -> bool {
-        let steps = self.steps().ok().unwrap_or_default();
-        let mut found = false;
-        judge_telling(&self.domain, &self.problem, &steps, |points, _, passed| {
-            let footprints: Vec<Footprint> = points.iter().map(Footprint::of).collect();
-            found = !passed && crossed(&footprints);
-        });
-        found
-    }
-
-    /// Shuffles lines of equal start, as long as points interfere.
-    fn reorder(&mut self, random: &mut Random) {
-        let kept = self.lines.clone();
-        let same = |one: &Line, other: &Line| one.step.start == other.step.start;
-        for lines in self.lines.chunk_by_mut(same) {
-            random.shuffle(lines);
-        }
-        if self.word() != Some(Word::Conflict) {
-            self.lines = kept;
-        }
-    }
-
-    /// Puts in steps that nobody asks about, some with a duration that is not the rule's.
-    fn disturb(&mut self, random: &mut Random) -> bool {
-        for _ in 0..random.between(1, 3) {
-            let time = self.time(random);
-            if let Some(mut step) = self.step_at(time, random) {
-                let wrong = random.chance(20);
-                step.duration = step.duration.map(|own| own + i64::from(wrong));
-                self.insert(step, random);
-            }
-        }
-        true
     }
 }

@@ -10,6 +10,7 @@ mod bench;
 mod bulk;
 mod crowd;
 mod damage;
+mod flaws;
 mod gather;
 mod invent;
 mod layout;
@@ -24,6 +25,7 @@ mod roles;
 mod scene;
 mod sizes;
 mod steps;
+mod touch;
 mod world;
 mod write;
 

@@ -7,8 +7,6 @@ use super::world::{Atom, Condition, Effect, Expression, Head, Named, Term, When,
 
 const READING: &[Role] = &[Role::Read, Role::Own];
 const WRITING: &[Role] = &[Role::Given, Role::Taken, Role::Own];
-/// No point reads what an `over all` condition reads.
-const WATCHING: &[Role] = ALL;
 
 /// The world of an action that keeps to the roles, or, if it spoils, takes every role for `Own`.
 pub struct Scene<'a> {
@@ -109,7 +107,9 @@ impl Scene<'_> {
         }
         if durative {
             for _ in 0..random.weighted(&[15, 35, 30, 20]) {
-                list.push((When::Through, self.condition(2, WATCHING, random)));
+                // No point reads what an `over all` condition reads: it may speak of all roles.
+                let used = if random.chance(30) { ALL } else { WRITING };
+                list.push((When::Through, self.condition(2, used, random)));
             }
         }
         list
@@ -118,7 +118,7 @@ impl Scene<'_> {
     /// A condition that holds at first, with few exceptions.
     fn condition(&self, depth: usize, used: &[Role], random: &mut Random) -> Condition {
         let nested = if depth == 0 { 0 } else { 12 };
-        let single = match random.weighted(&[48, 32, 8, nested]) {
+        let single = match random.weighted(&[44, 38, 7, nested]) {
             0 => self.fact(used, random).map(|atom| {
                 let usual = self.stage.at_first[atom.head] != random.chance(3);
                 turned(Condition::Fact(atom), !usual)
@@ -139,7 +139,7 @@ impl Scene<'_> {
         let depth = random.weighted(&[50, 28, 16, 6]);
         let left = self.expression(depth, used, random);
         let value = self.stage.world.value(&left, self.bound)?;
-        let room = *random.pick(&[0, 500, 1000, 3000, 10_000, 500_000]);
+        let room = *random.pick(&[0, 500, 1000, 3000, 10_000, 200_000]);
         let number = |amount: i64| Expression::Number(amount.clamp(-LARGEST, LARGEST));
         Some(match random.below(7) {
             0 => Condition::Compare(">=", left, number(value - room)),
@@ -213,7 +213,7 @@ impl Scene<'_> {
             false => self.expression(depth, READING, random),
         };
         let words = if owned {
-            "assign increase decrease"
+            "assign assign increase decrease"
         } else {
             "increase decrease"
         };
