@@ -1,0 +1,2 @@
+-- Laws and worked examples.
+pub mod Index
