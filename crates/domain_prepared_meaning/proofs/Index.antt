@@ -1,5 +1,5 @@
 -- A form gives the index that the arguments give as digits; as a reference it gives the same where one object is counted. Assumes nothing.
-use mathlib.Core.Path.{_≡_, refl, sym, ap, _∙_}
+use mathlib.Core.Path.{_≡_, refl, sym, _∙_}
 use mathlib.Core.List.{List, [], _∷_, _++_, map}
 use Prim.Native.Nat.{ℕ, zero, suc, _+_, _*_, _^_}
 use native.Mathlib.Nat.{add-mul, mul-assoc, mul-comm, suc-mul, pow-zero, pow-succ'}
@@ -7,7 +7,7 @@ use native.Mathlib.Omega.{arith}
 use lib.ListN.{length, getD, replicate, length-map}
 use Rattle.domain_meaning.specs.Terms.{Arg, object, variable, Ref}
 use Rattle.domain_meaning.specs.Indexes.{objectOf, digits, indexIn}
-use Rattle.domain_prepared_meaning.specs.Forms.{Share, share, Form, sharesIn, indexBy, folded, sharesOf, formOf, repeated, refBy}
+use Rattle.domain_prepared_meaning.specs.Forms.{Share, Form, sharesIn, indexBy, folded, sharesOf, formOf, repeated, refBy}
 
 -- ---- as a reference: where one object is counted, digits are added up
 
