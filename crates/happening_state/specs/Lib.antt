@@ -1,0 +1,3 @@
+-- What the contracts name.
+pub mod States
+pub mod Masks
