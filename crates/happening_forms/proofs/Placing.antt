@@ -23,6 +23,13 @@ fact-by os f = summed-index os f
 pub number-by : (os : List ℕ) (f : Form) → numberOf summed os (refBy f) ≡ indexBy f os
 number-by os f = summed-index os f
 
+module _ (os : List ℕ) (f : Form) {i : ℕ} (e : i ≡ indexBy f os) where
+  pub fact-at : i ≡ factOf summed os (refBy f)
+  fact-at = e ∙ sym (fact-by os f)
+
+  pub number-at : i ≡ numberOf summed os (refBy f)
+  number-at = e ∙ sym (number-by os f)
+
 -- ---- strides
 
 below : (m x a b : ℕ) → m < a + 1 → x < b + 1 → m * x ≤ a * b

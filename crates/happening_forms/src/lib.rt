@@ -72,13 +72,7 @@ fn part(objects: &[u8; 256], k: usize, n: usize, x: usize) -> usize
 }
 
 // The index of the fact or number whose form is at a place, with v parameters.
-pub fn index<'a>(
-    rows: &'a [u8],
-    objects: &'a [u8; 256],
-    k: usize,
-    at: usize,
-    v: usize,
-) -> usize
+pub fn index<'a>(rows: &'a [u8], objects: &'a [u8; 256], k: usize, at: usize, v: usize) -> usize
     requires { ⌜ (k < 64) × (v ≤ 3) × (at ≤ length (now rows)) ⌝ }
     ensures { λ r. ⌜ r ≡ indexBy (formAt (now (rows .entry)) at v) (fourAt (now (objects .entry)) k) ⌝ }
 {

@@ -58,8 +58,8 @@ module _ {w : ℕ} {s t : State} (h : Touched w s t) where
   touched-fact i b =
       record {
         facts =
-          λ x n. h .facts x (not-first w (factBit i) x n)
-          ∙ sym (fact-other (t .facts) i x (cond b 1 0) (not-bit i x (not-second w (factBit i) x n)));
+            λ x n. h .facts x (not-first w (factBit i) x n)
+            ∙ sym (fact-other (t .facts) i x (cond b 1 0) (not-bit i x (not-second w (factBit i) x n)));
         numbers = λ x n. h .numbers x (not-first w (factBit i) (x + 32) n);
       }
 
@@ -68,6 +68,6 @@ module _ {w : ℕ} {s t : State} (h : Touched w s t) where
       record {
         facts = λ x n. h .facts x (not-first w (numberBit i) x n);
         numbers =
-          λ x n. h .numbers x (not-first w (numberBit i) (x + 32) n)
-          ∙ sym (number-other (t .numbers) i x z (λ e. not-bit (i + 32) (x + 32) (not-second w (numberBit i) (x + 32) n) (ap (λ (y : ℕ). y + 32) e)));
+            λ x n. h .numbers x (not-first w (numberBit i) (x + 32) n)
+            ∙ sym (number-other (t .numbers) i x z (λ e. not-bit (i + 32) (x + 32) (not-second w (numberBit i) (x + 32) n) (ap (λ (y : ℕ). y + 32) e)));
       }

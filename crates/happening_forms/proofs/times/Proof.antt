@@ -1,18 +1,13 @@
 -- `happening_forms::times` meets its contract. Assumes nothing.
 use native.Mathlib.Omega.{arith}
 use borrow.Author.Needs.{needs}
-use Rattle.happening_forms.specs.Summed.{fourAt}
 use Rattle.happening_forms.proofs.Placing.{product-fits}
 use Rattle.happening_forms.proofs.times.Statement.{statement}
 use Rattle.happening_forms.proofs.times.Tie as tie
-use Rattle.happening_forms.proofs.times.Reads as reads
-use Rattle.happening_forms.proofs.times.Lts as lts
 
--- src/lib.rt:63:5
 mul-result : tie.Need-mul-result
 mul-result c = let s = c in omega (arith, product-fits (s .args .m) (s .args .x) (s .pre .0) (s .pre .1))
 
--- src/lib.rt:59:1
 returns : tie.Need-returns
 returns c = let s = c in (search needs, product-fits (s .args .m) (s .args .x) (s .pre .0) (s .pre .1))
 

@@ -1,18 +1,13 @@
 -- `happening_state::fact_bit` meets its contract. Assumes nothing.
-use native.Mathlib.Omega.{arith}
 use Rattle.happening_state.proofs.Bits.{bit-made}
 use mathlib.Core.Path.{refl}
 use borrow.Author.Needs.{needs}
 use Rattle.happening_state.proofs.fact_bit.Statement.{statement}
 use Rattle.happening_state.proofs.fact_bit.Tie as tie
-use Rattle.happening_state.proofs.fact_bit.Reads as reads
-use Rattle.happening_state.proofs.fact_bit.Lts as lts
 
--- src/lib.rt:70:5
 shl-result : tie.Need-shl-result
 shl-result c = search needs
 
--- src/lib.rt:67:1
 returns : tie.Need-returns
 returns c = let s = c in bit-made (s .args .i) _ refl
 

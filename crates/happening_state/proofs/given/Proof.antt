@@ -6,24 +6,16 @@ use Rattle.happening_amounts.proofs.Ranges.{defined-in, defined-out}
 use borrow.Author.Needs.{needs}
 use Rattle.happening_state.proofs.given.Statement.{statement}
 use Rattle.happening_state.proofs.given.Tie as tie
-use Rattle.happening_state.proofs.given.Reads as reads
-use Rattle.happening_state.proofs.given.Lts as lts
-use Rattle.happening_amounts.proofs.is_inside.Reads as is-inside-reads
-use Rattle.happening_state.proofs.number.Reads as number-reads
 
--- src/lib.rt:33:9
 number-requires : tie.Need-number-requires
 number-requires c κs = search needs
 
--- src/lib.rt:34:8
 is-inside-requires : tie.Need-is-inside-requires
 is-inside-requires c κs = search needs
 
--- src/lib.rt:35:9
 returns : tie.Need-returns
 returns c = let s = c .before .before .before in defined-in (numberAt (s .args .numbers .now) (s .args .i)) (cc (toZ-ofZ w64 (c .before .before .number .result) (record { sfits = c .before .before .number .ok }))) (cc (toZ-ofZ w64 (c .before .before .number .result) (record { sfits = c .before .before .number .ok })))
 
--- src/lib.rt:30:1
 returns-2 : tie.Need-returns-2
 returns-2 c = let s = c .before .before .before in defined-out (numberAt (s .args .numbers .now) (s .args .i)) (cc (toZ-ofZ w64 (c .before .before .number .result) (record { sfits = c .before .before .number .ok })))
 

@@ -6,19 +6,14 @@ use Rattle.happening_state.proofs.Keeping.{past-false}
 use borrow.Author.Needs.{needs}
 use Rattle.happening_state.proofs.is_true.Statement.{statement}
 use Rattle.happening_state.proofs.is_true.Tie as tie
-use Rattle.happening_state.proofs.is_true.Reads as reads
-use Rattle.happening_state.proofs.is_true.Lts as lts
 
--- src/lib.rt:14:16
 shared-slice-read-result : tie.Need-shared-slice-read-result
 shared-slice-read-result c = search needs
 
--- src/lib.rt:14:9
 returns : tie.Need-returns
 unfolding isTrue
 returns c = refl
 
--- src/lib.rt:10:1
 returns-2 : tie.Need-returns-2
 returns-2 c = let s = c .before in past-false (now (s .args .facts)) (s .args .i) (c .if1 .left)
 

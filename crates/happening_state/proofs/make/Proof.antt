@@ -7,27 +7,19 @@ use lib.Seq.{set-out}
 use borrow.Author.Needs.{needs}
 use Rattle.happening_state.proofs.make.Statement.{statement}
 use Rattle.happening_state.proofs.make.Tie as tie
-use Rattle.happening_state.proofs.make.Reads as reads
-use Rattle.happening_state.proofs.make.Lts as lts
-use Rattle.happening_state.proofs.told.Reads as told-reads
 
--- src/lib.rt:54:20
 told-requires : tie.Need-told-requires
 told-requires c κs = search needs
 
--- src/lib.rt:54:9
 slice-write-facts : tie.Need-slice-write-facts
 slice-write-facts c = search needs
 
--- src/lib.rt:50:1
 same-length : tie.Need-same-length
 same-length c = search needs
 
--- src/lib.rt:50:1
 returns : tie.Need-returns
 returns c = let s = c .before .before .before in ap (λ (x : ℕ). set (now (s .args .facts)) (s .args .i) x) (c .told .ensures)
 
--- src/lib.rt:50:1
 returns-2 : tie.Need-returns-2
 returns-2 c = sym (set-out _ _ _ (c .if1 .left))
 

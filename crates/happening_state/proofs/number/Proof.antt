@@ -7,22 +7,16 @@ use Rattle.happening_amounts.proofs.Ranges.{number-there, number-past}
 use borrow.Author.Needs.{needs}
 use Rattle.happening_state.proofs.number.Statement.{statement}
 use Rattle.happening_state.proofs.number.Tie as tie
-use Rattle.happening_state.proofs.number.Reads as reads
-use Rattle.happening_state.proofs.number.Lts as lts
 
--- src/lib.rt:24:16
 mul-result : tie.Need-mul-result
 mul-result c = search needs
 
--- src/lib.rt:24:16
 shared-slice-copy-out-result : tie.Need-shared-slice-copy-out-result
 shared-slice-copy-out-result c = search needs
 
--- src/lib.rt:24:9
 returns : tie.Need-returns
 returns c = let s = c .before .before in number-there (s .args .numbers .now) (s .args .i) (pos 0) (c .before .if1 .taken) (toZ-ofZ w64 (getD (s .args .numbers .now) (s .args .i) (pos 0)) (record { sfits = c .result .given }))
 
--- src/lib.rt:20:1
 returns-2 : tie.Need-returns-2
 returns-2 c = let s = c .before in number-past (s .args .numbers .now) (s .args .i) (c .if1 .left)
 
