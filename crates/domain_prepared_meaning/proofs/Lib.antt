@@ -1,2 +1,3 @@
 -- Laws and worked examples.
 pub mod Index
+pub mod Declared

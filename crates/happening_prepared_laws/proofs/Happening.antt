@@ -10,9 +10,9 @@ use Rattle.domain_prepared_meaning.specs.Preparing.{singles, test, lasts, goalO
 use Rattle.happening_meaning.specs.State.{State, Grounds}
 use Rattle.happening_meaning.specs.Truths.{truthOf}
 use Rattle.happening_meaning.specs.Writes.{some}
-use Rattle.happening_meaning.specs.Happening.{Step, Point, lineOf, objectsOf, conditionsOf, effectsOf, ruleOf, unless, each, judged, lasting, tested, marks, apart}
-use Rattle.happening_meaning.specs.Happening.{ruleReads, readsFact, readsNumber, reads, interfere, clear, pairs, Made, onMade, changeAll, changePoints, stays}
-use Rattle.happening_meaning.specs.Happening.{allMarks, allowed, happening, spans, spanning, noObjects, reached}
+use Rattle.happening_meaning.specs.Happening.{Step, Point, lineOf, objectsOf, conditionsOf, effectsOf, ruleOf, unless, each, judged, lasting}
+use Rattle.happening_meaning.specs.Happening.{tested, marks, apart, ruleReads, readsFact, readsNumber, reads, interfere, clear, pairs, Made}
+use Rattle.happening_meaning.specs.Happening.{onMade, changeAll, changePoints, stays, allMarks, allowed, happening, spans, spanning, noObjects, reached}
 use Rattle.happening_meaning.specs.declared.Mark.{Mark}
 use Rattle.happening_meaning.specs.declared.Mark.the-variants as M
 use Rattle.happening_meaning.specs.declared.Outcome.{Outcome}

@@ -3,9 +3,10 @@ use Prim.Native.Nat.{ℕ}
 use mathlib.Core.Path.{_≡_, refl, ap, ap₂, _∙_}
 use mathlib.Core.List.{List, [], _∷_, _++_, map, append-nil}
 use mathlib.Core.Bool.{Bool, true, false, cond}
+use Rattle.domain_meaning.specs.Tables.{Entry}
 use Rattle.domain_meaning.specs.Conditions.{Cond}
 use Rattle.domain_meaning.specs.Effects.{Effect}
-use Rattle.domain_meaning.specs.Actions.{When, start, whole, end, Timed, Action}
+use Rattle.domain_meaning.specs.Actions.{When, start, whole, end, Timed, moment, Action}
 use Rattle.domain_prepared_meaning.specs.Preparing.{isAt, partsAt, allSingles, allEffects, test, effect, lasts, at, actionBy, actionOf}
 use Rattle.happening_meaning.specs.Happening.{Step, stepOf, Point, sameTime, partsFor, joined, conditionsOf, effectsOf, ruleOf, lineOf, objectsOf}
 
@@ -103,6 +104,14 @@ module _ (n : ℕ) (ps fs : List ℕ) where
     pub prepared : Prepared (actionOf n ps fs a) a
     unfolding actionOf actionBy partsFor joined
     prepared = record { lasting = refl; conditions = conditions-at; begun = effects-at start; ended = effects-at end }
+
+  -- an action that does nothing, beside itself
+  abbrev pub nothing : Entry → Action
+  nothing e = record { declared = e; lasting = moment; conditions = []; effects = [] }
+
+  pub nothing-prepared : (e : Entry) → Prepared (nothing e) (nothing e)
+  unfolding lasts partsFor joined allSingles
+  nothing-prepared e = record { lasting = refl; conditions = λ w. refl; begun = refl; ended = refl }
 
   -- ---- points: p is a prepared point of a line, q the point of the same line
 

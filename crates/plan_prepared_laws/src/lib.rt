@@ -1,0 +1,1 @@
+// Plans over prepared actions are read and run as over the actions. Laws, no code.
