@@ -1,3 +1,6 @@
 -- Laws and worked examples.
 pub mod Index
 pub mod Declared
+pub mod Forms
+pub mod Tests
+pub mod Effects

@@ -83,7 +83,7 @@ compare-tag false C.atMost f code at = refl
 compare-tag false C.more f code at = refl
 compare-tag false C.atLeast f code at = refl
 
-comparison-back : (op : Comparison) → comparisonOf (comparisonCell op) ≡ op
+pub comparison-back : (op : Comparison) → comparisonOf (comparisonCell op) ≡ op
 unfolding comparisonOf
 comparison-back C.equal = refl
 comparison-back C.less = refl

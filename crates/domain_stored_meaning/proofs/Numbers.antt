@@ -80,10 +80,18 @@ sized z = elim (ℕ-discrete (natAbs z % 1000) 0) [
     fine true = sized-literal 24 (natAbs z) (omega arith) refl
     fine false = sized-literal 16 (natAbs z) (omega arith) refl
 
-pub number-read : (z : ℤ) (code : List ℕ) (at d : ℕ) → mag z < 1099511627775 → Stands code at (numberCells z)
-    → exprAt (suc d) code at ≡ decoded (number z) (at + length (numberCells z))
-unfolding exprAt exprNode leafAt
-number-read z code at d g s =
+-- what a number that stands in the code gives: the tag of its first cell, and the number by it
+pub record Told (z : ℤ) (code : List ℕ) (at : ℕ) : Type 0 where
+  pub tag : ℕ
+  pub bytes : List ℕ
+  pub stands : Stands code at (tag ∷ bytes)
+  pub big : 16 ≤ tag
+  pub few : sizeIn tag ≤ 5
+  pub next : at + 1 + sizeIn tag ≡ at + length (numberCells z)
+  pub is : numberAt code (at + 1) tag ≡ z
+
+pub number-told : (z : ℤ) (code : List ℕ) (at : ℕ) → mag z < 1099511627775 → Stands code at (numberCells z) → Told z code at
+number-told z code at g s =
     let w = sized z in
     let t : Stands code at (w .tag ∷ w .bytes) = rw (w .are) at s in
     let h = head-is t in
@@ -91,9 +99,16 @@ number-read z code at d g s =
     let r : at + 1 + sizeIn (byteAt code at) ≤ length code = rw (h, n) (s .room) in
     let q : numberAt code (at + 1) (w .tag) ≡ z =
     ap (λ (k : ℕ). numberAt code (at + 1) k) (sym h) ∙ number-in code at (omega (arith, t .room)) r ∙ ap numberIn (s .here) ∙ number-back z (s .rest) g in
+    record { tag = w .tag; bytes = w .bytes; stands = t; big = w .big; few = w .few; next = n; is = q }
+
+pub number-read : (z : ℤ) (code : List ℕ) (at d : ℕ) → mag z < 1099511627775 → Stands code at (numberCells z)
+    → exprAt (suc d) code at ≡ decoded (number z) (at + length (numberCells z))
+unfolding exprAt exprNode leafAt
+number-read z code at d g s =
+    let w = number-told z code at g s in
     rw (
-      below t,
-      h,
+      below (w .stands),
+      head-is (w .stands),
       ne-eqb (w .tag) 0 (λ i. omega (arith, w .big)),
       ne-eqb (w .tag) 1 (λ i. omega (arith, w .big)),
       ne-eqb (w .tag) 2 (λ i. omega (arith, w .big)),
@@ -101,6 +116,6 @@ number-read z code at d g s =
       le-ltb (w .tag) 8 (omega (arith, w .big)),
       le-ltb (w .tag) 16 (w .big),
       lt-ltb (sizeIn (w .tag)) 6 (omega (arith, w .few)),
-      q,
-      n,
+      w .is,
+      w .next,
     )
