@@ -6,18 +6,17 @@ use Prim.Native.Nat.{ℕ, zero, suc, _+_, _-_, _≤_, _<_}
 use native.Mathlib.Omega.{arith}
 use lib.ListN.{length, length-append}
 use borrow.Author.Tests.{lt-ltb, le-ltb}
-use Rattle.domain_meaning.specs.Terms.{Ref, Expr}
 use Rattle.domain_meaning.specs.Effects.{Change, assign, raise, lower, Effect, becomes, changes}
 use Rattle.domain_meaning.specs.Actions.{When, Timed}
 use Rattle.domain_rows.specs.Held.{byteAt}
 use Rattle.domain_stored_meaning.specs.Cells.{changeCell}
 use Rattle.domain_stored_meaning.specs.Decode.{decoded}
-use Rattle.domain_stored_meaning.specs.Good.{GoodRef, GoodExpr, GoodEffect, GoodEffects, GoodParts}
+use Rattle.domain_stored_meaning.specs.Good.{GoodEffect, GoodEffects, GoodParts}
 use Rattle.domain_stored_meaning.proofs.Standing.{Stands, below, head-is, front, after}
 use Rattle.domain_prepared_meaning.specs.Preparing.{isAt, partsAt, allEffects, effect}
 use Rattle.domain_prepared_meaning.specs.Rows.{shareBytes, formBytes, exprBytes, effectBytes, effectsBytes}
 use Rattle.domain_prepared_meaning.specs.Decode.{beginsEffect, becomesAt, changeAt, effectAt, effectsFrom, effectsAt}
-use Rattle.domain_prepared_meaning.specs.Good.{PreparesRef, PreparesExpr, PreparesEffect, PreparesEffects}
+use Rattle.domain_prepared_meaning.specs.Good.{PreparesEffect, PreparesEffects}
 use Rattle.domain_prepared_meaning.proofs.Forms.{share-count, form-read, expr-read}
 
 -- ---- the effects of one time

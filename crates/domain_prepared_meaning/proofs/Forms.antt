@@ -1,5 +1,5 @@
 -- References by their forms, and expressions, that stand in rows are read back. Assumes nothing.
-use mathlib.Core.Path.{_≡_, refl, sym, ap, ap₂, _∙_}
+use mathlib.Core.Path.{_≡_, refl, ap₂}
 use mathlib.Core.List.{List, [], _∷_, _++_}
 use Prim.Native.Nat.{ℕ, zero, suc, _+_, _-_, _*_, _/_, _%_, _^_, _≤_, _<_}
 use native.Mathlib.Nat.{add-mul-mod-self-left, add-mul-div-left}
@@ -15,7 +15,7 @@ use Rattle.domain_stored_meaning.specs.Decode.{decoded}
 use Rattle.domain_stored_meaning.specs.Good.{GoodRef, GoodExpr}
 use Rattle.domain_stored_meaning.proofs.Standing.{Stands, below, head-is, behind, front, after}
 use Rattle.domain_stored_meaning.proofs.Numbers.{number-told}
-use Rattle.domain_prepared_meaning.specs.Forms.{Share, share, Form, form, sharesOf, formOf, refBy}
+use Rattle.domain_prepared_meaning.specs.Forms.{share, form, sharesOf, formOf}
 use Rattle.domain_prepared_meaning.specs.Preparing.{numberRef, expr}
 use Rattle.domain_prepared_meaning.specs.Rows.{twoBytes, shareBytes, formBytes, exprBytes}
 use Rattle.domain_prepared_meaning.specs.Decode.{wordAt, shareIn, sharesAt, formAt, leafAt, exprNode, exprAt}

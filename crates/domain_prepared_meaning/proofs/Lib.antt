@@ -4,3 +4,5 @@ pub mod Declared
 pub mod Forms
 pub mod Tests
 pub mod Effects
+pub mod Places
+pub mod Actions

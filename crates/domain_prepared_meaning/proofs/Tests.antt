@@ -1,26 +1,24 @@
 -- Lists of single conditions that stand in rows are read back. Assumes nothing.
-use mathlib.Core.Path.{_≡_, refl, ap, ap₂, _∙_}
+use mathlib.Core.Path.{_≡_, refl, ap}
 use mathlib.Core.List.{List, [], _∷_, _++_, map}
 use mathlib.Core.Bool.{Bool, true, false, cond}
 use Prim.Native.Nat.{ℕ, zero, suc, _+_, _-_, _≤_, _<_}
 use native.Mathlib.Omega.{arith}
 use lib.ListN.{length, length-append}
 use borrow.Author.Tests.{lt-ltb, le-ltb}
-use Rattle.domain_meaning.specs.Terms.{Arg, Ref, Expr}
+use Rattle.domain_meaning.specs.Terms.{Expr}
 use Rattle.domain_meaning.specs.Conditions.{Comparison, Cond, Conds, all, atom, same, compare, none, cons}
 use Rattle.domain_meaning.specs.Conditions as C
 use Rattle.domain_meaning.specs.Actions.{When, Timed}
-use Rattle.domain_terms.specs.Cells.{cellOf}
 use Rattle.domain_rows.specs.Held.{byteAt}
 use Rattle.domain_stored_meaning.specs.Cells.{comparisonCell}
-use Rattle.domain_stored_meaning.specs.Decode.{decoded, comparisonOf}
-use Rattle.domain_stored_meaning.specs.Good.{GoodArg, GoodRef, GoodExpr, Below, GoodCond, GoodConds, GoodParts}
+use Rattle.domain_stored_meaning.specs.Decode.{decoded}
+use Rattle.domain_stored_meaning.specs.Good.{GoodArg, GoodRef, GoodExpr, GoodCond, GoodConds, GoodParts}
 use Rattle.domain_stored_meaning.proofs.Standing.{Stands, below, head-is, behind, front, after}
 use Rattle.domain_stored_meaning.proofs.Expressions.{arg-back}
 use Rattle.domain_stored_meaning.proofs.Conditions.{comparison-back}
-use Rattle.domain_prepared_meaning.specs.Forms.{formOf, refBy}
-use Rattle.domain_prepared_meaning.specs.Preparing.{isAt, partsAt, singles, singlesOf, allSingles, expr, test}
-use Rattle.domain_prepared_meaning.specs.Rows.{twoBytes, shareBytes, formBytes, exprBytes, testBytes, testsBytes}
+use Rattle.domain_prepared_meaning.specs.Preparing.{isAt, partsAt, singles, singlesOf, allSingles, test}
+use Rattle.domain_prepared_meaning.specs.Rows.{shareBytes, exprBytes, testBytes, testsBytes}
 use Rattle.domain_prepared_meaning.specs.Decode.{beginsTest, sameAt, atomAt, compareAt, testAt, testsFrom, testsAt}
 use Rattle.domain_prepared_meaning.specs.Good.{PreparesRef, PreparesExpr, PreparesCond, PreparesConds}
 use Rattle.domain_prepared_meaning.proofs.Forms.{share-count, form-read, expr-read}
