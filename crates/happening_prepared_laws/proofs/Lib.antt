@@ -2,4 +2,5 @@
 pub mod Conditions
 pub mod Effects
 pub mod Points
+pub mod Rows
 pub mod Happening

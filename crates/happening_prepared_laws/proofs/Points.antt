@@ -6,8 +6,9 @@ use mathlib.Core.Bool.{Bool, true, false, cond}
 use Rattle.domain_meaning.specs.Tables.{Entry}
 use Rattle.domain_meaning.specs.Conditions.{Cond}
 use Rattle.domain_meaning.specs.Effects.{Effect}
-use Rattle.domain_meaning.specs.Actions.{When, start, whole, end, Timed, moment, Action}
+use Rattle.domain_meaning.specs.Actions.{When, start, whole, end, Timed, Lasting, moment, Action}
 use Rattle.domain_prepared_meaning.specs.Preparing.{isAt, partsAt, allSingles, allEffects, test, effect, lasts, at, actionBy, actionOf}
+use Rattle.domain_prepared_meaning.proofs.Declared.{lasting-same}
 use Rattle.happening_meaning.specs.Happening.{Step, stepOf, Point, sameTime, partsFor, joined, conditionsOf, effectsOf, ruleOf, lineOf, objectsOf}
 
 -- ---- what an action says of a time
@@ -66,6 +67,32 @@ module _ {A : Type 0} where
       parts-append w (map (at start) xs) (map (at whole) ys ++ map (at end) zs)
       ∙ ap₂ _++_ (parts-of start w xs) (parts-append w (map (at whole) ys) (map (at end) zs) ∙ ap₂ _++_ (parts-of whole w ys) (parts-of end w zs))
 
+-- ---- an action of three lists of single conditions and two of effects
+
+module _ (b : Action) (l : Lasting) (xs ys zs : List Cond) (us vs : List Effect) where
+  abbrev listed : Action
+  listed = actionBy b l xs ys zs us vs
+
+  pub listed-first : partsFor start (listed .conditions) ≡ xs
+  unfolding actionBy
+  listed-first = three start xs ys zs ∙ append-nil xs
+
+  pub listed-during : partsFor whole (listed .conditions) ≡ ys
+  unfolding actionBy
+  listed-during = three whole xs ys zs ∙ append-nil ys
+
+  pub listed-last : partsFor end (listed .conditions) ≡ zs
+  unfolding actionBy
+  listed-last = three end xs ys zs
+
+  pub listed-begun : joined (partsFor start (listed .effects)) ≡ us
+  unfolding actionBy partsFor joined
+  listed-begun = append-nil us
+
+  pub listed-ended : joined (partsFor end (listed .effects)) ≡ vs
+  unfolding actionBy partsFor joined
+  listed-ended = append-nil vs
+
 -- ---- actions: with n objects, the first indexes of predicates (ps) and of functions (fs)
 
 module _ (n : ℕ) (ps fs : List ℕ) where
@@ -77,33 +104,28 @@ module _ (n : ℕ) (ps fs : List ℕ) where
     pub ended : joined (partsFor end (a .effects)) ≡ map (effect n ps fs) (joined (partsFor end (b .effects)))
 
   module _ (a : Action) where
-    conditions-at : (w : When)
-        → partsFor w (actionOf n ps fs a .conditions) ≡ map (test n ps fs) (allSingles (partsFor w (a .conditions)))
-    unfolding actionOf actionBy
-    conditions-at w = three w (tests start) (tests whole) (tests end) ∙ pick w
-      where
-        tests : When → List Cond
-        tests v = map (test n ps fs) (allSingles (partsAt v (a .conditions)))
+    tests-at : (w : When)
+        → map (test n ps fs) (allSingles (partsAt w (a .conditions))) ≡ map (test n ps fs) (allSingles (partsFor w (a .conditions)))
+    tests-at w = ap (λ (cs : List Cond). map (test n ps fs) (allSingles cs)) (parts-same w (a .conditions))
 
-        same : (v : When) → tests v ≡ map (test n ps fs) (allSingles (partsFor v (a .conditions)))
-        same v = ap (λ (cs : List Cond). map (test n ps fs) (allSingles cs)) (parts-same v (a .conditions))
+    effects-at : (w : When) → map (effect n ps fs) (allEffects (partsAt w (a .effects))) ≡ map (effect n ps fs) (joined (partsFor w (a .effects)))
+    effects-at w = ap (map (effect n ps fs)) (joined-same (partsAt w (a .effects)) ∙ ap joined (parts-same w (a .effects)))
 
-        pick : (v : When)
-            → cond (sameTime start v) (tests start) [] ++ (cond (sameTime whole v) (tests whole) [] ++ cond (sameTime end v) (tests end) [])
-            ≡ map (test n ps fs) (allSingles (partsFor v (a .conditions)))
-        pick start = append-nil (tests start) ∙ same start
-        pick whole = append-nil (tests whole) ∙ same whole
-        pick end = same end
-
-    effects-at : (w : When)
-        → map (effect n ps fs) (allEffects (partsAt w (a .effects))) ++ [] ≡ map (effect n ps fs) (joined (partsFor w (a .effects)))
-    effects-at w =
-        append-nil (map (effect n ps fs) (allEffects (partsAt w (a .effects))))
-        ∙ ap (map (effect n ps fs)) (joined-same (partsAt w (a .effects)) ∙ ap joined (parts-same w (a .effects)))
+    conditions-at : (w : When) → partsFor w (actionOf n ps fs a .conditions) ≡ map (test n ps fs) (allSingles (partsFor w (a .conditions)))
+    unfolding actionOf
+    conditions-at start = listed-first a _ _ _ _ _ _ ∙ tests-at start
+    conditions-at whole = listed-during a _ _ _ _ _ _ ∙ tests-at whole
+    conditions-at end = listed-last a _ _ _ _ _ _ ∙ tests-at end
 
     pub prepared : Prepared (actionOf n ps fs a) a
-    unfolding actionOf actionBy partsFor joined
-    prepared = record { lasting = refl; conditions = conditions-at; begun = effects-at start; ended = effects-at end }
+    unfolding actionOf
+    prepared =
+        record {
+          lasting = lasting-same n ps fs a;
+          conditions = conditions-at;
+          begun = listed-begun a _ _ _ _ _ _ ∙ effects-at start;
+          ended = listed-ended a _ _ _ _ _ _ ∙ effects-at end;
+        }
 
   -- an action that does nothing, beside itself
   abbrev pub nothing : Entry → Action
