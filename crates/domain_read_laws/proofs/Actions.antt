@@ -1,57 +1,59 @@
--- Actions that are read are good and signed, and have no more cells than bytes were read. Assumes nothing.
-use mathlib.Core.Path.{_≡_, refl, sym, ap}
+-- Actions that are read are good and signed, and their size is at most as many as bytes were read. Assumes nothing.
+use mathlib.Core.Path.{_≡_, refl, sym, ap, subst, _∙_}
 use mathlib.Core.List.{List, [], _∷_, _++_, map}
-use mathlib.Core.Bool.{Bool, true, false, cond}
+use mathlib.Core.Bool.{Bool, true, false, cond, true≢false}
 use Prim.Native.Nat.{ℕ, zero, suc, _+_, _-_, _≤_}
 use Prim.Native.String.{String}
 use native.Mathlib.Omega.{arith}
-use lib.ListN.{length, length-append}
+use native.Mathlib.Decide.{ℕ-discrete}
+use lib.ListN.{length}
 use Rattle.text_words.specs.Bytes.{bytes}
 use Rattle.text_words.specs.Spelling.{sameWord}
+use Rattle.text_words.proofs.Steps.{same-length}
 use Rattle.text_tokens.specs.Runs.{part}
 use Rattle.text_tokens.specs.Tokens.{tokenAt}
-use Rattle.domain_meaning.specs.Read.{Reader, give}
+use Rattle.text_tokens.proofs.Within.{Within, token-in, part-length}
+use Rattle.domain_meaning.specs.Read.{Reader, give, refuse}
 use Rattle.domain_meaning.specs.Tables.{Entry, Table}
-use Rattle.domain_meaning.specs.Due.{Name}
+use Rattle.domain_meaning.specs.Due.{afterOf, wordDue, Name}
 use Rattle.domain_meaning.specs.Lists.{signature}
 use Rattle.domain_meaning.specs.Terms.{Scope, Counted}
 use Rattle.domain_meaning.specs.Conditions.{Cond, condition}
 use Rattle.domain_meaning.specs.Effects.{Effect, effect}
-use Rattle.domain_meaning.specs.Actions.{When, start, Timed, moment, rule, Action, partBehind, partAt, partsTo, parts, durationRule, whenField, within}
+use Rattle.domain_meaning.specs.Actions.{When, start, Timed, Action, partBehind, partAt, partsTo, parts, durationRule, whenField, within}
 use Rattle.domain_meaning.specs.Actions.{simpleBody, durativeBody, action}
-use Rattle.domain_meaning.proofs.Given.{Fits, fits, stops, fits-also, given-then, word-gives, close-ahead, either-gives}
+use Rattle.domain_meaning.proofs.Given.{Given, Any, Fits, reads, fits, stops, fits-also, given-then, given-either, given-word, word-gives, close-ahead}
+use Rattle.domain_meaning.proofs.Given.{either-gives}
 use Rattle.domain_meaning.proofs.Steps.{opening-fits, closing-fits, word-due-fits, new-name-fits, fresh-fits, time-ahead, rule-ahead, field-ahead}
 use Rattle.domain_meaning.proofs.Tables.{variables-few}
 use Rattle.domain_terms.specs.Scoped.{AllSigned}
 use Rattle.domain_terms.proofs.Signing.{signed-signature, signed-more}
-use Rattle.domain_expressions.specs.Codes.{cellsOf}
-use Rattle.domain_stored_meaning.specs.Cells.{condCells, listCells, partsCells, lastingCells, actionCells, actionsCells}
 use Rattle.domain_stored_meaning.specs.Good.{GoodExpr, GoodCond, GoodEffects, GoodParts, GoodLasting, GoodAction, GoodActions, Sized}
+use Rattle.domain_read_laws.proofs.Sizes.{exprSize, condSize, listSize, partsSize, lastingSize, actionSize, actionsSize}
 use Rattle.domain_read_laws.proofs.Tables.{Fit, fit-more}
 use Rattle.domain_read_laws.proofs.Terms.{expression-fits}
 use Rattle.domain_read_laws.proofs.Conditions.{condition-fits}
 use Rattle.domain_read_laws.proofs.Effects.{listed-fits}
 
--- ---- parts, g writing what stands in one
+-- ---- parts, g being the size of what stands in one
 
-module _ {A : Type 0} (P : A → Type 0) (g : A → List ℕ) where
+module _ {A : Type 0} (P : A → Type 0) (g : A → ℕ) where
   good-join : (xs ys : List (Timed A)) → GoodParts P xs → GoodParts P ys → GoodParts P (xs ++ ys)
   unfolding GoodParts
   good-join [] ys h k = k
   good-join (x ∷ xs) ys h k = (h .0, good-join xs ys (h .1) k)
 
-  parts-join : (xs ys : List (Timed A)) → length (partsCells g (xs ++ ys)) + 1 ≡ length (partsCells g xs) + length (partsCells g ys)
-  unfolding partsCells
+  parts-join : (xs ys : List (Timed A)) → partsSize g (xs ++ ys) + 1 ≡ partsSize g xs + partsSize g ys
+  unfolding partsSize
   parts-join [] ys = omega arith
-  parts-join (x ∷ xs) ys =
-      omega (arith, parts-join xs ys, length-append (g (x .what)) (partsCells g (xs ++ ys)), length-append (g (x .what)) (partsCells g xs))
+  parts-join (x ∷ xs) ys = omega (arith, parts-join xs ys)
 
-  one-part : (w : When) (x : A) → length (partsCells g (record { when = w; what = x } ∷ [])) ≡ length (g x) + 2
-  unfolding partsCells
-  one-part w x = omega (arith, length-append (g x) (0 ∷ []))
+  one-part : (w : When) (x : A) → partsSize g (record { when = w; what = x } ∷ []) ≡ g x + 2
+  unfolding partsSize
+  one-part w x = omega arith
 
-  no-part : length (partsCells g []) ≡ 1
-  unfolding partsCells
+  no-part : partsSize g [] ≡ 1
+  unfolding partsSize
   no-part = omega arith
 
   none-good : GoodParts P []
@@ -61,26 +63,26 @@ module _ {A : Type 0} (P : A → Type 0) (g : A → List ℕ) where
   abbrev GoodOf : Counted (List (Timed A)) → Type 0
   GoodOf x = GoodParts P (x .tree)
 
-  abbrev partsSize : Counted (List (Timed A)) → ℕ
-  partsSize x = length (partsCells g (x .tree))
+  abbrev sizeOf : Counted (List (Timed A)) → ℕ
+  sizeOf x = partsSize g (x .tree)
 
   -- f reads what stands in one
   module _ (s : List ℕ) (over : Bool) (f : ℕ → ℕ → Reader (Counted A))
-      (r : (d n at : ℕ) → d ≤ 16 → Fits (λ x. P (x .tree)) (λ x. length (g (x .tree))) at 1 (f d n at)) where
-    behind-time-fits : (d n p e at : ℕ) → d ≤ 16 → Fits GoodOf partsSize at 1 (partBehind s over f d n p e at)
+      (r : (d n at : ℕ) → d ≤ 16 → Fits (λ x. P (x .tree)) (λ x. g (x .tree)) at 1 (f d n at)) where
+    behind-time-fits : (d n p e at : ℕ) → d ≤ 16 → Fits GoodOf sizeOf at 1 (partBehind s over f d n p e at)
     unfolding partBehind GoodParts
     behind-time-fits d n p e at deep =
         given-then _ (time-ahead s d over p e at)
         (λ w a h. given-then _ (r d n a deep)
         (λ x b l. given-then _ (closing-fits s d b) (λ q i v. fits (l .good, tt) (omega arith) (omega (arith, one-part w (x .tree))))))
 
-    part-fits : (d n at : ℕ) → d ≤ 16 → Fits GoodOf partsSize at 0 (partAt s over f d n at)
+    part-fits : (d n at : ℕ) → d ≤ 16 → Fits GoodOf sizeOf at 0 (partAt s over f d n at)
     unfolding partAt
     part-fits d n at deep =
         given-then _ (opening-fits s d at)
         (λ p a h. word-gives s a _ _ (λ w q e t l u y. fits-also (behind-time-fits (d - 1) n q e e (omega arith)) (omega arith) (λ x i v. omega arith)) stops)
 
-    parts-to-fits : (k d n at : ℕ) → d ≤ 16 → Fits GoodOf partsSize at 0 (partsTo s over f k d n at)
+    parts-to-fits : (k d n at : ℕ) → d ≤ 16 → Fits GoodOf sizeOf at 0 (partsTo s over f k d n at)
     unfolding partsTo
     parts-to-fits zero d n at deep = stops
     parts-to-fits (suc k) d n at deep =
@@ -89,7 +91,7 @@ module _ {A : Type 0} (P : A → Type 0) (g : A → List ℕ) where
         (λ x i h. given-then _ (parts-to-fits k d (x .left) i deep)
         (λ xs j u. fits (good-join (x .tree) (xs .tree) (h .good) (u .good)) (omega arith) (omega (arith, parts-join (x .tree) (xs .tree))))))
 
-    parts-fits : (d n at : ℕ) → d ≤ 16 → Fits GoodOf partsSize at 0 (parts s over f d n at)
+    parts-fits : (d n at : ℕ) → d ≤ 16 → Fits GoodOf sizeOf at 0 (parts s over f d n at)
     unfolding parts
     parts-fits d n at deep =
         given-then _ (opening-fits s d at)
@@ -99,7 +101,7 @@ module _ {A : Type 0} (P : A → Type 0) (g : A → List ℕ) where
         (fits-also (behind-time-fits (d - 1) n q e e (omega arith)) (omega arith) (λ x i v. omega arith)))
         stops)
 
--- ---- the fields: a missing one has a cell and no byte
+-- ---- the fields: a missing one has the end of a list and no byte
 
 field-fits : {A : Type 0} (P : List A → Type 0) (w : List A → ℕ) (more : ℕ) (s : List ℕ) (k : String) (r : Reader (List A)) (at : ℕ) → P [] → w [] ≤ more
     → ((n : ℕ) → Fits P w n (more + 1) (r n)) → Fits P w at more (whenField s k r at)
@@ -109,24 +111,11 @@ field-fits {A} P w more s k r at g h f = given-then _ (field-ahead s (bytes k) a
     go true n l u = fits-also (f n) l (λ a m v. omega arith)
     go false n l u = fits {a = []} {n = n} g l (omega arith)
 
-action-size : (a : Action) → length (actionCells a) ≡ length (lastingCells (a .lasting)) + length (partsCells condCells (a .conditions)) + length
-    (partsCells listCells (a .effects))
-unfolding actionCells
-action-size a =
-    omega (
-      arith,
-      length-append (lastingCells (a .lasting)) (partsCells condCells (a .conditions) ++ partsCells listCells (a .effects)),
-      length-append (partsCells condCells (a .conditions)) (partsCells listCells (a .effects)),
-    )
-
-abbrev actionSize : Action → ℕ
-actionSize a = length (actionCells a)
-
 abbrev condsSize : List (Timed Cond) → ℕ
-condsSize xs = length (partsCells condCells xs)
+condsSize xs = partsSize condSize xs
 
 abbrev listsSize : List (Timed (List Effect)) → ℕ
-listsSize xs = length (partsCells listCells xs)
+listsSize xs = partsSize listSize xs
 
 -- a body of the action e
 record Body (e : Entry) (a : Action) : Type 0 where
@@ -134,10 +123,10 @@ record Body (e : Entry) (a : Action) : Type 0 where
   own : a .declared ≡ e
 
 module _ (s : List ℕ) (c : Scope) (z : Sized c) where
-  loose-condition : (d n at : ℕ) → d ≤ 16 → Fits (λ x. GoodCond 16 (x .tree)) (λ x. length (condCells (x .tree))) at 1 (condition d s c n at)
+  loose-condition : (d n at : ℕ) → d ≤ 16 → Fits (λ x. GoodCond 16 (x .tree)) (λ x. condSize (x .tree)) at 1 (condition d s c n at)
   loose-condition d n at h = fits-also (condition-fits s c z d n at h) (omega arith) (λ x m k. omega arith)
 
-  duration-fits : (at : ℕ) → Fits (GoodExpr 16) (λ x. length (cellsOf x) + 2) at 0 (durationRule s c at)
+  duration-fits : (at : ℕ) → Fits (GoodExpr 16) (λ x. exprSize x + 2) at 0 (durationRule s c at)
   unfolding durationRule
   duration-fits at =
       given-then _ (opening-fits s 14 at)
@@ -145,37 +134,50 @@ module _ (s : List ℕ) (c : Scope) (z : Sized c) where
       (λ q b l. given-then _ (expression-fits s c z 13 b (omega arith))
       (λ x i u. given-then _ (closing-fits s 13 i) (λ m n y. fits (u .good) (omega arith) (omega arith)))))
 
-  simple-fits : (e : Entry) (at : ℕ) → Fits (Body e) actionSize at 3 (simpleBody s c e at)
-  unfolding simpleBody lastingCells GoodParts GoodLasting
+  simple-fits : (e : Entry) (at : ℕ) → Fits (Body e) actionSize at 6 (simpleBody s c e at)
+  unfolding simpleBody lastingSize GoodParts GoodLasting
   simple-fits e at =
-      given-then _ (field-fits (GoodParts (GoodCond 16)) condsSize 1 s ":precondition" _ at tt (omega (arith, no-part (GoodCond 16) condCells))
+      given-then _ (field-fits (GoodParts (GoodCond 16)) condsSize 1 s ":precondition" _ at tt (omega (arith, no-part (GoodCond 16) condSize))
       (λ n. given-then _ (condition-fits s c z 14 32 n (omega arith))
-      (λ x i h. fits (h .good, tt) (omega arith) (omega (arith, one-part (GoodCond 16) condCells start (x .tree))))))
-      (λ cs a h. given-then _ (field-fits (GoodParts GoodEffects) listsSize 2 s ":effect" _ a tt (omega (arith, no-part GoodEffects listCells))
+      (λ x i h. fits (h .good, tt) (omega arith) (omega (arith, one-part (GoodCond 16) condSize start (x .tree))))))
+      (λ cs a h. given-then _ (field-fits (GoodParts GoodEffects) listsSize 2 s ":effect" _ a tt (omega (arith, no-part GoodEffects listSize))
       (λ n. given-then _ (listed-fits s c z 14 16 n (omega arith))
-      (λ x i l. fits (l .good, tt) (omega arith) (omega (arith, one-part GoodEffects listCells start (x .tree))))))
+      (λ x i l. fits (l .good, tt) (omega arith) (omega (arith, one-part GoodEffects listSize start (x .tree))))))
       (λ es b l. given-then _ (closing-fits s 14 b)
-      (λ q i v. fits (record { good = record { lasting = tt; conditions = h .good; effects = l .good }; own = refl }) (omega arith)
-      (omega (arith, action-size (record { declared = e; lasting = moment; conditions = cs; effects = es }))))))
+      (λ q i v. fits (record { good = record { lasting = tt; conditions = h .good; effects = l .good }; own = refl }) (omega arith) (omega arith))))
 
-  durative-fits : (e : Entry) (at : ℕ) → Fits (Body e) actionSize at 3 (durativeBody s c e at)
-  unfolding durativeBody lastingCells GoodLasting
+  durative-fits : (e : Entry) (at : ℕ) → Fits (Body e) actionSize at 6 (durativeBody s c e at)
+  unfolding durativeBody lastingSize GoodLasting
   durative-fits e at =
       given-then _ (word-due-fits s 14 at (bytes ":duration"))
       (λ p a h. given-then _ (duration-fits a)
-      (λ x b l. given-then _ (field-fits (GoodParts (GoodCond 16)) condsSize 1 s ":condition" _ b (none-good (GoodCond 16) condCells)
-      (omega (arith, no-part (GoodCond 16) condCells))
-      (λ n. given-then _ (parts-fits (GoodCond 16) condCells s true (λ d m. condition d s c m) loose-condition 14 32 n (omega arith))
+      (λ x b l. given-then _ (field-fits (GoodParts (GoodCond 16)) condsSize 1 s ":condition" _ b (none-good (GoodCond 16) condSize)
+      (omega (arith, no-part (GoodCond 16) condSize))
+      (λ n. given-then _ (parts-fits (GoodCond 16) condSize s true (λ d m. condition d s c m) loose-condition 14 32 n (omega arith))
       (λ y i v. fits (v .good) (omega arith) (omega arith))))
-      (λ cs i v. given-then _ (field-fits (GoodParts GoodEffects) listsSize 1 s ":effect" _ i (none-good GoodEffects listCells)
-      (omega (arith, no-part GoodEffects listCells))
-      (λ n. given-then _ (parts-fits GoodEffects listCells s false (λ d m. effect d s c m) (listed-fits s c z) 14 16 n (omega arith))
+      (λ cs i v. given-then _ (field-fits (GoodParts GoodEffects) listsSize 1 s ":effect" _ i (none-good GoodEffects listSize)
+      (omega (arith, no-part GoodEffects listSize))
+      (λ n. given-then _ (parts-fits GoodEffects listSize s false (λ d m. effect d s c m) (listed-fits s c z) 14 16 n (omega arith))
       (λ y j o. fits (o .good) (omega arith) (omega arith))))
       (λ es j o. given-then _ (closing-fits s 14 j)
-      (λ q m t. fits (record { good = record { lasting = l .good; conditions = v .good; effects = o .good }; own = refl }) (omega arith)
-      (omega (arith, action-size (record { declared = e; lasting = rule x; conditions = cs; effects = es }))))))))
+      (λ q m t. fits (record { good = record { lasting = l .good; conditions = v .good; effects = o .good }; own = refl }) (omega arith) (omega arith))))))
 
 -- ---- actions one behind the other
+
+-- a word that is due has all its bytes
+word-long : (s : List ℕ) (d at : ℕ) (w : List ℕ) → Given (λ _ n. at + length w ≤ n) Any (wordDue s d w at)
+unfolding wordDue Within
+word-long s d at w =
+    given-word (λ t. Within s at t × (afterOf t ≡ afterOf (tokenAt s at))) (tokenAt s at) _ _ (afterOf (tokenAt s at)) (token-in s at, refl)
+    (λ k p e r. subst (λ (n : ℕ). Given (λ _ m. at + length w ≤ m) Any (cond (sameWord (part s p e) w) (give p) (refuse 3 p) n)) (r .1)
+    (given-either (sameWord (part s p e) w) _ _ e (λ h. reads (omega (arith, r .0 .0, long p e (r .0 .2) h))) (λ h. stops)))
+    stops
+  where
+    long : (p e : ℕ) → e ≤ length s → sameWord (part s p e) w ≡ true → length w ≡ e - p
+    long p e h i = elim (ℕ-discrete (length (part s p e)) (length w)) [
+      | yes j ↦ omega (arith, part-length s p e h)
+      | no j ↦ absurd (true≢false (sym i ∙ same-length (part s p e) w j))
+    ]
 
 abbrev pub heads : List Action → Table
 heads as′ = map (λ a. a .declared) as′
@@ -185,11 +187,10 @@ pub record Acting (as′ : List Action) : Type 0 where
   pub names : Fit AllSigned 32 (heads as′)
   pub trees : GoodActions as′
 
-actions-join : (as′ : List Action) (a : Action) → length (actionsCells (as′ ++ a ∷ [])) ≡ length (actionsCells as′) + length (actionCells a)
-unfolding actionsCells
-actions-join [] a = omega (arith, length-append (actionCells a) [])
-actions-join (b ∷ as′) a =
-    omega (arith, actions-join as′ a, length-append (actionCells b) (actionsCells (as′ ++ a ∷ [])), length-append (actionCells b) (actionsCells as′))
+actions-join : (as′ : List Action) (a : Action) → actionsSize (as′ ++ a ∷ []) ≡ actionsSize as′ + actionSize a
+unfolding actionsSize
+actions-join [] a = omega arith
+actions-join (b ∷ as′) a = omega (arith, actions-join as′ a)
 
 trees-join : (as′ : List Action) (a : Action) → GoodActions as′ → GoodAction a → GoodActions (as′ ++ a ∷ [])
 unfolding GoodActions
@@ -201,12 +202,12 @@ heads-join [] a = refl
 heads-join (x ∷ as′) a = ap (λ (l : Table). x .declared ∷ l) (heads-join as′ a)
 
 pub action-fits : (s : List ℕ) (c : Scope) (z : Sized c) (durative : Bool) (as′ : List Action) (at : ℕ) → Acting as′
-    → Fits Acting (λ bs. length (actionsCells bs)) at (length (actionsCells as′)) (action s c durative as′ at)
-unfolding action
+    → Fits Acting actionsSize at (actionsSize as′) (action s c durative as′ at)
+unfolding action bytes
 action-fits s c z durative as′ at g =
     given-then _ (new-name-fits s 14 at)
     (λ n a h. given-then _ (fresh-fits 32 (heads as′) (n .place) (n .word) a)
-    (λ p b l. given-then _ (word-due-fits s 14 b (bytes ":parameters"))
+    (λ p b l. given-then _ (word-long s 14 b (bytes ":parameters"))
     (λ q e v. given-then _ (opening-fits s 14 e)
     (λ o i u. given-then _ (variables-few s (c .types) 4 i)
     (λ vs j r. let x = signature (n .word) vs in given-then _ (body n vs j)
@@ -223,7 +224,7 @@ action-fits s c z durative as′ at g =
     inside vs = record { objects = z .objects; facts = z .facts; numbers = z .numbers }
 
     body : (n : Name) (vs : Table) (j : ℕ)
-        → Fits (Body (signature (n .word) vs)) actionSize j 3
+        → Fits (Body (signature (n .word) vs)) actionSize j 6
         (cond durative (durativeBody s (within c vs) (signature (n .word) vs)) (simpleBody s (within c vs) (signature (n .word) vs)) j)
     body n vs j = either-gives durative _ _ j (durative-fits s (within c vs) (inside vs) (signature (n .word) vs) j)
         (simple-fits s (within c vs) (inside vs) (signature (n .word) vs) j)

@@ -1,11 +1,11 @@
--- Arguments, references and expressions that are read: they are good, a reference has a cell for each argument and a bracket behind, and an expression at
--- most one cell more than bytes were read. Assumes nothing.
+-- Arguments, references and expressions that are read: they are good, a reference has a byte for each argument and a bracket behind, and the size of an
+-- expression is at most one more than bytes were read. Assumes nothing.
 use mathlib.Core.Path.{_≡_, refl}
 use mathlib.Core.List.{List, [], _∷_}
 use Prim.Native.Nat.{ℕ, zero, suc, _+_, _≤_, _<_}
 use native.Mathlib.Omega.{arith}
 use lib.Dec.{eqb}
-use lib.ListN.{length, length-append, length-map}
+use lib.ListN.{length}
 use Rattle.text_words.specs.Fixed.{headOf}
 use Rattle.text_words.specs.declared.fixed.HeadWord.{HeadWord}
 use Rattle.text_words.specs.declared.fixed.HeadWord.the-variants as H
@@ -18,20 +18,16 @@ use Rattle.text_tokens.specs.declared.tokens.Word.the-variants as W
 use Rattle.domain_meaning.specs.Read.{Reader, give, refuse}
 use Rattle.domain_meaning.specs.Tables.{Table, entryAt, wantedOf, lookup, onFound, declared, isBelow}
 use Rattle.domain_meaning.specs.Due.{afterOf}
-use Rattle.domain_meaning.specs.Terms.{Scope, Ref, Expr, number, value, minus, difference, plus, Given, givenBy, argument, arguments, reference, Counted, leaf}
+use Rattle.domain_meaning.specs.Terms.{Scope, Expr, number, value, minus, difference, plus, Given, givenBy, argument, arguments, reference, Counted, leaf}
 use Rattle.domain_meaning.specs.Terms.{operandsEnd, plusOf, minusOf, operation, headed, expr, expression}
 use Rattle.domain_meaning.specs.Terms as G
 use Rattle.domain_meaning.proofs.Given.{Fits, Ahead, fits, stops, fits-also, given-then, word-gives, number-gives, open-gives, close-gives, close-ahead}
 use Rattle.domain_meaning.proofs.Given.{either-gives}
 use Rattle.domain_meaning.proofs.Steps.{closing-fits, counted-fits}
-use Rattle.domain_terms.specs.Cells.{cellOf}
 use Rattle.domain_terms.proofs.Kept.{found-below}
-use Rattle.domain_expressions.specs.Codes.{refCells, cellsOf}
 use Rattle.domain_expressions.proofs.Sizes.{numeral-fits}
 use Rattle.domain_stored_meaning.specs.Good.{GoodArg, GoodArgs, GoodRef, GoodExpr, AllFew, Sized}
-
-pub ref-size : (tag : ℕ) (r : Ref) → length (refCells tag r) ≡ length (r .args) + 2
-ref-size tag r = omega (arith, length-map (r .args) cellOf)
+use Rattle.domain_read_laws.proofs.Sizes.{exprSize}
 
 -- ---- names
 
@@ -95,8 +91,8 @@ module _ (s : List ℕ) (c : Scope) (z : Sized c) where
 
 -- ---- expressions
 
-abbrev exprSize : Counted Expr → ℕ
-exprSize x = length (cellsOf (x .tree))
+abbrev sizeOf : Counted Expr → ℕ
+sizeOf x = exprSize (x .tree)
 
 abbrev GoodOf : ℕ → Counted Expr → Type 0
 GoodOf d x = GoodExpr d (x .tree)
@@ -112,8 +108,8 @@ expr-deeper (minus a) (suc d) (suc e) h g = expr-deeper a d e (omega arith) g
 expr-deeper (difference a b) (suc d) (suc e) h g = (expr-deeper a d e (omega arith) (g .0), expr-deeper b d e (omega arith) (g .1))
 expr-deeper (plus a b) (suc d) (suc e) h g = (expr-deeper a d e (omega arith) (g .0), expr-deeper b d e (omega arith) (g .1))
 
-leaf-fits : (s : List ℕ) (d n at e : ℕ) → Fits (GoodOf (suc e)) exprSize at 1 (leaf d n (tokenAt s at) (afterOf (tokenAt s at)))
-unfolding cellsOf GoodExpr
+leaf-fits : (s : List ℕ) (d n at e : ℕ) → Fits (GoodOf (suc e)) sizeOf at 1 (leaf d n (tokenAt s at) (afterOf (tokenAt s at)))
+unfolding exprSize GoodExpr
 leaf-fits s d n at e =
     number-gives s at _ _
     (λ z p i q. let w = numeral-fits s at z p i q in given-then _ (counted-fits p n i) (λ m a l. fits (w .3) (omega (arith, w .0)) (omega (arith, w .2))))
@@ -125,25 +121,25 @@ end-fits s d n at =
     close-gives s at _ _ (λ p e h i. fits tt (omega arith) (omega arith)) (number-gives s at _ _ (λ z p e q. either-gives (eqb n 0) _ _ e stops stops) stops)
 
 -- f reads an operand of e levels; behind the bracket and the head word two bytes are read already
-module _ (s : List ℕ) (c : Scope) (z : Sized c) (d e : ℕ) (f : ℕ → Reader (Counted Expr)) (r : (n at : ℕ) → Fits (GoodOf e) exprSize at 1 (f n at)) where
-  plus-fits : (n at : ℕ) → Fits (GoodOf (suc e)) exprSize at 2 (plusOf s d f n at)
-  unfolding cellsOf GoodExpr
+module _ (s : List ℕ) (c : Scope) (z : Sized c) (d e : ℕ) (f : ℕ → Reader (Counted Expr)) (r : (n at : ℕ) → Fits (GoodOf e) sizeOf at 1 (f n at)) where
+  plus-fits : (n at : ℕ) → Fits (GoodOf (suc e)) sizeOf at 2 (plusOf s d f n at)
+  unfolding exprSize GoodExpr
   plus-fits n at =
       given-then _ (r n at)
       (λ a i h. given-then _ (r (a .left) i)
       (λ b j l. given-then _ (end-fits s d (b .left) j) (λ q k u. fits (h .good, l .good) (omega arith)
-      (omega (arith, length-append (cellsOf (a .tree)) (cellsOf (b .tree)))))))
+      (omega arith))))
 
-  minus-fits : (n at : ℕ) → Fits (GoodOf (suc e)) exprSize at 2 (minusOf s d f n at)
-  unfolding cellsOf GoodExpr
+  minus-fits : (n at : ℕ) → Fits (GoodOf (suc e)) sizeOf at 2 (minusOf s d f n at)
+  unfolding exprSize GoodExpr
   minus-fits n at =
       given-then _ (r n at)
       (λ a i h. close-ahead (tokenAt s i) _ _ i (λ p. given-then _ (closing-fits s d i) (λ q k u. fits (h .good) (omega arith) (omega arith)))
       (given-then _ (r (a .left) i)
       (λ b j l. given-then _ (end-fits s d (b .left) j) (λ q k u. fits (h .good, l .good) (omega arith)
-      (omega (arith, length-append (cellsOf (a .tree)) (cellsOf (b .tree))))))))
+      (omega arith)))))
 
-  operation-fits : (n : ℕ) (w : HeadWord) (p at : ℕ) → Fits (GoodOf (suc e)) exprSize at 2 (operation s d f n w p at)
+  operation-fits : (n : ℕ) (w : HeadWord) (p at : ℕ) → Fits (GoodOf (suc e)) sizeOf at 2 (operation s d f n w p at)
   operation-fits n H.Plus p at = given-then _ (counted-fits p n at) (λ m i h. fits-also (plus-fits m i) (h .on) (λ a k l. omega arith))
   operation-fits n H.Minus p at = given-then _ (counted-fits p n at) (λ m i h. fits-also (minus-fits m i) (h .on) (λ a k l. omega arith))
   operation-fits n H.And p at = stops
@@ -158,19 +154,19 @@ module _ (s : List ℕ) (c : Scope) (z : Sized c) (d e : ℕ) (f : ℕ → Reade
   operation-fits n H.Decrease p at = stops
   operation-fits n H.Other p at = stops
 
-  headed-fits : (n : ℕ) (k : Word) (p i at : ℕ) → Fits (GoodOf (suc e)) exprSize at 2 (headed s d c f n k p i at)
-  unfolding cellsOf GoodExpr
+  headed-fits : (n : ℕ) (k : Word) (p i at : ℕ) → Fits (GoodOf (suc e)) sizeOf at 2 (headed s d c f n k p i at)
+  unfolding exprSize GoodExpr
   headed-fits n W.Name p i at =
       given-then _ (declared-fits (c .functions) p (part s p i) at)
       (λ j a h. given-then _ (counted-fits p n a)
-      (λ m b l. given-then _ (reference-fits s c z d (c .functions) j b 2 (z .numbers)) (λ x o v. fits (v .good) (omega arith) (omega (arith, ref-size 5 x)))))
+      (λ m b l. given-then _ (reference-fits s c z d (c .functions) j b 2 (z .numbers)) (λ x o v. fits (v .good) (omega arith) (omega arith))))
   headed-fits n W.Variable p i at = stops
   headed-fits n W.Keyword p i at = stops
   headed-fits n W.Operator p i at = operation-fits n (headOf (part s p i)) p at
 
 module _ (s : List ℕ) (c : Scope) (z : Sized c) where
   -- where d levels of brackets are left
-  expr-fits : (d n at : ℕ) → Fits (GoodOf (suc d)) exprSize at 1 (expr d s c n at)
+  expr-fits : (d n at : ℕ) → Fits (GoodOf (suc d)) sizeOf at 1 (expr d s c n at)
   unfolding expr
   expr-fits zero n at = leaf-fits s zero n at zero
   expr-fits (suc d) n at =
@@ -179,7 +175,7 @@ module _ (s : List ℕ) (c : Scope) (z : Sized c) where
       (λ k q i t l m y. fits-also (headed-fits s c z d (suc d) (expr d s c) (λ j u. expr-fits d j u) n k q i i) (omega arith) (λ a u v. omega arith)) stops)
       (leaf-fits s (suc d) n at (suc d))
 
-  pub expression-fits : (d at : ℕ) → d ≤ 15 → Fits (GoodExpr 16) (λ x. length (cellsOf x)) at 1 (expression s d c at)
+  pub expression-fits : (d at : ℕ) → d ≤ 15 → Fits (GoodExpr 16) exprSize at 1 (expression s d c at)
   unfolding expression
   expression-fits d at l =
       given-then _ (expr-fits d 16 at) (λ x n h. fits (expr-deeper (x .tree) (suc d) 16 (omega arith) (h .good)) (omega arith) (omega arith))

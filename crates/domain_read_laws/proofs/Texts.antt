@@ -1,8 +1,9 @@
--- What a domain and a problem that were read are: tables that fit their rows, good trees, and no more cells than a text may have bytes. Assumes nothing.
+-- What a domain and a problem that were read are: tables that fit their rows, good trees, and no more cells, and no longer prepared rows, than a text may
+-- have bytes. Assumes nothing.
 use mathlib.Core.Path.{_≡_, refl}
 use mathlib.Core.List.{List, []}
 use mathlib.Core.Bool.{Bool, true, false, cond}
-use Prim.Native.Nat.{ℕ, zero, suc, _+_, _≤_}
+use Prim.Native.Nat.{ℕ, zero, suc, _+_, _≤_, _<_}
 use native.Mathlib.Omega.{arith}
 use lib.ListN.{length}
 use Rattle.text_words.specs.Bytes.{bytes}
@@ -27,6 +28,10 @@ use Rattle.domain_terms.specs.Scoped.{AllSigned}
 use Rattle.domain_stored_meaning.specs.Cells.{condCells, actionsCells}
 use Rattle.domain_stored_meaning.specs.Entries.{AllTyped}
 use Rattle.domain_stored_meaning.specs.Good.{GoodCond, GoodActions, Sized}
+use Rattle.domain_prepared_meaning.specs.Preparing.{singles}
+use Rattle.domain_prepared_meaning.specs.Rows.{testsBytes, actionsBytes}
+use Rattle.domain_read_laws.proofs.Sizes.{condSize, actionsSize, cond-cells, actions-cells}
+use Rattle.domain_read_laws.proofs.Rows.{singles-rows, actions-rows}
 use Rattle.domain_read_laws.proofs.Tables.{Fit, Declared, names-fit, types-section-fits, constants-fit, declared-section-fits}
 use Rattle.domain_read_laws.proofs.Conditions.{condition-fits}
 use Rattle.domain_read_laws.proofs.Actions.{Acting, heads, action-fits}
@@ -82,9 +87,7 @@ pub record DomainRead (d : Domain) : Type 0 where
   pub heads : Fit AllSigned 32 (heads (d .actions))
   pub actions : GoodActions (d .actions)
   pub cells : length (actionsCells (d .actions)) ≤ 32768
-
-abbrev actionsSize : List Action → ℕ
-actionsSize bs = length (actionsCells bs)
+  pub rows : (n : ℕ) (ps fs : List ℕ) → length (actionsBytes n ps fs (d .actions)) ≤ 32768
 
 module _ (s : List ℕ) (c : Scope) (z : Sized c) where
   -- an action, behind which f reads on
@@ -109,7 +112,7 @@ unfolding GoodActions
 no-actions = record { names = record { few = let z : 0 ≤ 32 = omega arith in z; short = tt; kept = tt }; trees = tt }
 
 domain-text-fits : (s : List ℕ) (at : ℕ) → Gives DomainRead (domainText s at)
-unfolding domainText actionsCells
+unfolding domainText actionsSize
 domain-text-fits s at =
     given-then _ (vocabulary-fits s at)
     (λ v a h. given-then _ (actions-fits s (scopeIn v) (record
@@ -123,7 +126,8 @@ domain-text-fits s at =
       functions = h .functions;
       heads = g .good .names;
       actions = g .good .trees;
-      cells = omega (arith, g .size);
+      cells = omega (arith, g .size, actions-cells as′);
+      rows = λ n ps fs. omega (arith, g .size, actions-rows n ps fs as′);
     }))))
 
 pub domain-read : (s : List ℕ) (d : Domain) (n : ℕ) → readDomain s ≡ got d n → DomainRead d
@@ -139,6 +143,7 @@ pub record ProblemRead (d : Domain) (p : Problem) : Type 0 where
   pub objects : Fit AllTyped 64 (p .objects)
   pub goal : GoodCond 16 (p .goal)
   pub cells : length (condCells (p .goal)) ≤ 32768
+  pub rows : (n : ℕ) (ps fs : List ℕ) → length (testsBytes n ps fs (singles (p .goal))) ≤ 32768
   pub sums : sumsFit (scopeOf d (p .objects)) ≡ true
 
 -- the sums are judged at the first of init and goal
@@ -171,14 +176,14 @@ module _ (s : List ℕ) (d : Domain) (r : DomainRead d) where
 
     -- a goal that ends at n, the sums being judged
     Ends : Problem → ℕ → Type 0
-    Ends p n = Fit AllTyped 64 (p .objects) × GoodCond 16 (p .goal) × (length (condCells (p .goal)) ≤ n) × (sumsFit (scopeOf d (p .objects)) ≡ true)
+    Ends p n = Fit AllTyped 64 (p .objects) × GoodCond 16 (p .goal) × (condSize (p .goal) < n) × (sumsFit (scopeOf d (p .objects)) ≡ true)
 
     goal-fits : (x : Init) (at : ℕ) → sumsFit c ≡ true → Given Ends Any (andThen (goalTo s c at) (λ g. give (record { objects = os; init = x; goal = g })))
     unfolding Ends
     goal-fits x at h =
-        given-then _ (goal-to-fits at) (λ g n k. reads (f, k .good, let l : length (condCells g) ≤ n = omega arith in l, h))
+        given-then _ (goal-to-fits at) (λ g n k. reads (f, k .good, let l : condSize g < n = omega arith in l, h))
       where
-        goal-to-fits : (at : ℕ) → Fits (GoodCond 16) (λ g. length (condCells g)) at 0 (goalTo s c at)
+        goal-to-fits : (at : ℕ) → Fits (GoodCond 16) (λ g. condSize g + 1) at 0 (goalTo s c at)
         goal-to-fits at =
             given-then _ (condition-fits s c (domain-sized d os r (f .few)) 14 64 at (omega arith))
             (λ g n k. given-then _ (closing-fits s 14 n) (λ q i u. fits (k .good) (omega arith) (omega arith)))
@@ -198,7 +203,14 @@ module _ (s : List ℕ) (d : Domain) (r : DomainRead d) where
       given-then _ (premises-fit at)
       (λ os a f. given-then _ (init-goal-fits os f a)
       (λ p b g. given-then _ (ending-fits s b)
-      (λ q i l. reads (record { objects = g .0; goal = g .1; cells = omega (arith, g .2); sums = g .3 }))))
+      (λ q i l. reads
+      (record {
+        objects = g .0;
+        goal = g .1;
+        cells = omega (arith, g .2, cond-cells (p .goal));
+        rows = λ n ps fs. omega (arith, g .2, singles-rows n ps fs (p .goal));
+        sums = g .3;
+      }))))
 
 pub problem-read : (s : List ℕ) (d : Domain) (p : Problem) (n : ℕ) → DomainRead d → readProblem s d ≡ got p n → ProblemRead d p
 unfolding readProblem
