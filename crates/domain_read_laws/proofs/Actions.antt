@@ -1,4 +1,4 @@
--- Actions that are read are good and signed, and their size is at most as many as bytes were read. Assumes nothing.
+-- Actions that are read name what is declared and are signed, and their size is at most as many as bytes were read. Assumes nothing.
 use mathlib.Core.Path.{_≡_, refl, sym, ap, subst, _∙_}
 use mathlib.Core.List.{List, [], _∷_, _++_, map}
 use mathlib.Core.Bool.{Bool, true, false, cond, true≢false}
@@ -20,6 +20,7 @@ use Rattle.domain_meaning.specs.Lists.{signature}
 use Rattle.domain_meaning.specs.Terms.{Scope, Counted}
 use Rattle.domain_meaning.specs.Conditions.{Cond, condition}
 use Rattle.domain_meaning.specs.Effects.{Effect, effect}
+use Rattle.domain_meaning.specs.Indexes.{arity}
 use Rattle.domain_meaning.specs.Actions.{When, start, Timed, Action, partBehind, partAt, partsTo, parts, durationRule, whenField, within}
 use Rattle.domain_meaning.specs.Actions.{simpleBody, durativeBody, action}
 use Rattle.domain_meaning.proofs.Given.{Given, Any, Fits, reads, fits, stops, fits-also, given-then, given-either, given-word, word-gives, close-ahead}
@@ -28,8 +29,9 @@ use Rattle.domain_meaning.proofs.Steps.{opening-fits, closing-fits, word-due-fi
 use Rattle.domain_meaning.proofs.Tables.{variables-few}
 use Rattle.domain_terms.specs.Scoped.{AllSigned}
 use Rattle.domain_terms.proofs.Signing.{signed-signature, signed-more}
-use Rattle.domain_stored_meaning.specs.Good.{GoodExpr, GoodCond, GoodEffects, GoodParts, GoodLasting, GoodAction, GoodActions, Sized}
+use Rattle.domain_stored_meaning.specs.Good.{GoodParts}
 use Rattle.domain_read_laws.proofs.Sizes.{exprSize, condSize, listSize, partsSize, lastingSize, actionSize, actionsSize}
+use Rattle.domain_read_laws.proofs.Named.{NamedExpr, NamedCond, NamedEffects, NamedLasting, NamedTrees, NamedAction, NamedActions}
 use Rattle.domain_read_laws.proofs.Tables.{Fit, fit-more}
 use Rattle.domain_read_laws.proofs.Terms.{expression-fits}
 use Rattle.domain_read_laws.proofs.Conditions.{condition-fits}
@@ -117,50 +119,50 @@ condsSize xs = partsSize condSize xs
 abbrev listsSize : List (Timed (List Effect)) → ℕ
 listsSize xs = partsSize listSize xs
 
--- a body of the action e
-record Body (e : Entry) (a : Action) : Type 0 where
-  good : GoodAction a
+-- a body of the action e, in its scope
+record Body (c : Scope) (e : Entry) (a : Action) : Type 0 where
+  trees : NamedTrees c a
   own : a .declared ≡ e
 
-module _ (s : List ℕ) (c : Scope) (z : Sized c) where
-  loose-condition : (d n at : ℕ) → d ≤ 16 → Fits (λ x. GoodCond 16 (x .tree)) (λ x. condSize (x .tree)) at 1 (condition d s c n at)
-  loose-condition d n at h = fits-also (condition-fits s c z d n at h) (omega arith) (λ x m k. omega arith)
+module _ (s : List ℕ) (c : Scope) where
+  loose-condition : (d n at : ℕ) → d ≤ 16 → Fits (λ x. NamedCond c 16 (x .tree)) (λ x. condSize (x .tree)) at 1 (condition d s c n at)
+  loose-condition d n at h = fits-also (condition-fits s c d n at h) (omega arith) (λ x m k. omega arith)
 
-  duration-fits : (at : ℕ) → Fits (GoodExpr 16) (λ x. exprSize x + 2) at 0 (durationRule s c at)
+  duration-fits : (at : ℕ) → Fits (NamedExpr c 16) (λ x. exprSize x + 2) at 0 (durationRule s c at)
   unfolding durationRule
   duration-fits at =
       given-then _ (opening-fits s 14 at)
       (λ p a h. rule-ahead s a _
-      (λ q b l. given-then _ (expression-fits s c z 13 b (omega arith))
+      (λ q b l. given-then _ (expression-fits s c 13 b (omega arith))
       (λ x i u. given-then _ (closing-fits s 13 i) (λ m n y. fits (u .good) (omega arith) (omega arith)))))
 
-  simple-fits : (e : Entry) (at : ℕ) → Fits (Body e) actionSize at 6 (simpleBody s c e at)
-  unfolding simpleBody lastingSize GoodParts GoodLasting
+  simple-fits : (e : Entry) (at : ℕ) → Fits (Body c e) actionSize at 6 (simpleBody s c e at)
+  unfolding simpleBody lastingSize GoodParts NamedLasting
   simple-fits e at =
-      given-then _ (field-fits (GoodParts (GoodCond 16)) condsSize 1 s ":precondition" _ at tt (omega (arith, no-part (GoodCond 16) condSize))
-      (λ n. given-then _ (condition-fits s c z 14 32 n (omega arith))
-      (λ x i h. fits (h .good, tt) (omega arith) (omega (arith, one-part (GoodCond 16) condSize start (x .tree))))))
-      (λ cs a h. given-then _ (field-fits (GoodParts GoodEffects) listsSize 2 s ":effect" _ a tt (omega (arith, no-part GoodEffects listSize))
-      (λ n. given-then _ (listed-fits s c z 14 16 n (omega arith))
-      (λ x i l. fits (l .good, tt) (omega arith) (omega (arith, one-part GoodEffects listSize start (x .tree))))))
+      given-then _ (field-fits (GoodParts (NamedCond c 16)) condsSize 1 s ":precondition" _ at tt (omega (arith, no-part (NamedCond c 16) condSize))
+      (λ n. given-then _ (condition-fits s c 14 32 n (omega arith))
+      (λ x i h. fits (h .good, tt) (omega arith) (omega (arith, one-part (NamedCond c 16) condSize start (x .tree))))))
+      (λ cs a h. given-then _ (field-fits (GoodParts (NamedEffects c)) listsSize 2 s ":effect" _ a tt (omega (arith, no-part (NamedEffects c) listSize))
+      (λ n. given-then _ (listed-fits s c 14 16 n (omega arith))
+      (λ x i l. fits (l .good, tt) (omega arith) (omega (arith, one-part (NamedEffects c) listSize start (x .tree))))))
       (λ es b l. given-then _ (closing-fits s 14 b)
-      (λ q i v. fits (record { good = record { lasting = tt; conditions = h .good; effects = l .good }; own = refl }) (omega arith) (omega arith))))
+      (λ q i v. fits (record { trees = record { lasting = tt; conditions = h .good; effects = l .good }; own = refl }) (omega arith) (omega arith))))
 
-  durative-fits : (e : Entry) (at : ℕ) → Fits (Body e) actionSize at 6 (durativeBody s c e at)
-  unfolding durativeBody lastingSize GoodLasting
+  durative-fits : (e : Entry) (at : ℕ) → Fits (Body c e) actionSize at 6 (durativeBody s c e at)
+  unfolding durativeBody lastingSize NamedLasting
   durative-fits e at =
       given-then _ (word-due-fits s 14 at (bytes ":duration"))
       (λ p a h. given-then _ (duration-fits a)
-      (λ x b l. given-then _ (field-fits (GoodParts (GoodCond 16)) condsSize 1 s ":condition" _ b (none-good (GoodCond 16) condSize)
-      (omega (arith, no-part (GoodCond 16) condSize))
-      (λ n. given-then _ (parts-fits (GoodCond 16) condSize s true (λ d m. condition d s c m) loose-condition 14 32 n (omega arith))
+      (λ x b l. given-then _ (field-fits (GoodParts (NamedCond c 16)) condsSize 1 s ":condition" _ b (none-good (NamedCond c 16) condSize)
+      (omega (arith, no-part (NamedCond c 16) condSize))
+      (λ n. given-then _ (parts-fits (NamedCond c 16) condSize s true (λ d m. condition d s c m) loose-condition 14 32 n (omega arith))
       (λ y i v. fits (v .good) (omega arith) (omega arith))))
-      (λ cs i v. given-then _ (field-fits (GoodParts GoodEffects) listsSize 1 s ":effect" _ i (none-good GoodEffects listSize)
-      (omega (arith, no-part GoodEffects listSize))
-      (λ n. given-then _ (parts-fits GoodEffects listSize s false (λ d m. effect d s c m) (listed-fits s c z) 14 16 n (omega arith))
+      (λ cs i v. given-then _ (field-fits (GoodParts (NamedEffects c)) listsSize 1 s ":effect" _ i (none-good (NamedEffects c) listSize)
+      (omega (arith, no-part (NamedEffects c) listSize))
+      (λ n. given-then _ (parts-fits (NamedEffects c) listSize s false (λ d m. effect d s c m) (listed-fits s c) 14 16 n (omega arith))
       (λ y j o. fits (o .good) (omega arith) (omega arith))))
       (λ es j o. given-then _ (closing-fits s 14 j)
-      (λ q m t. fits (record { good = record { lasting = l .good; conditions = v .good; effects = o .good }; own = refl }) (omega arith) (omega arith))))))
+      (λ q m t. fits (record { trees = record { lasting = l .good; conditions = v .good; effects = o .good }; own = refl }) (omega arith) (omega arith))))))
 
 -- ---- actions one behind the other
 
@@ -182,29 +184,29 @@ word-long s d at w =
 abbrev pub heads : List Action → Table
 heads as′ = map (λ a. a .declared) as′
 
--- good actions whose names fit their rows
-pub record Acting (as′ : List Action) : Type 0 where
+-- actions that name what is declared, and whose own names fit their rows
+pub record Acting (c : Scope) (as′ : List Action) : Type 0 where
   pub names : Fit AllSigned 32 (heads as′)
-  pub trees : GoodActions as′
+  pub named : NamedActions c as′
 
 actions-join : (as′ : List Action) (a : Action) → actionsSize (as′ ++ a ∷ []) ≡ actionsSize as′ + actionSize a
 unfolding actionsSize
 actions-join [] a = omega arith
 actions-join (b ∷ as′) a = omega (arith, actions-join as′ a)
 
-trees-join : (as′ : List Action) (a : Action) → GoodActions as′ → GoodAction a → GoodActions (as′ ++ a ∷ [])
-unfolding GoodActions
-trees-join [] a g h = (h, tt)
-trees-join (b ∷ as′) a g h = (g .0, trees-join as′ a (g .1) h)
+named-join : (c : Scope) (as′ : List Action) (a : Action) → NamedActions c as′ → NamedAction c a → NamedActions c (as′ ++ a ∷ [])
+unfolding NamedActions
+named-join c [] a g h = (h, tt)
+named-join c (b ∷ as′) a g h = (g .0, named-join c as′ a (g .1) h)
 
 heads-join : (as′ : List Action) (a : Action) → heads as′ ++ a .declared ∷ [] ≡ heads (as′ ++ a ∷ [])
 heads-join [] a = refl
 heads-join (x ∷ as′) a = ap (λ (l : Table). x .declared ∷ l) (heads-join as′ a)
 
-pub action-fits : (s : List ℕ) (c : Scope) (z : Sized c) (durative : Bool) (as′ : List Action) (at : ℕ) → Acting as′
-    → Fits Acting actionsSize at (actionsSize as′) (action s c durative as′ at)
+pub action-fits : (s : List ℕ) (c : Scope) (durative : Bool) (as′ : List Action) (at : ℕ) → Acting c as′
+    → Fits (Acting c) actionsSize at (actionsSize as′) (action s c durative as′ at)
 unfolding action bytes
-action-fits s c z durative as′ at g =
+action-fits s c durative as′ at g =
     given-then _ (new-name-fits s 14 at)
     (λ n a h. given-then _ (fresh-fits 32 (heads as′) (n .place) (n .word) a)
     (λ p b l. given-then _ (word-long s 14 b (bytes ":parameters"))
@@ -216,15 +218,13 @@ action-fits s c z durative as′ at g =
       names = rw (sym (heads-join as′ y), f .good .own)
           (fit-more AllSigned 32 (heads as′) x (l .good) (h .good)
           (signed-more (heads as′) x (g .names .kept) (signed-signature (n .word) vs (r .good))) (g .names));
-      trees = trees-join as′ y (g .trees) (f .good .good);
+      named = named-join c as′ y (g .named)
+          (record { parameters = vs; few = r .good; count = ap arity (f .good .own); trees = f .good .trees });
     })
     (omega arith) (omega (arith, actions-join as′ y))))))))
   where
-    inside : (vs : Table) → Sized (within c vs)
-    inside vs = record { objects = z .objects; facts = z .facts; numbers = z .numbers }
-
     body : (n : Name) (vs : Table) (j : ℕ)
-        → Fits (Body (signature (n .word) vs)) actionSize j 6
+        → Fits (Body (within c vs) (signature (n .word) vs)) actionSize j 6
         (cond durative (durativeBody s (within c vs) (signature (n .word) vs)) (simpleBody s (within c vs) (signature (n .word) vs)) j)
-    body n vs j = either-gives durative _ _ j (durative-fits s (within c vs) (inside vs) (signature (n .word) vs) j)
-        (simple-fits s (within c vs) (inside vs) (signature (n .word) vs) j)
+    body n vs j = either-gives durative _ _ j (durative-fits s (within c vs) (signature (n .word) vs) j)
+        (simple-fits s (within c vs) (signature (n .word) vs) j)

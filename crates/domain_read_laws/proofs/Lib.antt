@@ -1,6 +1,7 @@
 -- What the crates above use: what a domain and a problem that were read are.
 pub mod Sizes
 pub mod Rows
+pub mod Named
 pub mod Tables
 pub mod Terms
 pub mod Conditions

@@ -86,8 +86,11 @@ object-typed =
     record { few = let z : 1 ≤ 17 = omega arith in z; short = (let z : 6 ≤ 32 = omega arith in z, tt); kept = (record { type = 0; is = refl }, tt) }
 
 module _ (s : List ℕ) where
-  pub names-fit : (ts t : Table) (at : ℕ) → Fit AllTyped 64 t → Gives (Fit AllTyped 64) (namesTo s ts 64 t at)
-  names-fit ts t at h = names-keep (Fit AllTyped 64) 64 (again 64) (more 64) s ts t at h
+  -- behind those of a table, none of which goes
+  pub names-fit : (ts t : Table) (at : ℕ) → Fit AllTyped 64 t → Gives (λ u. Fit AllTyped 64 u × (length t ≤ length u)) (namesTo s ts 64 t at)
+  names-fit ts t at h =
+      names-keep (λ u. Fit AllTyped 64 u × (length t ≤ length u)) 64 (λ g k u v. (again 64 g k u (v .0), rw (retype-length g k u) (v .1)))
+      (λ u w r l v. (more 64 u w r l (v .0), omega (arith, v .1, length-append u (entry w (0 ∷ []) ∷ [])))) s ts t at (h, omega arith)
 
   types-fit : (at : ℕ) → Gives (Fit AllTyped 17) (typesTo s at)
   unfolding typesTo
@@ -101,7 +104,9 @@ module _ (s : List ℕ) where
 
   pub constants-fit : (ts : Table) (at : ℕ) → Gives (Fit AllTyped 64) (constantsSection s ts at)
   unfolding constantsSection
-  constants-fit ts at = behind (beginsWith s (bytes ":constants") at) _ (λ o n. opened-gives o _ _ n (λ p. names-fit ts [] n none-typed) (reads none-typed))
+  constants-fit ts at =
+      behind (beginsWith s (bytes ":constants") at) _
+      (λ o n. opened-gives o _ _ n (λ p. given-also (names-fit ts [] n none-typed) (λ u m k. k .0)) (reads none-typed))
 
 -- ---- predicates and functions, with how many arguments, at most so many, and their types
 

@@ -1,5 +1,5 @@
--- Arguments, references and expressions that are read: they are good, a reference has a byte for each argument and a bracket behind, and the size of an
--- expression is at most one more than bytes were read. Assumes nothing.
+-- Arguments, references and expressions that are read: their names are declared, a reference has a byte for each argument and a bracket behind, and the
+-- size of an expression is at most one more than bytes were read. Assumes nothing.
 use mathlib.Core.Path.{_≡_, refl}
 use mathlib.Core.List.{List, [], _∷_}
 use Prim.Native.Nat.{ℕ, zero, suc, _+_, _≤_, _<_}
@@ -18,7 +18,7 @@ use Rattle.text_tokens.specs.declared.tokens.Word.the-variants as W
 use Rattle.domain_meaning.specs.Read.{Reader, give, refuse}
 use Rattle.domain_meaning.specs.Tables.{Table, entryAt, wantedOf, lookup, onFound, declared, isBelow}
 use Rattle.domain_meaning.specs.Due.{afterOf}
-use Rattle.domain_meaning.specs.Terms.{Scope, Expr, number, value, minus, difference, plus, Given, givenBy, argument, arguments, reference, Counted, leaf}
+use Rattle.domain_meaning.specs.Terms.{Scope, Expr, Given, givenBy, argument, arguments, reference, Counted, leaf}
 use Rattle.domain_meaning.specs.Terms.{operandsEnd, plusOf, minusOf, operation, headed, expr, expression}
 use Rattle.domain_meaning.specs.Terms as G
 use Rattle.domain_meaning.proofs.Given.{Fits, Ahead, fits, stops, fits-also, given-then, word-gives, number-gives, open-gives, close-gives, close-ahead}
@@ -26,8 +26,8 @@ use Rattle.domain_meaning.proofs.Given.{either-gives}
 use Rattle.domain_meaning.proofs.Steps.{closing-fits, counted-fits}
 use Rattle.domain_terms.proofs.Kept.{found-below}
 use Rattle.domain_expressions.proofs.Sizes.{numeral-fits}
-use Rattle.domain_stored_meaning.specs.Good.{GoodArg, GoodArgs, GoodRef, GoodExpr, AllFew, Sized}
 use Rattle.domain_read_laws.proofs.Sizes.{exprSize}
+use Rattle.domain_read_laws.proofs.Named.{NamedArg, NamedArgs, NamedRef, NamedExpr, expr-deeper}
 
 -- ---- names
 
@@ -39,41 +39,32 @@ declared-fits t p w at = go (lookup t w) refl
     go (F.At i) e = fits {n = at} (found-below t w i e) (omega arith) (omega arith)
     go F.Nothing e = stops
 
-few-at : (most : ℕ) (t : Table) (i : ℕ) → AllFew most t → length (wantedOf (entryAt t i)) ≤ most
-unfolding AllFew
-few-at most [] i h = omega arith
-few-at most (e ∷ t) zero h = h .0
-few-at most (e ∷ t) (suc i) h = few-at most t i (h .1)
-
 -- ---- arguments
 
-abbrev GoodGiven : Given → Type 0
-GoodGiven g = GoodArg (g .arg)
+module _ (s : List ℕ) (c : Scope) where
+  abbrev NamedList : List ℕ → List G.Arg → Type 0
+  NamedList ws xs = (length xs ≡ length ws) × NamedArgs c xs
 
-abbrev GoodList : List ℕ → List G.Arg → Type 0
-GoodList ws xs = (length xs ≤ length ws) × GoodArgs xs
-
-module _ (s : List ℕ) (c : Scope) (z : Sized c) where
-  given-fits : (k : Word) (p e at : ℕ) → Fits GoodGiven (λ _. 0) at 0 (givenBy s c k p e at)
-  unfolding GoodArg
+  given-fits : (k : Word) (p e at : ℕ) → Fits (λ (g : Given). NamedArg c (g .arg)) (λ _. 0) at 0 (givenBy s c k p e at)
+  unfolding NamedArg
   given-fits W.Name p e at =
-      given-then _ (declared-fits (c .objects) p (part s p e) at) (λ i n h. fits (omega (arith, z .objects)) (omega arith) (omega arith))
+      given-then _ (declared-fits (c .objects) p (part s p e) at) (λ i n h. fits (h .good) (omega arith) (omega arith))
   given-fits W.Variable p e at =
       either-gives (c .inAction) _ _ at (given-then _ (declared-fits (c .variables) p (part s (p + 1) e) at)
-      (λ i n h. fits tt (omega arith) (omega arith))) stops
+      (λ i n h. fits (h .good) (omega arith) (omega arith))) stops
   given-fits W.Keyword p e at = stops
   given-fits W.Operator p e at = stops
 
-  pub argument-fits : (d at : ℕ) → Fits (λ (g : Given). GoodArg (g .arg)) (λ _. 1) at 0 (argument s d c at)
+  pub argument-fits : (d at : ℕ) → Fits (λ (g : Given). NamedArg c (g .arg)) (λ _. 1) at 0 (argument s d c at)
   unfolding argument
   argument-fits d at = word-gives s at _ _ (λ k p e l h i y. fits-also (given-fits k p e e) (omega arith) (λ a n j. omega arith)) stops
 
-  typed-fits : (want : ℕ) (g : Given) (at : ℕ) → GoodArg (g .arg) → Fits GoodArg (λ _. 0) at 0 (G.fits c want g at)
+  typed-fits : (want : ℕ) (g : Given) (at : ℕ) → NamedArg c (g .arg) → Fits (NamedArg c) (λ _. 0) at 0 (G.fits c want g at)
   unfolding G.fits
   typed-fits want g at h = either-gives (isBelow (length (c .types)) (c .types) (g .type) want) _ _ at (fits h (omega arith) (omega arith)) stops
 
-  arguments-fits : (d : ℕ) (ws : List ℕ) (at : ℕ) → Fits (GoodList ws) (λ xs. length xs + 1) at 0 (arguments s d c ws at)
-  unfolding arguments GoodArgs
+  arguments-fits : (d : ℕ) (ws : List ℕ) (at : ℕ) → Fits (NamedList ws) (λ xs. length xs + 1) at 0 (arguments s d c ws at)
+  unfolding arguments NamedArgs
   arguments-fits d [] at =
       close-ahead (tokenAt s at) _ _ at (λ p. given-then _ (closing-fits s d at) (λ q n h. fits (omega arith, tt) (omega arith) (omega arith)))
       (given-then _ (argument-fits d at) (λ g n h. stops))
@@ -83,34 +74,23 @@ module _ (s : List ℕ) (c : Scope) (z : Sized c) where
       (λ g n h. given-then _ (typed-fits w g n (h .good))
       (λ a i l. given-then _ (arguments-fits d ws i) (λ xs m u. fits (omega (arith, u .good .0), (l .good, u .good .1)) (omega arith) (omega arith)))))
 
-  pub reference-fits : (d : ℕ) (t : Table) (i at most : ℕ) → AllFew most t → Fits (GoodRef most) (λ r. length (r .args) + 1) at 0 (reference s d c t i at)
+  pub reference-fits : (d : ℕ) (t : Table) (i at : ℕ) → i < length t → Fits (NamedRef c t) (λ r. length (r .args) + 1) at 0 (reference s d c t i at)
   unfolding reference
-  reference-fits d t i at most few =
+  reference-fits d t i at l =
       given-then _ (arguments-fits d (wantedOf (entryAt t i)) at)
-      (λ xs n h. fits (record { few = omega (arith, few-at most t i few, h .good .0); args = h .good .1 }) (omega arith) (omega arith))
+      (λ xs n h. fits (record { head = l; count = h .good .0; args = h .good .1 }) (omega arith) (omega arith))
 
 -- ---- expressions
 
 abbrev sizeOf : Counted Expr → ℕ
 sizeOf x = exprSize (x .tree)
 
-abbrev GoodOf : ℕ → Counted Expr → Type 0
-GoodOf d x = GoodExpr d (x .tree)
+abbrev NamedOf : Scope → ℕ → Counted Expr → Type 0
+NamedOf c d x = NamedExpr c d (x .tree)
 
--- more levels are as good
-expr-deeper : (x : Expr) (d e : ℕ) → d ≤ e → GoodExpr d x → GoodExpr e x
-unfolding GoodExpr
-expr-deeper x zero e h g = absurd g
-expr-deeper x (suc d) zero h g = absurd (let y : ⊥ = omega arith in y)
-expr-deeper (number z) (suc d) (suc e) h g = g
-expr-deeper (value r) (suc d) (suc e) h g = g
-expr-deeper (minus a) (suc d) (suc e) h g = expr-deeper a d e (omega arith) g
-expr-deeper (difference a b) (suc d) (suc e) h g = (expr-deeper a d e (omega arith) (g .0), expr-deeper b d e (omega arith) (g .1))
-expr-deeper (plus a b) (suc d) (suc e) h g = (expr-deeper a d e (omega arith) (g .0), expr-deeper b d e (omega arith) (g .1))
-
-leaf-fits : (s : List ℕ) (d n at e : ℕ) → Fits (GoodOf (suc e)) sizeOf at 1 (leaf d n (tokenAt s at) (afterOf (tokenAt s at)))
-unfolding exprSize GoodExpr
-leaf-fits s d n at e =
+leaf-fits : (s : List ℕ) (c : Scope) (d n at e : ℕ) → Fits (NamedOf c (suc e)) sizeOf at 1 (leaf d n (tokenAt s at) (afterOf (tokenAt s at)))
+unfolding exprSize NamedExpr
+leaf-fits s c d n at e =
     number-gives s at _ _
     (λ z p i q. let w = numeral-fits s at z p i q in given-then _ (counted-fits p n i) (λ m a l. fits (w .3) (omega (arith, w .0)) (omega (arith, w .2))))
     stops
@@ -121,17 +101,17 @@ end-fits s d n at =
     close-gives s at _ _ (λ p e h i. fits tt (omega arith) (omega arith)) (number-gives s at _ _ (λ z p e q. either-gives (eqb n 0) _ _ e stops stops) stops)
 
 -- f reads an operand of e levels; behind the bracket and the head word two bytes are read already
-module _ (s : List ℕ) (c : Scope) (z : Sized c) (d e : ℕ) (f : ℕ → Reader (Counted Expr)) (r : (n at : ℕ) → Fits (GoodOf e) sizeOf at 1 (f n at)) where
-  plus-fits : (n at : ℕ) → Fits (GoodOf (suc e)) sizeOf at 2 (plusOf s d f n at)
-  unfolding exprSize GoodExpr
+module _ (s : List ℕ) (c : Scope) (d e : ℕ) (f : ℕ → Reader (Counted Expr)) (r : (n at : ℕ) → Fits (NamedOf c e) sizeOf at 1 (f n at)) where
+  plus-fits : (n at : ℕ) → Fits (NamedOf c (suc e)) sizeOf at 2 (plusOf s d f n at)
+  unfolding exprSize NamedExpr
   plus-fits n at =
       given-then _ (r n at)
       (λ a i h. given-then _ (r (a .left) i)
       (λ b j l. given-then _ (end-fits s d (b .left) j) (λ q k u. fits (h .good, l .good) (omega arith)
       (omega arith))))
 
-  minus-fits : (n at : ℕ) → Fits (GoodOf (suc e)) sizeOf at 2 (minusOf s d f n at)
-  unfolding exprSize GoodExpr
+  minus-fits : (n at : ℕ) → Fits (NamedOf c (suc e)) sizeOf at 2 (minusOf s d f n at)
+  unfolding exprSize NamedExpr
   minus-fits n at =
       given-then _ (r n at)
       (λ a i h. close-ahead (tokenAt s i) _ _ i (λ p. given-then _ (closing-fits s d i) (λ q k u. fits (h .good) (omega arith) (omega arith)))
@@ -139,7 +119,7 @@ module _ (s : List ℕ) (c : Scope) (z : Sized c) (d e : ℕ) (f : ℕ → Reade
       (λ b j l. given-then _ (end-fits s d (b .left) j) (λ q k u. fits (h .good, l .good) (omega arith)
       (omega arith)))))
 
-  operation-fits : (n : ℕ) (w : HeadWord) (p at : ℕ) → Fits (GoodOf (suc e)) sizeOf at 2 (operation s d f n w p at)
+  operation-fits : (n : ℕ) (w : HeadWord) (p at : ℕ) → Fits (NamedOf c (suc e)) sizeOf at 2 (operation s d f n w p at)
   operation-fits n H.Plus p at = given-then _ (counted-fits p n at) (λ m i h. fits-also (plus-fits m i) (h .on) (λ a k l. omega arith))
   operation-fits n H.Minus p at = given-then _ (counted-fits p n at) (λ m i h. fits-also (minus-fits m i) (h .on) (λ a k l. omega arith))
   operation-fits n H.And p at = stops
@@ -154,28 +134,28 @@ module _ (s : List ℕ) (c : Scope) (z : Sized c) (d e : ℕ) (f : ℕ → Reade
   operation-fits n H.Decrease p at = stops
   operation-fits n H.Other p at = stops
 
-  headed-fits : (n : ℕ) (k : Word) (p i at : ℕ) → Fits (GoodOf (suc e)) sizeOf at 2 (headed s d c f n k p i at)
-  unfolding exprSize GoodExpr
+  headed-fits : (n : ℕ) (k : Word) (p i at : ℕ) → Fits (NamedOf c (suc e)) sizeOf at 2 (headed s d c f n k p i at)
+  unfolding exprSize NamedExpr
   headed-fits n W.Name p i at =
       given-then _ (declared-fits (c .functions) p (part s p i) at)
       (λ j a h. given-then _ (counted-fits p n a)
-      (λ m b l. given-then _ (reference-fits s c z d (c .functions) j b 2 (z .numbers)) (λ x o v. fits (v .good) (omega arith) (omega arith))))
+      (λ m b l. given-then _ (reference-fits s c d (c .functions) j b (h .good)) (λ x o v. fits (v .good) (omega arith) (omega arith))))
   headed-fits n W.Variable p i at = stops
   headed-fits n W.Keyword p i at = stops
   headed-fits n W.Operator p i at = operation-fits n (headOf (part s p i)) p at
 
-module _ (s : List ℕ) (c : Scope) (z : Sized c) where
+module _ (s : List ℕ) (c : Scope) where
   -- where d levels of brackets are left
-  expr-fits : (d n at : ℕ) → Fits (GoodOf (suc d)) sizeOf at 1 (expr d s c n at)
+  expr-fits : (d n at : ℕ) → Fits (NamedOf c (suc d)) sizeOf at 1 (expr d s c n at)
   unfolding expr
-  expr-fits zero n at = leaf-fits s zero n at zero
+  expr-fits zero n at = leaf-fits s c zero n at zero
   expr-fits (suc d) n at =
       open-gives s at _ _
       (λ p e h o. word-gives s e _ _
-      (λ k q i t l m y. fits-also (headed-fits s c z d (suc d) (expr d s c) (λ j u. expr-fits d j u) n k q i i) (omega arith) (λ a u v. omega arith)) stops)
-      (leaf-fits s (suc d) n at (suc d))
+      (λ k q i t l m y. fits-also (headed-fits s c d (suc d) (expr d s c) (λ j u. expr-fits d j u) n k q i i) (omega arith) (λ a u v. omega arith)) stops)
+      (leaf-fits s c (suc d) n at (suc d))
 
-  pub expression-fits : (d at : ℕ) → d ≤ 15 → Fits (GoodExpr 16) exprSize at 1 (expression s d c at)
+  pub expression-fits : (d at : ℕ) → d ≤ 15 → Fits (NamedExpr c 16) exprSize at 1 (expression s d c at)
   unfolding expression
   expression-fits d at l =
-      given-then _ (expr-fits d 16 at) (λ x n h. fits (expr-deeper (x .tree) (suc d) 16 (omega arith) (h .good)) (omega arith) (omega arith))
+      given-then _ (expr-fits d 16 at) (λ x n h. fits (expr-deeper c (x .tree) (suc d) 16 (omega arith) (h .good)) (omega arith) (omega arith))

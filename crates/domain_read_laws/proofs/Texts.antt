@@ -1,5 +1,5 @@
--- What a domain and a problem that were read are: tables that fit their rows, good trees, and no more cells, and no longer prepared rows, than a text may
--- have bytes. Assumes nothing.
+-- What a domain and a problem that were read are: tables that fit their rows, trees whose names are declared, and no more cells, and no longer prepared
+-- rows, than a text may have bytes. Assumes nothing.
 use mathlib.Core.Path.{_≡_, refl}
 use mathlib.Core.List.{List, []}
 use mathlib.Core.Bool.{Bool, true, false, cond}
@@ -31,6 +31,7 @@ use Rattle.domain_stored_meaning.specs.Good.{GoodCond, GoodActions, Sized}
 use Rattle.domain_prepared_meaning.specs.Preparing.{singles}
 use Rattle.domain_prepared_meaning.specs.Rows.{testsBytes, actionsBytes}
 use Rattle.domain_read_laws.proofs.Sizes.{condSize, actionsSize, cond-cells, actions-cells}
+use Rattle.domain_read_laws.proofs.Named.{NamedCond, NamedActions, cond-good, actions-good}
 use Rattle.domain_read_laws.proofs.Rows.{singles-rows, actions-rows}
 use Rattle.domain_read_laws.proofs.Tables.{Fit, Declared, names-fit, types-section-fits, constants-fit, declared-section-fits}
 use Rattle.domain_read_laws.proofs.Conditions.{condition-fits}
@@ -86,18 +87,19 @@ pub record DomainRead (d : Domain) : Type 0 where
   pub functions : Fit (Declared 2) 16 (d .functions)
   pub heads : Fit AllSigned 32 (heads (d .actions))
   pub actions : GoodActions (d .actions)
+  pub named : NamedActions (scopeOf d (d .constants)) (d .actions)
   pub cells : length (actionsCells (d .actions)) ≤ 32768
   pub rows : (n : ℕ) (ps fs : List ℕ) → length (actionsBytes n ps fs (d .actions)) ≤ 32768
 
-module _ (s : List ℕ) (c : Scope) (z : Sized c) where
+module _ (s : List ℕ) (c : Scope) where
   -- an action, behind which f reads on
-  next-fits : (durative : Bool) (as′ : List Action) (at a : ℕ) (f : List Action → Reader (List Action)) → at ≤ a → Acting as′
-      → ((bs : List Action) (b : ℕ) → Acting bs → Fits Acting actionsSize b (actionsSize bs) (f bs b))
-      → Fits Acting actionsSize at (actionsSize as′) (andThen (action s c durative as′ a) f)
-  next-fits durative as′ at a f h g r = given-then _ (action-fits s c z durative as′ a g)
+  next-fits : (durative : Bool) (as′ : List Action) (at a : ℕ) (f : List Action → Reader (List Action)) → at ≤ a → Acting c as′
+      → ((bs : List Action) (b : ℕ) → Acting c bs → Fits (Acting c) actionsSize b (actionsSize bs) (f bs b))
+      → Fits (Acting c) actionsSize at (actionsSize as′) (andThen (action s c durative as′ a) f)
+  next-fits durative as′ at a f h g r = given-then _ (action-fits s c durative as′ a g)
       (λ bs b l. fits-also (r bs b (l .good)) (omega arith) (λ x n v. omega arith))
 
-  actions-fits : (k : ℕ) (as′ : List Action) (at : ℕ) → Acting as′ → Fits Acting actionsSize at (actionsSize as′) (actionsTo k s c as′ at)
+  actions-fits : (k : ℕ) (as′ : List Action) (at : ℕ) → Acting c as′ → Fits (Acting c) actionsSize at (actionsSize as′) (actionsTo k s c as′ at)
   unfolding actionsTo
   actions-fits zero as′ at g = stops
   actions-fits (suc k) as′ at g =
@@ -107,16 +109,15 @@ module _ (s : List ℕ) (c : Scope) (z : Sized c) where
       (λ d i u. opened-gives d _ _ i (λ p. next-fits true as′ at i _ (omega arith) g (λ bs b l. actions-fits k bs b l))
       (fits {a = as′} {n = i} g (omega arith) (omega arith)))))
 
-no-actions : Acting []
-unfolding GoodActions
-no-actions = record { names = record { few = let z : 0 ≤ 32 = omega arith in z; short = tt; kept = tt }; trees = tt }
+no-actions : (c : Scope) → Acting c []
+unfolding NamedActions
+no-actions c = record { names = record { few = let z : 0 ≤ 32 = omega arith in z; short = tt; kept = tt }; named = tt }
 
 domain-text-fits : (s : List ℕ) (at : ℕ) → Gives DomainRead (domainText s at)
 unfolding domainText actionsSize
 domain-text-fits s at =
     given-then _ (vocabulary-fits s at)
-    (λ v a h. given-then _ (actions-fits s (scopeIn v) (record
-    { objects = h .constants .few; facts = h .predicates .kept .few; numbers = h .functions .kept .few }) (length s + 1) [] a no-actions)
+    (λ v a h. given-then _ (actions-fits s (scopeIn v) (length s + 1) [] a (no-actions (scopeIn v)))
     (λ as′ b g. given-then _ (ending-fits s b)
     (λ q i l. reads
     (record {
@@ -125,7 +126,9 @@ domain-text-fits s at =
       predicates = h .predicates;
       functions = h .functions;
       heads = g .good .names;
-      actions = g .good .trees;
+      actions = actions-good (scopeIn v)
+          (record { objects = h .constants .few; facts = h .predicates .kept .few; numbers = h .functions .kept .few }) as′ (g .good .named);
+      named = g .good .named;
       cells = omega (arith, g .size, actions-cells as′);
       rows = λ n ps fs. omega (arith, g .size, actions-rows n ps fs as′);
     }))))
@@ -141,7 +144,9 @@ domain-sized d os h l = record { objects = l; facts = h .predicates .kept .few; 
 
 pub record ProblemRead (d : Domain) (p : Problem) : Type 0 where
   pub objects : Fit AllTyped 64 (p .objects)
+  pub more : length (d .constants) ≤ length (p .objects)
   pub goal : GoodCond 16 (p .goal)
+  pub named : NamedCond (scopeOf d (p .objects)) 16 (p .goal)
   pub cells : length (condCells (p .goal)) ≤ 32768
   pub rows : (n : ℕ) (ps fs : List ℕ) → length (testsBytes n ps fs (singles (p .goal))) ≤ 32768
   pub sums : sumsFit (scopeOf d (p .objects)) ≡ true
@@ -161,31 +166,35 @@ always (refused k p) h = stops
 init-fits : (s : List ℕ) (c : Scope) (p at : ℕ) → Gives (λ _. sumsFit c ≡ true) (initAt s c p at)
 init-fits s c p at = given-then _ (sums-fit c p at) (λ q n h. always (initTo (length s + 1) s c nothing n) h)
 
+-- the domain's constants, and more
+abbrev Objects : Domain → Table → Type 0
+Objects d os = Fit AllTyped 64 os × (length (d .constants) ≤ length os)
+
 module _ (s : List ℕ) (d : Domain) (r : DomainRead d) where
-  premises-fit : (at : ℕ) → Gives (Fit AllTyped 64) (premises s d at)
+  premises-fit : (at : ℕ) → Gives (Objects d) (premises s d at)
   unfolding premises
   premises-fit at =
       behind (headingOf s (bytes "problem") at) _
       (λ n a. behind (ofDomain s d a) _
       (λ q b. behind (beginsWith s (bytes ":objects") b) _
-      (λ o i. opened-gives o _ _ i (λ p. names-fit s (d .types) (d .constants) i (r .constants)) (reads (r .constants)))))
+      (λ o i. opened-gives o _ _ i (λ p. names-fit s (d .types) (d .constants) i (r .constants)) (reads (r .constants, omega arith)))))
 
-  module _ (os : Table) (f : Fit AllTyped 64 os) where
+  module _ (os : Table) (f : Objects d os) where
     abbrev c : Scope
     c = scopeOf d os
 
     -- a goal that ends at n, the sums being judged
     Ends : Problem → ℕ → Type 0
-    Ends p n = Fit AllTyped 64 (p .objects) × GoodCond 16 (p .goal) × (condSize (p .goal) < n) × (sumsFit (scopeOf d (p .objects)) ≡ true)
+    Ends p n = Objects d (p .objects) × NamedCond (scopeOf d (p .objects)) 16 (p .goal) × (condSize (p .goal) < n) × (sumsFit (scopeOf d (p .objects)) ≡ true)
 
     goal-fits : (x : Init) (at : ℕ) → sumsFit c ≡ true → Given Ends Any (andThen (goalTo s c at) (λ g. give (record { objects = os; init = x; goal = g })))
     unfolding Ends
     goal-fits x at h =
         given-then _ (goal-to-fits at) (λ g n k. reads (f, k .good, let l : condSize g < n = omega arith in l, h))
       where
-        goal-to-fits : (at : ℕ) → Fits (GoodCond 16) (λ g. condSize g + 1) at 0 (goalTo s c at)
+        goal-to-fits : (at : ℕ) → Fits (NamedCond c 16) (λ g. condSize g + 1) at 0 (goalTo s c at)
         goal-to-fits at =
-            given-then _ (condition-fits s c (domain-sized d os r (f .few)) 14 64 at (omega arith))
+            given-then _ (condition-fits s c 14 64 at (omega arith))
             (λ g n k. given-then _ (closing-fits s 14 n) (λ q i u. fits (k .good) (omega arith) (omega arith)))
 
     init-goal-fits : (at : ℕ) → Given Ends Any (initAndGoal s c at)
@@ -205,8 +214,10 @@ module _ (s : List ℕ) (d : Domain) (r : DomainRead d) where
       (λ p b g. given-then _ (ending-fits s b)
       (λ q i l. reads
       (record {
-        objects = g .0;
-        goal = g .1;
+        objects = g .0 .0;
+        more = g .0 .1;
+        goal = cond-good (scopeOf d (p .objects)) (domain-sized d (p .objects) r (g .0 .0 .few)) (p .goal) 16 (g .1);
+        named = g .1;
         cells = omega (arith, g .2, cond-cells (p .goal));
         rows = λ n ps fs. omega (arith, g .2, singles-rows n ps fs (p .goal));
         sums = g .3;
