@@ -19,7 +19,7 @@ use Rattle.domain_load.specs.Decode.{decode, readingOf}
 use Rattle.domain_load.specs.Load.{modelOf, loadedOf}
 use Rattle.domain_load.proofs.Back.{model-back}
 use Rattle.domain_read_laws.proofs.Whole.{read-fits}
-use Rattle.domain_load.proofs.Sums.{sums-fit}
+use Rattle.domain_read_laws.proofs.Sums.{sums-fit}
 use Rattle.happening_grounds.specs.Grounded.{firstsIn, groundsIn}
 use Rattle.plan_waiting.specs.Waiting.{queueOf}
 use Rattle.plan_feeding.specs.Feeding.{checkIn}

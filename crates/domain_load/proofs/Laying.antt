@@ -15,8 +15,8 @@ use Rattle.domain_terms.specs.Scoped.{Scoped, Signatures}
 use Rattle.domain_terms.specs.declared.scope.Counts.{Counts}
 use Rattle.domain_indexes.specs.Firsts.{firstsOf}
 use Rattle.domain_indexes.proofs.Sums.{length-bases}
+use Rattle.domain_read_laws.proofs.Sums.{sums-fit}
 use Rattle.domain_load.specs.Load.{zeros}
-use Rattle.domain_load.proofs.Sums.{sums-fit}
 use Rattle.domain_rows.specs.Layout.{predicatesAt, functionsAt, variablesAt}
 
 -- numbers stored behind a first list

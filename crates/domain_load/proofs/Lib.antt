@@ -1,6 +1,5 @@
 -- Laws that the proofs use, and what is said of load: its model is read back; and the bench as numbers.
 pub mod Joined
-pub mod Sums
 pub mod Laying
 pub mod Loading
 pub mod Apart

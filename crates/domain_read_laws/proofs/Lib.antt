@@ -9,3 +9,6 @@ pub mod Effects
 pub mod Actions
 pub mod Texts
 pub mod Whole
+pub mod Sums
+pub mod Bases
+pub mod Prepared

@@ -79,6 +79,11 @@ NamedActions c (a ∷ as′) = NamedAction c a × NamedActions c as′
 
 -- ---- more levels are as good
 
+below-deeper : (P : ℕ → Type 0) (d e : ℕ) → d ≤ e → ((a b : ℕ) → a ≤ b → P a → P b) → Below d P → Below e P
+below-deeper P zero e h f g = absurd g
+below-deeper P (suc d) zero h f g = absurd (let y : ⊥ = omega arith in y)
+below-deeper P (suc d) (suc e) h f g = f d e (omega arith) g
+
 module _ (c : Scope) where
   pub expr-deeper : (x : Expr) (d e : ℕ) → d ≤ e → NamedExpr c d x → NamedExpr c e x
   unfolding NamedExpr
@@ -89,11 +94,6 @@ module _ (c : Scope) where
   expr-deeper (minus a) (suc d) (suc e) h g = expr-deeper a d e (omega arith) g
   expr-deeper (difference a b) (suc d) (suc e) h g = (expr-deeper a d e (omega arith) (g .0), expr-deeper b d e (omega arith) (g .1))
   expr-deeper (plus a b) (suc d) (suc e) h g = (expr-deeper a d e (omega arith) (g .0), expr-deeper b d e (omega arith) (g .1))
-
-  below-deeper : (P : ℕ → Type 0) (d e : ℕ) → d ≤ e → ((a b : ℕ) → a ≤ b → P a → P b) → Below d P → Below e P
-  below-deeper P zero e h f g = absurd g
-  below-deeper P (suc d) zero h f g = absurd (let y : ⊥ = omega arith in y)
-  below-deeper P (suc d) (suc e) h f g = f d e (omega arith) g
 
   mutual
     unfolding NamedCond NamedConds
@@ -117,7 +117,7 @@ few-at most (e ∷ t) zero h = h .0
 few-at most (e ∷ t) (suc i) h = few-at most t i (h .1)
 
 -- what is so of the levels below
-pub below-also : (P Q : ℕ → Type 0) (d : ℕ) → ((e : ℕ) → P e → Q e) → Below d P → Below d Q
+below-also : (P Q : ℕ → Type 0) (d : ℕ) → ((e : ℕ) → P e → Q e) → Below d P → Below d Q
 below-also P Q zero f h = h
 below-also P Q (suc d) f h = f d h
 
