@@ -1,7 +1,7 @@
 -- Masks: a bit that is set stays set when masks are joined, and masks that share no bit have no bit in common. Assumes nothing.
 use mathlib.Core.Path.{_≡_, refl, sym, ap, ap₂, _∙_}
 use mathlib.Core.Bool.{Bool, true, false}
-use Prim.Native.Nat.{ℕ, zero, suc, _+_, _*_, _/_, _%_, _^_, _≤_, _<_}
+use Prim.Native.Nat.{ℕ, zero, suc, _*_, _/_, _%_, _^_, _≤_, _<_}
 use native.Mathlib.Nat.{one-mul, mod-lt, zero-lt-suc}
 use native.Mathlib.Omega.{arith}
 use lib.Pow.{shl-exact, shl-shr, shr-le}
