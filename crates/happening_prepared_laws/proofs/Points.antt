@@ -60,7 +60,7 @@ module _ {A : Type 0} where
       go false e = e
 
   -- three lists, each with its time
-  three : (w : When) (xs ys zs : List A)
+  pub three : (w : When) (xs ys zs : List A)
       → partsFor w (map (at start) xs ++ (map (at whole) ys ++ map (at end) zs))
       ≡ cond (sameTime start w) xs [] ++ (cond (sameTime whole w) ys [] ++ cond (sameTime end w) zs [])
   three w xs ys zs =
