@@ -2,11 +2,7 @@
 use Prim.Native.Nat.{ℕ, _+_, _*_}
 use mathlib.Core.List.{List, [], _∷_}
 use lib.ListN.{getD}
-use Rattle.happening_meaning.specs.State.{Grounds}
-
--- the digits of a reference are added up: one object is counted, and there are no first indexes
-abbrev pub summed : Grounds
-summed = record { objects = 1; facts = []; numbers = [] }
+pub use Rattle.happening_prepared_laws.specs.Summed.{summed}
 
 -- the four objects of point k
 unfoldable pub fourAt : List ℕ → ℕ → List ℕ
