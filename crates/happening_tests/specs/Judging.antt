@@ -10,6 +10,7 @@ use Rattle.happening_meaning.specs.declared.Value.{Value}
 use Rattle.happening_meaning.specs.declared.Truth.{Truth}
 use Rattle.happening_meaning.specs.declared.Truth.the-variants.{Holds}
 use Rattle.happening_forms.specs.Summed.{summed}
+use Rattle.happening_tests.specs.Taken.{secondSide}
 use Rattle.happening_tests.specs.declared.taken.Row.{Row}
 use Rattle.happening_tests.specs.declared.taken.Row.the-variants.{End, Fact, Same, Compare}
 use Rattle.happening_tests.specs.declared.truths.Judged.{Judged}
@@ -27,4 +28,4 @@ rowJudged rows s os (Fact w i n) = judged (agrees w (isTrue (s .facts) i)) n
 rowJudged rows s os (Same h n) = judged (agrees true h) n
 rowJudged rows s os (Compare w op e) =
     judged (comparedOf w (comparisonOf op) (valueOf summed (s .numbers) os (expressionAt rows e .tree))
-    (valueOf summed (s .numbers) os (expressionAt rows (expressionAt rows e .next) .tree))) (expressionAt rows (expressionAt rows e .next) .next)
+    (valueOf summed (s .numbers) os (secondSide rows e .tree))) (secondSide rows e .next)

@@ -13,6 +13,7 @@ use Rattle.happening_state.specs.Masks.{factBit}
 use Rattle.happening_expressions.specs.Evaluated.{exprMask}
 use Rattle.happening_expressions.specs.declared.masks.Masked.{Masked}
 use Rattle.happening_expressions.specs.declared.reads.Found.{Found}
+use Rattle.happening_tests.specs.Taken.{secondSide}
 use Rattle.happening_tests.specs.declared.taken.Row.{Row}
 use Rattle.happening_tests.specs.declared.taken.Row.the-variants.{End, Fact, Same, Compare}
 
@@ -46,8 +47,8 @@ rowMasked rows os End = masked 0 0
 rowMasked rows os (Fact w i n) = masked (factBit i) n
 rowMasked rows os (Same h n) = masked 0 n
 rowMasked rows os (Compare w op e) =
-    masked (bitOr (exprMask summed os (expressionAt rows e .tree)) (exprMask summed os (expressionAt rows (expressionAt rows e .next) .tree)))
-    (expressionAt rows (expressionAt rows e .next) .next)
+    masked (bitOr (exprMask summed os (expressionAt rows e .tree)) (exprMask summed os (secondSide rows e .tree)))
+    (secondSide rows e .next)
 
 abbrev pub found : Bool → ℕ → Found
 found b n = record { found = b; next = n }
@@ -58,8 +59,8 @@ factFound numeric x i n = found (cond numeric false (eqb i x)) n
 
 abbrev pub sidesFound : List ℕ → List ℕ → Bool → ℕ → ℕ → Found
 sidesFound rows os numeric x e =
-    found (cond numeric (exprReads summed os x (expressionAt rows e .tree) || exprReads summed os x (expressionAt rows (expressionAt rows e .next) .tree)) false)
-    (expressionAt rows (expressionAt rows e .next) .next)
+    found (cond numeric (exprReads summed os x (expressionAt rows e .tree) || exprReads summed os x (secondSide rows e .tree)) false)
+    (secondSide rows e .next)
 
 unfoldable pub rowFound : List ℕ → List ℕ → Bool → ℕ → Row → Found
 rowFound rows os numeric x End = found false 0

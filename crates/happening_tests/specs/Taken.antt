@@ -4,16 +4,21 @@ use mathlib.Core.List.{List}
 use mathlib.Core.Bool.{Bool, true, false, cond, not}
 use lib.Dec.{ltb, eqb}
 use lib.ListN.{length}
+use Rattle.domain_meaning.specs.Terms.{Expr}
 use Rattle.domain_meaning.specs.Conditions.{Cond, all, atom, same, compare}
 use Rattle.domain_meaning.specs.Indexes.{objectOf}
 use Rattle.domain_rows.specs.Held.{byteAt}
 use Rattle.domain_stored_meaning.specs.Cells.{comparisonCell}
 use Rattle.domain_stored_meaning.specs.Decode.{Decoded}
-use Rattle.domain_prepared_meaning.specs.Decode.{beginsTest, testAt}
+use Rattle.domain_prepared_meaning.specs.Decode.{beginsTest, testAt, expressionAt}
 use Rattle.happening_meaning.specs.State.{factOf}
 use Rattle.happening_forms.specs.Summed.{summed}
 use Rattle.happening_tests.specs.declared.taken.Row.{Row}
 use Rattle.happening_tests.specs.declared.taken.Row.the-variants.{End, Fact, Same, Compare}
+
+-- the second side of a comparison whose first is at a place
+abbrev pub secondSide : List ℕ → ℕ → Decoded Expr
+secondSide rows e = expressionAt rows (expressionAt rows e .next)
 
 abbrev pub isEnd : Row → Bool
 isEnd End = true
