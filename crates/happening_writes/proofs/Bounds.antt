@@ -2,7 +2,7 @@
 use mathlib.Core.Path.{_≡_, refl, ap, subst}
 use mathlib.Core.List.{List, [], _∷_}
 use mathlib.Core.Bool.{Bool, true, false, cond}
-use Prim.Native.Nat.{ℕ, zero, suc, _+_, _-_, _*_, _^_, _≤_, _<_}
+use Prim.Native.Nat.{ℕ, zero, suc, _+_, _-_, _*_, _^_, _≤_}
 use native.Mathlib.Omega.{arith}
 use lib.Dec.{ltb}
 use lib.IntN.{ℤ, pos, negsuc, negℤ, natAbs, _+ℤ_}
@@ -122,5 +122,6 @@ room-start n old h = (1000000000000, λ x d. inside-le (numberAt old x) d, omega
 pub room-bound : (n : ℕ) (old ns : List ℤ) → Room n old ns → Bounded (2 ^ 61 - 1) old ns
 room-bound n old ns r = let q = r .2 in bounded-wider (r .0) (2 ^ 61 - 1) old ns (omega arith) (r .1)
 
-pub room-step : (n l : ℕ) (old ns : List ℤ) (how : Change) (x : ℕ) (v : Value) → Ranged v → Room (suc n) old ns → Room n old (changeBy l old ns how x v .numbers)
+pub room-step : (n l : ℕ) (old ns : List ℤ) (how : Change) (x : ℕ) (v : Value) → Ranged v → Room (suc n) old ns
+    → Room n old (changeBy l old ns how x v .numbers)
 room-step n l old ns how x v t r = let q = r .2 in (r .0 + 1000000000000, bounded-step (r .0) l old ns how x v t (r .1), omega arith)

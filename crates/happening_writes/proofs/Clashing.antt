@@ -1,5 +1,5 @@
 -- Two effects that can't be together, by what they write. Assumes nothing.
-use mathlib.Core.Path.{_≡_, refl, sym, ap, ap₂, _∙_}
+use mathlib.Core.Path.{_≡_, refl, sym, ap₂, _∙_}
 use mathlib.Core.List.{List, [], _∷_}
 use mathlib.Core.Bool.{Bool, true, false, cond, not, _||_, or-false, Bool·beq}
 use Prim.Native.Nat.{ℕ}

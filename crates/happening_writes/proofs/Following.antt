@@ -7,7 +7,7 @@ use Prim.Native.Nat.{ℕ, zero, suc, _+_, _-_, _*_, _≤_, _<_}
 use native.Mathlib.Omega.{arith}
 use lib.Dec.{ltb, eqb}
 use lib.ListN.{length}
-use borrow.Author.Tests.{lt-ltb, le-ltb, ltb-true, ltb-false}
+use borrow.Author.Tests.{lt-ltb, le-ltb, ltb-true}
 use Rattle.base_laws.proofs.Splits.{either, choose}
 use Rattle.domain_meaning.specs.Terms.{Expr}
 use Rattle.domain_meaning.specs.Effects.{Change, assign, raise, lower, Effect, becomes, changes}
@@ -87,6 +87,10 @@ module _ (rows : List ℕ) where
 
   pub effects-few : (at : ℕ) → 3 * length (effectsAt rows at) ≤ length rows + 2
   effects-few at = omega (arith, few (length rows) at)
+
+  -- in rows of 64 KiB
+  pub effects-within : (at : ℕ) → length rows ≤ 65536 → length (effectsAt rows at) ≤ 21846
+  effects-within at h = omega (arith, effects-few at)
 
 -- ---- what a row says of the effects from its place on
 

@@ -2,24 +2,22 @@
 use mathlib.Core.Path.{_≡_, refl, sym, ap, _∙_}
 use mathlib.Core.List.{List, [], _∷_}
 use mathlib.Core.Bool.{Bool, true, false, _||_, or-assoc, or-false}
-use Prim.Native.Nat.{ℕ, suc, _+_, _≤_, _<_}
+use Prim.Native.Nat.{ℕ, _+_, _<_}
 use native.Mathlib.Omega.{arith}
 use lib.Bits.{bitOr}
 use lib.Dec.{eqb}
 use lib.IntN.{ℤ}
-use lib.ListN.{length, set, length-set}
-use Rattle.domain_meaning.specs.Terms.{Ref}
-use Rattle.domain_meaning.specs.Effects.{Change, assign, raise, lower, Effect, becomes, changes}
+use lib.ListN.{length}
+use Rattle.domain_meaning.specs.Effects.{Change, assign, raise, lower, changes}
 use Rattle.domain_prepared_meaning.specs.Forms.{refBy}
 use Rattle.domain_prepared_meaning.specs.Decode.{formAt, expressionAt, effectsAt}
-use Rattle.happening_meaning.specs.State.{Grounds, numberAt, numberOf}
+use Rattle.happening_meaning.specs.State.{numberOf}
 use Rattle.happening_meaning.specs.Truths.{valueOf}
 use Rattle.happening_meaning.specs.Writes.{some, collide, itself, markOf, marksOf, rightReads}
-use Rattle.happening_meaning.specs.Happening.{made, onMade, Made, onNeeded, needed, newNumber, setNumber, changeOne, changeAll, eachMark, leaves, with, without}
-use Rattle.happening_meaning.specs.declared.Value.{Value}
+use Rattle.happening_meaning.specs.Happening.{made, onMade, Made, changeOne, changeAll, eachMark, with}
 use Rattle.happening_meaning.specs.declared.Value.the-variants as Is
 use Rattle.happening_meaning.specs.declared.Mark.{Mark}
-use Rattle.happening_meaning.specs.declared.Mark.the-variants.{Nothing, Fact, Number}
+use Rattle.happening_meaning.specs.declared.Mark.the-variants.{Fact, Number}
 use Rattle.happening_meaning.specs.declared.Outcome.{Outcome}
 use Rattle.happening_meaning.specs.declared.Outcome.the-variants.{Done}
 use Rattle.happening_meaning.proofs.Failing.{Fails, fails}
@@ -31,7 +29,7 @@ use Rattle.happening_expressions.proofs.Ranging.{value-ranged}
 use Rattle.happening_forms.specs.Summed.{summed}
 use Rattle.happening_forms.proofs.Placing.{fact-by, number-by}
 use Rattle.happening_writes.specs.Rows.{howOf, placed, marksAt}
-use Rattle.happening_writes.specs.Changing.{Room, changeIn, changeBy, settleOne, settleAll, writeFact, adds}
+use Rattle.happening_writes.specs.Changing.{Room, changeIn, changeBy, settleOne, settleAll, adds}
 use Rattle.happening_writes.specs.Masks.{markBit, maskFrom}
 use Rattle.happening_writes.proofs.Following.{FactAt, NumberAt}
 use Rattle.happening_writes.proofs.Bounds.{room-less, room-step}
@@ -53,7 +51,8 @@ unfolding markOf
 marks-number rows os {at} {h} {v} {r} f e q =
     ap (marksOf summed os) (f .effects) ∙ by-change (f .change) ∙ rw (e, q, number-by os (formAt rows (at + 1) v), f .cell)
   where
-    by-change : (c : Change) → marksOf summed os (changes c (refBy (formAt rows (at + 1) v)) (expressionAt rows r .tree) ∷ effectsAt rows (expressionAt rows r .next))
+    by-change : (c : Change)
+        → marksOf summed os (changes c (refBy (formAt rows (at + 1) v)) (expressionAt rows r .tree) ∷ effectsAt rows (expressionAt rows r .next))
         ≡ Number (eqb (howOf c) 0) (numberOf summed os (refBy (formAt rows (at + 1) v))) ∷ marksAt rows os (expressionAt rows r .next)
     by-change assign = refl
     by-change raise = refl
@@ -126,7 +125,8 @@ module _ {ks : List Mark} where
   unfolding eachMark
   each-none f fs e = rw e
 
-  pub each-on : (f : List ℕ → Mark → List ℕ) (fs : List ℕ) {gs : List ℕ} {m : Mark} {ms : List Mark} → ks ≡ m ∷ ms → gs ≡ f fs m → eachMark f gs ms ≡ eachMark f fs ks
+  pub each-on : (f : List ℕ → Mark → List ℕ) (fs : List ℕ) {gs : List ℕ} {m : Mark} {ms : List Mark} → ks ≡ m ∷ ms → gs ≡ f fs m
+      → eachMark f gs ms ≡ eachMark f fs ks
   unfolding eachMark
   each-on f fs e q = rw (e, q)
 

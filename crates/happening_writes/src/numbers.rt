@@ -114,7 +114,7 @@ fn leaves_range(fresh: &[i64], x: usize) -> bool
 }
 
 // Whether a number that a point writes has ended outside the range.
-pub fn leave_any<'a>(
+pub fn leaves<'a>(
     rows: &'a [u8],
     fresh: &'a [i64],
     objects: &'a [u8; 256],

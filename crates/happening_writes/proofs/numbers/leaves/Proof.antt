@@ -1,4 +1,4 @@
--- `happening_writes::numbers::leave_any` meets its contract. Assumes nothing.
+-- `happening_writes::numbers::leaves` meets its contract. Assumes nothing.
 use mathlib.Core.Path.{_≡_, refl, _∙_}
 use Prim.Native.Nat.{_-_}
 use native.Mathlib.Omega.{arith}
@@ -11,8 +11,8 @@ use Rattle.happening_meaning.specs.Happening.{leaves}
 use Rattle.happening_writes.specs.Rows.{marksAt}
 use Rattle.happening_writes.proofs.Following.{told}
 use Rattle.happening_writes.proofs.Turning.{marks-end, marks-fact, marks-number, some-none, some-pass, some-hit, some-on}
-use Rattle.happening_writes.proofs.numbers.leave_any.Statement.{statement}
-use Rattle.happening_writes.proofs.numbers.leave_any.Tie as tie
+use Rattle.happening_writes.proofs.numbers.leaves.Statement.{statement}
+use Rattle.happening_writes.proofs.numbers.leaves.Tie as tie
 
 abbrev Inv-loop : tie.InvT-loop
 Inv-loop rows fresh objects k from at₀ at = some (leaves fresh) (marksAt rows (fourAt objects k) at) ≡ some (leaves fresh) (marksAt rows (fourAt objects k) from)
@@ -68,8 +68,8 @@ loop-again-2 : tie.Need-loop-again-2 Inv-loop μ-loop
 unfolding leaves
 loop-again-2 c = let c3 = c .before .before .before in let c7 = c3 .before .before .before .before in let c10 = c7 .before .before .before in let rows = now (c10 .args .rows) in let os = fourAt (now (c10 .args .objects)) (c10 .args .k) in let f = told _ _ (c7 .effect-at .ensures) (c3 .before .before .row2 .given .1) in some-on (leaves (now (c10 .args .fresh))) (marks-number rows os f (c3 .index .ensures) (c .expr-end .ensures)) (c .before .before .leaves-range .ensures) (c .before .if1 .left) ∙ c7 .before .loop .inv
 
-pub leave-any-spec : {M : Type 1} → statement M
-leave-any-spec =
+pub leaves-spec : {M : Type 1} → statement M
+leaves-spec =
     tie.close
     (tie.spec
     Inv-loop
