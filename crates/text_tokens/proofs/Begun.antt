@@ -18,6 +18,10 @@ pub begun-some : (x : ℕ) (w : List ℕ) → (length w ≡ 0 → ⊥) → begun
 begun-some x [] h = absurd (h refl)
 begun-some x (b ∷ bs) h = refl
 
+pub begun-length : (x : ℕ) (w : List ℕ) → begunBy x w ≡ true → 0 < length w
+begun-length x [] h = absurd (let z : _≡_ {A = ℕ} 0 1 = cc in let y : ⊥ = omega arith in y)
+begun-length x (b ∷ bs) h = omega arith
+
 pub number-empty : (w : List ℕ) → length w ≡ 0 → beginsNumber w ≡ false
 unfolding beginsNumber
 number-empty [] h = refl

@@ -1,15 +1,17 @@
 -- Gaps, runs and digits, a step at a place of the text. Assumes nothing.
-use mathlib.Core.Path.{_≡_, refl}
+use mathlib.Core.Path.{_≡_, refl, sym}
 use mathlib.Core.List.{List, [], _∷_}
-use mathlib.Core.Bool.{Bool, true, false, cond}
+use mathlib.Core.Bool.{Bool, true, false, cond, not}
 use Prim.Native.Nat.{ℕ, suc, _+_, _-_, _≤_, _<_}
 use native.Mathlib.Nat.{add-zero, le-refl}
 use native.Mathlib.Omega.{arith}
+use native.Mathlib.Decide.{decLe}
 use lib.ListN.{length, getD, drop, length-drop, drop-of-length-le}
 use lib.Seq.{take-all, take-nil}
+use borrow.Author.Tests.{eq-eqb, ne-eqb, eqb-true}
 use Rattle.base_laws.proofs.Lists.{at-cons}
 use Rattle.text_words.specs.Bytes.{kindOf, isDigit, inRun}
-use Rattle.text_tokens.specs.Runs.{gapStep, onGap, gap, gapEnd, run, runEnd, part}
+use Rattle.text_tokens.specs.Runs.{gapStep, onGap, gap, gapEnd, run, runEnd, isOver, part}
 use Rattle.text_tokens.specs.Numbers.{leading, digitsEnd}
 use Rattle.text_tokens.specs.declared.runs.Gap.{Gap}
 use Rattle.text_tokens.specs.declared.runs.Gap.the-variants as G
@@ -81,6 +83,39 @@ run-most (b ∷ bs) stop = count-le (inRun stop b) (run stop bs) (length bs) (ru
 pub run-within : (s : List ℕ) (stop p : ℕ) → p ≤ length s → (p ≤ runEnd s stop p) × (runEnd s stop p ≤ length s)
 unfolding runEnd
 run-within s stop p h = omega (arith, run-most (drop p s) stop, length-drop p s)
+
+pub run-from : (s : List ℕ) (stop p : ℕ) → p ≤ runEnd s stop p
+unfolding runEnd
+run-from s stop p = omega arith
+
+-- a run has its end at p, or goes on there
+pub over-end : (s : List ℕ) (stop p : ℕ) → length s ≤ p → isOver s stop p ≡ true
+unfolding isOver
+over-end s stop p h = eq-eqb _ _ (run-over s stop p h)
+
+pub over-at : (s : List ℕ) (stop p : ℕ) (t : Bool) → p < length s → inRun stop (getD s p 0) ≡ t → not t ≡ isOver s stop p
+unfolding isOver
+over-at s stop p true h e =
+    let b = run-within s stop (p + 1) (omega arith) in
+    sym (ne-eqb _ _ (λ (q : runEnd s stop p ≡ p). let y : ⊥ = omega (arith, run-more s stop p h e, b .0) in y))
+over-at s stop p false h e = sym (eq-eqb _ _ (run-ends s stop p h e))
+
+pub over-is : (s : List ℕ) (stop p : ℕ) → isOver s stop p ≡ true → runEnd s stop p ≡ p
+unfolding isOver
+over-is s stop p h = eqb-true (runEnd s stop p) p h
+
+pub over-not : (s : List ℕ) (stop p : ℕ) → isOver s stop p ≡ false → (p < length s) × (inRun stop (getD s p 0) ≡ true)
+over-not s stop p h = elim (decLe (length s) p) [
+  | yes k ↦ clash (over-end s stop p k)
+  | no k ↦ let l : p < length s = omega arith in (l, go (inRun stop (getD s p 0)) refl l)
+]
+  where
+    clash : {A : Type 0} → isOver s stop p ≡ true → A
+    clash e = absurd (let x : _≡_ {A = ℕ} 0 1 = cc in let y : ⊥ = omega arith in y)
+
+    go : (t : Bool) → inRun stop (getD s p 0) ≡ t → p < length s → t ≡ true
+    go true e l = refl
+    go false e l = clash (sym (over-at s stop p false l e))
 
 -- ---- digits
 

@@ -83,7 +83,7 @@ never-digit false false true d = refl
 never-digit false false false true = refl
 never-digit false false false false = refl
 
-digit-most : (b : ℕ) → isDigit (kindOf b) ≡ true → b - 48 ≤ 9
+pub digit-most : (b : ℕ) → isDigit (kindOf b) ≡ true → b - 48 ≤ 9
 unfolding kindOf
 digit-most b h = elim (decLe b 57) [
   | yes k ↦ omega arith
@@ -175,8 +175,8 @@ number-small l = go (between 1 (leading l) 9) refl
         rest-small (decimal 0 (take (leading l) l)) (drop (leading l) l) (omega (arith, m, ten-to (leading l) 9 hi))
 
 -- decimals that count, as the code multiplies them
-pub product-most : (v c : ℕ) → v < 100000000000 → c < 101 → v * c ≤ 10100000000000
+pub product-most : (v c : ℕ) → v < 230000000000 → c < 101 → v * c ≤ 23230000000000
 product-most v c h k =
-    let a : v ≤ 100000000000 = omega arith in
+    let a : v ≤ 230000000000 = omega arith in
     let b : c ≤ 101 = omega arith in
     mul-le-mul a b

@@ -18,7 +18,7 @@ use Rattle.text_words.specs.declared.bytes.Kind.the-variants as K
 use Rattle.text_words.proofs.bytes.Kind as kind-type
 use Rattle.text_tokens.specs.Runs.{part, gapEnd, runEnd}
 use Rattle.text_tokens.specs.Numbers.{Small}
-use Rattle.text_tokens.specs.Tokens.{isPast, bracketOf, domainWord, tokenAt, spotAt, judgedOf, planWord, squareOf, planTokenAt}
+use Rattle.text_tokens.specs.Tokens.{isPast, bracketOf, domainWord, tokenAt, spotAt, judgedOf, planWord, squareOf, planRun, endOf, planTokenAt}
 use Rattle.text_tokens.specs.declared.numbers.Numeral.{Numeral}
 use Rattle.text_tokens.specs.declared.numbers.Numeral.the-variants.{Thousandths}
 use Rattle.text_tokens.specs.declared.tokens.Token.{Token}
@@ -43,6 +43,14 @@ starts-run K.Bracket a b c h = absurd (miss (0 ∷ 1 ∷ 3 ∷ 4 ∷ []) 2 tt h)
 starts-run K.White a b c h = refl
 starts-run K.Mark a b c h = refl
 starts-run K.Refused a b c h = absurd (miss (0 ∷ 1 ∷ 3 ∷ 4 ∷ []) 5 tt h)
+
+odd-run : {A : Type 0} (k : Kind) (a b c : A) → OneOf (3 ∷ 4 ∷ []) (tagOf kind-type.the-type k) → onStart k a b c ≡ a
+odd-run K.Digit a b c h = refl
+odd-run K.Letter a b c h = refl
+odd-run K.Bracket a b c h = absurd (miss (3 ∷ 4 ∷ []) 2 tt h)
+odd-run K.White a b c h = refl
+odd-run K.Mark a b c h = refl
+odd-run K.Refused a b c h = absurd (miss (3 ∷ 4 ∷ []) 5 tt h)
 
 -- ---- domain and problem
 
@@ -107,8 +115,15 @@ module _ (s : List ℕ) (from p : ℕ) (g : p ≡ gapEnd s from) where
       unfolding planTokenAt
       plan-bracket b k q j = rw (← g, lt-leb (length s) p i, ne-eqb (getD s p 0) 58 c, k, ← q) j
 
-      pub plan-run : (b : Token) (e : ℕ) → OneOf (0 ∷ 1 ∷ 3 ∷ 4 ∷ []) (tagOf kind-type.the-type (kindOf (getD s p 0)))
-          → e ≡ runEnd s 58 (p + 1) → b ≡ planWord (part s p e) p e → t ≡ judgedOf e b → t ≡ planTokenAt s from
+      -- what begins with a digit or a letter is the run there
+      pub plan-digit : kindOf (getD s p 0) ≡ K.Digit → t ≡ planRun s p (endOf s 58 p) → t ≡ planTokenAt s from
       unfolding planTokenAt
-      plan-run b e k r q j =
-          rw (← g, lt-leb (length s) p i, ne-eqb (getD s p 0) 58 c, starts-run (kindOf (getD s p 0)) _ _ _ k, ← r, ← q) j
+      plan-digit k j = rw (← g, lt-leb (length s) p i, ne-eqb (getD s p 0) 58 c, k) j
+
+      pub plan-letter : kindOf (getD s p 0) ≡ K.Letter → t ≡ planRun s p (endOf s 58 p) → t ≡ planTokenAt s from
+      unfolding planTokenAt
+      plan-letter k j = rw (← g, lt-leb (length s) p i, ne-eqb (getD s p 0) 58 c, k) j
+
+      pub plan-odd : OneOf (3 ∷ 4 ∷ []) (tagOf kind-type.the-type (kindOf (getD s p 0))) → t ≡ planRun s p (endOf s 58 p) → t ≡ planTokenAt s from
+      unfolding planTokenAt
+      plan-odd k j = rw (← g, lt-leb (length s) p i, ne-eqb (getD s p 0) 58 c, odd-run (kindOf (getD s p 0)) _ _ _ k) j

@@ -1,10 +1,11 @@
 // Numbers in thousandths.
 use crate::classes;
+use crate::runs;
 use text_words::bytes;
 ghost use mathlib.Core.Path.{_≡_};
-ghost use Prim.Native.Nat.{_+_, _-_, _*_, _≤_, _<_};
+ghost use Prim.Native.Nat.{_+_, _-_, _≤_, _<_, min};
 ghost use lib.ListN.{length, drop};
-ghost use Rattle.text_tokens.specs.Numbers.{digitsEnd, decimal, scaleOf, fractionOf, numberFrom, Small, withSign, numberOf};
+ghost use Rattle.text_tokens.specs.Numbers.{digitsEnd, decimal, scaleOf, decimalsAt, figureAt, numberFrom, Small, withSign, numberOf};
 ghost use Rattle.text_tokens.specs.Runs.{part};
 
 // A number without its sign, and with it.
@@ -18,18 +19,16 @@ pub enum Number {
     Malformed,
 }
 
-// The end of the digits that stand at `from`.
-fn digits_end(w: &[u8], from: usize) -> usize
-    ensures { λ r. ⌜ r ≡ digitsEnd (now (w .entry)) from ⌝ }
-{
-    let mut at = from;
-    while at < w.len() {
-        if !bytes::is_digit(w[at]) {
-            return at;
-        }
-        at += 1;
-    }
-    at
+// A number that was read in a text, with the place where it ends.
+pub enum Figure {
+    Thousandths(usize, usize),
+    Malformed,
+}
+
+// Digits that were read: their value, and where they end.
+struct Digits {
+    value: usize,
+    end: usize,
 }
 
 fn digit(b: u8) -> usize
@@ -38,18 +37,35 @@ fn digit(b: u8) -> usize
     if b < b'0' { 0 } else { (b - b'0') as usize }
 }
 
-// The value of at most nine digits.
-fn value(w: &[u8], from: usize, to: usize) -> usize
-    requires { ⌜ (from ≤ to) × (to ≤ length (now w)) × (to - from ≤ 9) ⌝ }
-    ensures { λ r. ⌜ (r ≡ decimal 0 (part (now (w .entry)) from to)) × (r < 100000000000) ⌝ }
+// Where at most so many digits from `from` on end, if all are digits.
+fn least_end(long: usize, from: usize, most: usize) -> usize
+    requires { ⌜ from ≤ long ⌝ }
+    ensures { λ r. ⌜ r ≡ min long (from + most) ⌝ }
 {
-    let mut v = 0;
-    let mut at = from;
-    while at < to {
-        v = v * 10 + digit(w[at]);
-        at += 1;
+    if long - from < most {
+        return long;
     }
-    v
+    from + most
+}
+
+// The digits that stand at `from`, at most so many, summed as they are read.
+fn digits_at(w: &[u8], from: usize, most: usize) -> Digits
+    requires { ⌜ (from ≤ length (now w)) × (most ≤ 10) ⌝ }
+    ensures { λ r. ⌜ (r .end ≡ min (digitsEnd (now (w .entry)) from) (from + most)) × (r .value ≡ decimal 0 (part (now (w .entry)) from (r .end)))
+        × (r .value < 230000000000) ⌝ }
+{
+    let stop = least_end(w.len(), from, most);
+    let mut value = 0;
+    let mut end = from;
+    while end < stop {
+        let b = w[end];
+        if !bytes::is_digit(b) {
+            return Digits { value, end };
+        }
+        value = value * 10 + digit(b);
+        end += 1;
+    }
+    Digits { value, end }
 }
 
 // What a last decimal counts, where there are so many.
@@ -65,45 +81,62 @@ fn scale(n: usize) -> usize
     1
 }
 
-// The decimals of a number, behind its point at `point`.
-fn fraction(w: &[u8], whole: usize, point: usize) -> Numeral
-    requires { ⌜ (point < length (now w)) × (whole < 100000000000) ⌝ }
-    ensures { λ r. ⌜ r ≡ fractionOf whole (drop (point + 1) (now (w .entry))) ⌝ }
+// The decimals from `from` on, behind a whole part and its point, to the run's end: 1 to 3 digits.
+fn decimals_at(text: &[u8], stop: u8, whole: usize, from: usize) -> Figure
+    requires { ⌜ (58 ≤ stop) × (from ≤ length (now text)) × (whole < 230000000000) ⌝ }
+    ensures { λ r. ⌜ r ≡ decimalsAt (now (text .entry)) stop whole from ⌝ }
 {
-    let from = point + 1;
-    let n = w.len() - from;
-    if n == 0 {
-        return Numeral::Malformed;
-    }
-    if 3 < n {
-        return Numeral::Malformed;
-    }
-    if digits_end(w, from) < w.len() {
-        return Numeral::Malformed;
-    }
-    Numeral::Thousandths(whole * 1000 + value(w, from, w.len()) * scale(n))
-}
-
-// The number that stands from `from` on: `from` is 1 behind a minus.
-fn number_from(w: &[u8], from: usize) -> Numeral
-    ensures { λ r. ⌜ r ≡ numberFrom (drop from (now (w .entry))) ⌝ }
-{
-    let end = digits_end(w, from);
+    let d = digits_at(text, from, 4);
+    let end = d.end;
     let n = end - from;
     if n == 0 {
-        return Numeral::Malformed;
+        return Figure::Malformed;
+    }
+    if 3 < n {
+        return Figure::Malformed;
+    }
+    if !runs::is_over(text, stop, end) {
+        return Figure::Malformed;
+    }
+    Figure::Thousandths(whole * 1000 + d.value * scale(n), end)
+}
+
+// The number without a sign that stands at `from`, to the run's end: 1 to 9 digits, perhaps a point and decimals.
+pub fn figure_at(text: &[u8], stop: u8, from: usize) -> Figure
+    requires { ⌜ (58 ≤ stop) × (from ≤ length (now text)) ⌝ }
+    ensures { λ r. ⌜ r ≡ figureAt (now (text .entry)) stop from ⌝ }
+{
+    let d = digits_at(text, from, 10);
+    let end = d.end;
+    let n = end - from;
+    if n == 0 {
+        return Figure::Malformed;
     }
     if 9 < n {
+        return Figure::Malformed;
+    }
+    if runs::is_over(text, stop, end) {
+        return Figure::Thousandths(d.value * 1000, end);
+    }
+    if text[end] != b'.' {
+        return Figure::Malformed;
+    }
+    decimals_at(text, stop, d.value, end + 1)
+}
+
+// The number that a word is from `from` on: `from` is 1 behind a minus.
+fn number_from(w: &[u8], from: usize) -> Numeral
+    requires { ⌜ from ≤ length (now w) ⌝ }
+    ensures { λ r. ⌜ r ≡ numberFrom (drop from (now (w .entry))) ⌝ }
+{
+    let f = figure_at(w, b';', from);
+    let Figure::Thousandths(m, end) = f else {
+        return Numeral::Malformed;
+    };
+    if end < w.len() {
         return Numeral::Malformed;
     }
-    let whole = value(w, from, end);
-    if w.len() <= end {
-        return Numeral::Thousandths(whole * 1000);
-    }
-    if w[end] != b'.' {
-        return Numeral::Malformed;
-    }
-    fraction(w, whole, end)
+    Numeral::Thousandths(m)
 }
 
 fn signed_of(minus: bool, n: Numeral) -> Number

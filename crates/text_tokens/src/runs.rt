@@ -1,7 +1,7 @@
 // Where white space and comments end, where a run of bytes ends, and a part of the text with no copy.
 use text_words::bytes;
 ghost use mathlib.Core.Path.{_≡_};
-ghost use Rattle.text_tokens.specs.Runs.{gapStep, gapEnd, runEnd, part};
+ghost use Rattle.text_tokens.specs.Runs.{gapStep, gapEnd, runEnd, isOver, part};
 
 // How a byte goes on a gap between tokens: outside a comment, in one, or not at all.
 pub enum Gap {
@@ -60,6 +60,16 @@ pub fn run_end(text: &[u8], stop: u8, from: usize) -> usize
         at += 1;
     }
     at
+}
+
+// Whether no byte goes on a run at a place.
+pub fn is_over(text: &[u8], stop: u8, at: usize) -> bool
+    ensures { λ r. ⌜ r ≡ isOver (now (text .entry)) stop at ⌝ }
+{
+    if text.len() <= at {
+        return true;
+    }
+    !bytes::in_run(stop, text[at])
 }
 
 // The bytes of the text from a place to another, as far as there are any.

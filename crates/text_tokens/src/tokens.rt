@@ -2,6 +2,7 @@
 use crate::classes;
 use crate::classes::Class;
 use crate::numbers;
+use crate::numbers::Figure;
 use crate::numbers::Number;
 use crate::runs;
 use text_words::bytes;
@@ -9,10 +10,12 @@ use text_words::bytes::Kind;
 use text_words::fixed;
 use text_words::spelling;
 ghost use mathlib.Core.Path.{_≡_};
-ghost use lib.ListN.{length};
+ghost use mathlib.Core.Bool.{true};
+ghost use lib.ListN.{length, getD};
 ghost use Prim.Native.Nat.{_<_};
+ghost use Rattle.text_words.specs.Bytes.{kindOf, isDigit};
 ghost use Rattle.text_tokens.specs.Tokens.{sizedOf, numberToken, isPast, bracketOf, domainWord, wordOf, tokenAt, spotAt};
-ghost use Rattle.text_tokens.specs.Tokens.{judgedOf, strangeOf, planNumber, planWord, squareOf, planTokenAt};
+ghost use Rattle.text_tokens.specs.Tokens.{judgedOf, strangeOf, planNumber, planWord, squareOf, planRun, endOf, planTokenAt};
 
 pub enum Word {
     Name,
@@ -205,7 +208,30 @@ fn plan_bracket(b: u8, p: usize) -> Token
     Token::Mark(b, p, p + 1)
 }
 
+// What begins with a digit at p, summed as it is read.
+fn plan_figure(line: &[u8], p: usize) -> Token
+    requires { ⌜ (p < length (now line)) × (isDigit (kindOf (getD (now line) p 0)) ≡ true) ⌝ }
+    ensures { λ r. ⌜ r ≡ planRun (now (line .entry)) p (endOf (now (line .entry)) 58 p) ⌝ }
+{
+    let f = numbers::figure_at(line, b':', p);
+    let Figure::Thousandths(m, e) = f else {
+        return judged(runs::run_end(line, b':', p + 1), Token::Refusal(6, p));
+    };
+    let z = m as i64;
+    judged(e, Token::Number(z, p, e))
+}
+
+// Any run that begins at p.
+fn plan_run(line: &[u8], p: usize) -> Token
+    requires { ⌜ p < length (now line) ⌝ }
+    ensures { λ r. ⌜ r ≡ planRun (now (line .entry)) p (endOf (now (line .entry)) 58 p) ⌝ }
+{
+    let e = runs::run_end(line, b':', p + 1);
+    judged(e, plan_word(runs::part_of(line, p, e), p, e))
+}
+
 // The first token at or after `from` of a plan line. Of a line that is too long, the first 257 bytes are enough.
+// Numbers and names are read once, to the run's end; any other run is a refusal, and is read again to tell which.
 pub fn plan_token_at(line: &[u8], from: usize) -> Token
     ensures { λ r. ⌜ r ≡ planTokenAt (now (line .entry)) from ⌝ }
 {
@@ -218,11 +244,16 @@ pub fn plan_token_at(line: &[u8], from: usize) -> Token
         return judged(p + 1, Token::Mark(b':', p, p + 1));
     }
     match bytes::kind_of(b) {
-        Kind::Refused => judged(p + 1, Token::Refusal(2, p)),
-        Kind::Bracket => judged(p + 1, plan_bracket(b, p)),
-        Kind::Digit | Kind::Letter | Kind::White | Kind::Mark => {
-            let e = runs::run_end(line, b':', p + 1);
-            judged(e, plan_word(runs::part_of(line, p, e), p, e))
+        Kind::Digit => return plan_figure(line, p),
+        Kind::Letter => {
+            let e = spelling::name_end(line, p + 1);
+            if runs::is_over(line, b':', e) {
+                return judged(e, sized(Word::Name, 32, e - p, p, e));
+            }
         }
+        Kind::Refused => return judged(p + 1, Token::Refusal(2, p)),
+        Kind::Bracket => return judged(p + 1, plan_bracket(b, p)),
+        Kind::White | Kind::Mark => {}
     }
+    plan_run(line, p)
 }

@@ -12,7 +12,7 @@ use lib.Seq.{drop-drop, getD-drop}
 use borrow.Author.Tests.{eq-eqb, ne-eqb, lt-ltb, le-ltb, le-leb, lt-leb}
 use Rattle.base_laws.proofs.Lists.{at-cons, take-min}
 use Rattle.text_words.specs.Bytes.{lowerOf, kindOf, isLetter}
-use Rattle.text_words.specs.Spelling.{sameWord, nameByte, nameBytes, isName, placeFrom, unspaced, spaceFrom, onto, wordsOf, wordIn, picked}
+use Rattle.text_words.specs.Spelling.{sameWord, nameBytes, isName, placeFrom, unspaced, spaceFrom, onto, wordsOf, wordIn, picked}
 use Rattle.text_words.specs.Names.{nameOf, namesOf}
 use Rattle.text_words.specs.declared.spelling.Place.{Place}
 use Rattle.text_words.specs.declared.spelling.Place.the-variants.{At, Nothing}
@@ -58,14 +58,6 @@ module _ (a b : List ℕ) (i : ℕ) (some : 0 < i) (h : i ≤ length a) (k : i �
   other-before q = same-differ a b (i - 1) (before ∙ simp (ne-eqb _ _ q))
 
 -- ---- names
-
-pub name-step : (w : List ℕ) (i : ℕ) → i < length w → nameBytes (drop i w) ≡ (nameByte (getD w i 0) && nameBytes (drop (i + 1) w))
-unfolding nameBytes
-name-step w i h = ap (λ (l : List ℕ). nameBytes l) (at-cons w i h)
-
-pub name-end : (w : List ℕ) (i : ℕ) → length w ≤ i → nameBytes (drop i w) ≡ true
-unfolding nameBytes
-name-end w i h = ap (λ (l : List ℕ). nameBytes l) (drop-of-length-le w h)
 
 pub name-none : (w : List ℕ) (i : ℕ) → length w ≤ i → isName (drop i w) ≡ false
 unfolding isName

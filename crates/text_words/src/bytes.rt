@@ -27,11 +27,10 @@ pub fn kind_of(b: u8) -> Kind
 pub fn is_digit(b: u8) -> bool
     ensures { λ r. ⌜ r ≡ isDigit (kindOf b) ⌝ }
 {
-    if let Kind::Digit = kind_of(b) {
-        true
-    } else {
-        false
+    if b < b'0' {
+        return false;
     }
+    b <= b'9'
 }
 
 pub fn is_white(b: u8) -> bool

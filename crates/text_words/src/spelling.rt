@@ -4,7 +4,8 @@ use crate::bytes::Kind;
 ghost use mathlib.Core.Path.{_≡_};
 ghost use Prim.Native.Nat.{_+_, _≤_};
 ghost use lib.ListN.{length, drop};
-ghost use Rattle.text_words.specs.Spelling.{sameWord, nameByte, nameBytes, isName, spaceFrom, wordIn, isAt};
+ghost use Rattle.text_words.specs.Bytes.{between};
+ghost use Rattle.text_words.specs.Spelling.{sameWord, nameByte, nameEnd, isName, spaceFrom, wordIn, isAt};
 
 // Where a word was found.
 pub enum Place {
@@ -39,10 +40,25 @@ pub fn same_word(a: &[u8], b: &[u8]) -> bool
     true
 }
 
-// Whether a byte may stand in a name, behind its first letter.
+fn is_small(b: u8) -> bool
+    ensures { λ r. ⌜ r ≡ between 97 b 122 ⌝ }
+{
+    if b < b'a' {
+        return false;
+    }
+    b <= b'z'
+}
+
+// Whether a byte may stand in a name, behind its first letter. Most are small letters or digits: these are tested first.
 fn is_name_byte(b: u8) -> bool
     ensures { λ r. ⌜ r ≡ nameByte b ⌝ }
 {
+    if is_small(b) {
+        return true;
+    }
+    if bytes::is_digit(b) {
+        return true;
+    }
     match bytes::kind_of(b) {
         Kind::Digit => true,
         Kind::Letter => true,
@@ -53,18 +69,18 @@ fn is_name_byte(b: u8) -> bool
     }
 }
 
-// Whether all bytes from `from` on may stand in a name.
-fn all_name_bytes(w: &[u8], from: usize) -> bool
-    ensures { λ r. ⌜ r ≡ nameBytes (drop from (now (w .entry))) ⌝ }
+// The end of the bytes from `from` on that may stand in a name.
+pub fn name_end(w: &[u8], from: usize) -> usize
+    ensures { λ r. ⌜ r ≡ nameEnd (now (w .entry)) from ⌝ }
 {
     let mut at = from;
     while at < w.len() {
         if !is_name_byte(w[at]) {
-            return false;
+            return at;
         }
         at += 1;
     }
-    true
+    at
 }
 
 // Whether the bytes from `from` on are a name: `from` is 1 behind the mark of a variable or a keyword.
@@ -77,7 +93,7 @@ pub fn is_name(w: &[u8], from: usize) -> bool
     let Kind::Letter = bytes::kind_of(w[from]) else {
         return false;
     };
-    all_name_bytes(w, from + 1)
+    w.len() <= name_end(w, from + 1)
 }
 
 // The place of the first space at or after `from`, or the list's end.

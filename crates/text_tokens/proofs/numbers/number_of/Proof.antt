@@ -1,4 +1,6 @@
 -- `text_tokens::numbers::number_of` meets its contract. Assumes nothing.
+use native.Mathlib.Omega.{arith}
+use Rattle.text_tokens.proofs.Begun.{begun-length}
 use mathlib.Core.Path.{sym, _∙_}
 use Prim.Native.Nat.{_-_}
 use denote.Ref.{now}
@@ -13,7 +15,7 @@ begins-with-requires : tie.Need-begins-with-requires
 begins-with-requires c κs = search needs
 
 number-from-requires : tie.Need-number-from-requires
-number-from-requires c κs = search needs
+number-from-requires c κs = omega (arith, begun-length 45 (now (c .before .before .before .args .w)) (sym (c .before .begins-with .ensures) ∙ c .if1 .taken))
 
 signed-of-requires : tie.Need-signed-of-requires
 signed-of-requires c κs = rw (c .number-from .ensures) (number-small (drop 1 (now (c .before .before .before .before .args .w))))

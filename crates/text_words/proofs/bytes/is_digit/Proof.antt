@@ -1,22 +1,14 @@
--- `text_words::bytes::is_digit` meets its contract. Assumes nothing.
-use mathlib.Core.Path.{sym, _∙_}
-use Rattle.text_words.specs.Bytes.{kindOf}
-use Rattle.text_words.proofs.Others.{not-digit}
-use borrow.Author.Needs.{needs}
+use mathlib.Core.Path.{sym}
+use native.Mathlib.Omega.{arith}
+use Rattle.text_words.proofs.Named.{digit-below, digit-from}
 use Rattle.text_words.proofs.bytes.is_digit.Statement.{statement}
 use Rattle.text_words.proofs.bytes.is_digit.Tie as tie
 
-kind-of-requires : tie.Need-kind-of-requires
-kind-of-requires c κs = search needs
-
-enum-told : tie.Need-enum-told
-enum-told c = search needs
-
 returns : tie.Need-returns
-returns c = simp (sym (c .before .before .kind-of .ensures) ∙ c .enum-told .given .1)
+returns c = sym (digit-below _ (c .if1 .taken))
 
 returns-2 : tie.Need-returns-2
-returns-2 c = sym (not-digit (kindOf _) (rw (c .before .kind-of .ensures) at (c .match .keys2)))
+returns-2 c = digit-from _ (c .if1 .left) (omega arith)
 
 pub is-digit-spec : {M : Type 1} → statement M
-is-digit-spec = tie.close (tie.spec kind-of-requires enum-told returns returns-2)
+is-digit-spec = tie.close (tie.spec returns returns-2)
