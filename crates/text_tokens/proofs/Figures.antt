@@ -14,8 +14,10 @@ use Rattle.base_laws.proofs.Numerals.{ten-to}
 use Rattle.text_words.specs.Bytes.{bytes, kindOf, isDigit, isWordly, inRun}
 use Rattle.text_words.specs.declared.bytes.Kind.{Kind}
 use Rattle.text_words.specs.declared.bytes.Kind.the-variants as K
-use Rattle.text_tokens.specs.Runs.{part, run, runEnd, isOver}
-use Rattle.text_tokens.specs.Numbers.{leading, digitsEnd, decimal, scaleOf, fractionOf, restOf, numberFrom, withEnd, decimalsAt, figureAt}
+use Rattle.text_tokens.specs.Runs.{part, run, runEnd}
+use Rattle.text_tokens.specs.Figures.{isOver}
+use Rattle.text_tokens.specs.Numbers.{leading, digitsEnd, decimal, scaleOf, fractionOf, restOf, numberFrom}
+use Rattle.text_tokens.specs.Figures.{withEnd, decimalsAt, figureAt}
 use Rattle.text_tokens.specs.declared.numbers.Numeral.{Numeral}
 use Rattle.text_tokens.specs.declared.numbers.Numeral.the-variants as N
 use Rattle.text_tokens.specs.declared.numbers.Figure.{Figure}

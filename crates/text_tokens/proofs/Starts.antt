@@ -9,12 +9,15 @@ use lib.ListN.{length, getD, take, drop}
 use lib.Seq.{drop-drop}
 use borrow.Author.Tests.{ne-eqb}
 use Rattle.text_words.specs.Bytes.{bytes, kindOf, isDigit, isLetter, isWordly, inRun}
-use Rattle.text_words.specs.Spelling.{inName, nameByte, nameBytes, isName, named, nameEnd}
+use Rattle.text_words.specs.Spelling.{inName, nameByte, nameBytes, isName}
+use Rattle.text_words.specs.NameEnds.{named, nameEnd}
 use Rattle.text_words.specs.declared.bytes.Kind.{Kind}
 use Rattle.text_words.specs.declared.bytes.Kind.the-variants as K
-use Rattle.text_tokens.specs.Runs.{part, run, runEnd, isOver}
+use Rattle.text_tokens.specs.Runs.{part, run, runEnd}
+use Rattle.text_tokens.specs.Figures.{isOver}
 use Rattle.text_tokens.specs.Classes.{beginsNumber, classOf}
-use Rattle.text_tokens.specs.Numbers.{numberFrom, withSign, numberOf, figureAt}
+use Rattle.text_tokens.specs.Numbers.{numberFrom, withSign, numberOf}
+use Rattle.text_tokens.specs.Figures.{figureAt}
 use Rattle.text_tokens.specs.Tokens.{sizedOf, asToken, numberToken, judgedOf, planNumber, planWord, planRun, endOf}
 use Rattle.text_tokens.specs.declared.numbers.Numeral.{Numeral}
 use Rattle.text_tokens.specs.declared.numbers.Numeral.the-variants as N

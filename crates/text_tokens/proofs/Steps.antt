@@ -11,7 +11,8 @@ use lib.Seq.{take-all, take-nil}
 use borrow.Author.Tests.{eq-eqb, ne-eqb, eqb-true}
 use Rattle.base_laws.proofs.Lists.{at-cons}
 use Rattle.text_words.specs.Bytes.{kindOf, isDigit, inRun}
-use Rattle.text_tokens.specs.Runs.{gapStep, onGap, gap, gapEnd, run, runEnd, isOver, part}
+use Rattle.text_tokens.specs.Runs.{gapStep, onGap, gap, gapEnd, run, runEnd, part}
+use Rattle.text_tokens.specs.Figures.{isOver}
 use Rattle.text_tokens.specs.Numbers.{leading, digitsEnd}
 use Rattle.text_tokens.specs.declared.runs.Gap.{Gap}
 use Rattle.text_tokens.specs.declared.runs.Gap.the-variants as G

@@ -3,3 +3,4 @@ pub mod Runs
 pub mod Numbers
 pub mod Classes
 pub mod Tokens
+pub mod Figures

@@ -11,10 +11,7 @@ use Rattle.text_tokens.specs.declared.numbers.Numeral.{Numeral}
 use Rattle.text_tokens.specs.declared.numbers.Numeral.the-variants as N
 use Rattle.text_tokens.specs.declared.numbers.Number.{Number}
 use Rattle.text_tokens.specs.declared.numbers.Number.the-variants.{Thousandths, Malformed}
-use Rattle.text_tokens.specs.declared.numbers.Figure.{Figure}
-use Rattle.text_tokens.specs.declared.numbers.Figure.the-variants as F
 use Rattle.text_tokens.specs.Classes.{begunBy}
-use Rattle.text_tokens.specs.Runs.{part, runEnd}
 
 -- how many digits stand at the front
 unfoldable pub leading : List ℕ → ℕ
@@ -66,17 +63,3 @@ withSign minus N.Malformed = Malformed
 
 unfoldable pub numberOf : List ℕ → Number
 numberOf w = cond (begunBy (code "-") w) (withSign true (numberFrom (drop 1 w))) (withSign false (numberFrom w))
-
--- ---- a number that was read in a text, with the place where it ends
-
-abbrev pub withEnd : Numeral → ℕ → Figure
-withEnd (N.Thousandths m) e = F.Thousandths m e
-withEnd N.Malformed e = F.Malformed
-
--- behind a whole part and its point, to the end of the run at p
-unfoldable pub decimalsAt : List ℕ → ℕ → ℕ → ℕ → Figure
-decimalsAt s stop whole p = withEnd (fractionOf whole (part s p (runEnd s stop p))) (runEnd s stop p)
-
--- the run at p as a number
-unfoldable pub figureAt : List ℕ → ℕ → ℕ → Figure
-figureAt s stop p = withEnd (numberFrom (part s p (runEnd s stop p))) (runEnd s stop p)

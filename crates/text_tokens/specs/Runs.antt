@@ -38,7 +38,3 @@ run stop (b ∷ bs) = cond (inRun stop b) (suc (run stop bs)) 0
 
 unfoldable pub runEnd : List ℕ → ℕ → ℕ → ℕ
 runEnd s stop p = p + run stop (drop p s)
-
--- whether the run has its end at p
-unfoldable pub isOver : List ℕ → ℕ → ℕ → Bool
-isOver s stop p = eqb (runEnd s stop p) p

@@ -5,7 +5,8 @@ use text_words::bytes;
 ghost use mathlib.Core.Path.{_≡_};
 ghost use Prim.Native.Nat.{_+_, _-_, _≤_, _<_, min};
 ghost use lib.ListN.{length, drop};
-ghost use Rattle.text_tokens.specs.Numbers.{digitsEnd, decimal, scaleOf, decimalsAt, figureAt, numberFrom, Small, withSign, numberOf};
+ghost use Rattle.text_tokens.specs.Numbers.{digitsEnd, decimal, scaleOf, numberFrom, Small, withSign, numberOf};
+ghost use Rattle.text_tokens.specs.Figures.{decimalsAt, figureAt};
 ghost use Rattle.text_tokens.specs.Runs.{part};
 
 // A number without its sign, and with it.

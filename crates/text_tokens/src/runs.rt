@@ -1,7 +1,8 @@
 // Where white space and comments end, where a run of bytes ends, and a part of the text with no copy.
 use text_words::bytes;
 ghost use mathlib.Core.Path.{_≡_};
-ghost use Rattle.text_tokens.specs.Runs.{gapStep, gapEnd, runEnd, isOver, part};
+ghost use Rattle.text_tokens.specs.Runs.{gapStep, gapEnd, runEnd, part};
+ghost use Rattle.text_tokens.specs.Figures.{isOver};
 
 // How a byte goes on a gap between tokens: outside a comment, in one, or not at all.
 pub enum Gap {

@@ -12,7 +12,8 @@ use borrow.Author.Tests.{le-leb, lt-leb, leb-true}
 use Rattle.base_laws.proofs.Splits.{and-left, and-right}
 use Rattle.base_laws.proofs.Lists.{at-cons}
 use Rattle.text_words.specs.Bytes.{kindOf, isDigit, bytes, between}
-use Rattle.text_words.specs.Spelling.{inName, nameByte, nameBytes, named, nameEnd}
+use Rattle.text_words.specs.Spelling.{inName, nameByte, nameBytes}
+use Rattle.text_words.specs.NameEnds.{named, nameEnd}
 use Rattle.text_words.specs.declared.bytes.Kind.{Kind}
 use Rattle.text_words.specs.declared.bytes.Kind.the-variants as K
 use Rattle.text_words.proofs.Ranges.{holds-at, kind-at}

@@ -3,3 +3,4 @@ pub mod Bytes
 pub mod Spelling
 pub mod Fixed
 pub mod Names
+pub mod NameEnds

@@ -35,14 +35,6 @@ unfoldable pub nameBytes : List ℕ → Bool
 nameBytes [] = true
 nameBytes (b ∷ bs) = nameByte b && nameBytes bs
 
--- how many bytes that may stand in a name are at the front
-unfoldable pub named : List ℕ → ℕ
-named [] = 0
-named (b ∷ bs) = cond (nameByte b) (suc (named bs)) 0
-
-unfoldable pub nameEnd : List ℕ → ℕ → ℕ
-nameEnd w p = p + named (drop p w)
-
 unfoldable pub isName : List ℕ → Bool
 isName [] = false
 isName (b ∷ bs) = isLetter (kindOf b) && nameBytes bs

@@ -5,7 +5,8 @@ ghost use mathlib.Core.Path.{_≡_};
 ghost use Prim.Native.Nat.{_+_, _≤_};
 ghost use lib.ListN.{length, drop};
 ghost use Rattle.text_words.specs.Bytes.{between};
-ghost use Rattle.text_words.specs.Spelling.{sameWord, nameByte, nameEnd, isName, spaceFrom, wordIn, isAt};
+ghost use Rattle.text_words.specs.Spelling.{sameWord, nameByte, isName, spaceFrom, wordIn, isAt};
+ghost use Rattle.text_words.specs.NameEnds.{nameEnd};
 
 // Where a word was found.
 pub enum Place {

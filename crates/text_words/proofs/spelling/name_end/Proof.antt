@@ -4,7 +4,7 @@ use native.Mathlib.Omega.{arith}
 use denote.Ref.{now}
 use lib.ListN.{length}
 use borrow.Author.Tests.{not-true, not-false}
-use Rattle.text_words.specs.Spelling.{nameEnd}
+use Rattle.text_words.specs.NameEnds.{nameEnd}
 use Rattle.text_words.proofs.Named.{named-over, named-more, named-ends}
 use Rattle.text_words.proofs.spelling.name_end.Statement.{statement}
 use Rattle.text_words.proofs.spelling.name_end.Tie as tie
