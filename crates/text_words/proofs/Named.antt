@@ -95,7 +95,8 @@ named-whole (b ∷ bs) = go (nameByte b) (named-whole bs)
 pub named-from : (w : List ℕ) (p : ℕ) → p ≤ length w → nameBytes (drop p w) ≡ leb (length w) (nameEnd w p)
 unfolding nameEnd
 named-from w p h = elim (decLe (length w) (p + named (drop p w))) [
-  | yes k ↦ named-whole (drop p w) ∙ le-leb (length (drop p w)) (named (drop p w)) (simp length-drop (omega arith)) ∙ sym (le-leb (length w) (p + named (drop p w)) k)
+  | yes k ↦ named-whole (drop p w) ∙ le-leb (length (drop p w)) (named (drop p w)) (simp length-drop (omega arith))
+      ∙ sym (le-leb (length w) (p + named (drop p w)) k)
   | no k ↦ named-whole (drop p w) ∙ lt-leb (length (drop p w)) (named (drop p w)) (simp length-drop (omega arith))
       ∙ sym (lt-leb (length w) (p + named (drop p w)) (omega arith))
 ]
