@@ -1,0 +1,87 @@
+-- What the writers of rows promise: bytes stored one after the other, and how far they may go and have gone. A store past the end of the rows stores
+-- nothing, so none asks for room in them; what is asked is that the places are numbers that the machine has.
+use mathlib.Core.Path.{_≡_}
+use Prim.Native.Nat.{ℕ, _+_, _*_, _≤_}
+use mathlib.Core.List.{List, [], _∷_, _++_}
+use mathlib.Core.Bool.{Bool, cond}
+use lib.ListN.{length, getD, take, drop}
+use lib.Seq.{sets}
+use Rattle.domain_meaning.specs.Terms.{Arg, object, variable, Ref, Expr}
+use Rattle.domain_meaning.specs.Conditions.{Cond, Conds}
+use Rattle.domain_meaning.specs.Effects.{Effect}
+use Rattle.domain_meaning.specs.Actions.{Lasting}
+use Rattle.domain_prepared_meaning.specs.Preparing.{singles, singlesOf}
+use Rattle.domain_prepared_meaning.specs.Rows.{formBytes, exprBytes, testBytes, effectBytes, testsBytes, effectsBytes, lastsBytes}
+
+-- bytes were stored from `used` on, and u is the first place behind them
+pub record Stored (rows : List ℕ) (used : ℕ) (bytes rows′ : List ℕ) (u : ℕ) : Type 0 where
+  pub are : rows′ ≡ sets rows used bytes
+  pub free : u ≡ used + length bytes
+
+-- ---- how far: of n cells, those from `at` on are still to be read. A row has at most six bytes for each of its cells, and what is read last may
+-- reach past the end, by at most 8
+
+pub record Room (n at used : ℕ) : Type 0 where
+  pub near : at ≤ n + 8
+  pub left : used + 6 * (n + 10) ≤ 18446744073709551615 + 6 * at
+
+-- cells were read up to `next`, and for them bytes written up to `free`: at most six for each, and so many more
+pub record Spent (more n at used next free : ℕ) : Type 0 where
+  pub near : next ≤ n + 8
+  pub few : free + 6 * at ≤ used + 6 * next + more
+
+-- ---- the numbers by which references become forms: 32 first indexes of predicates, 16 of functions, the number of objects
+
+abbrev pub countIn : List ℕ → ℕ
+countIn firsts = getD firsts 48 0
+
+abbrev pub predicatesIn : List ℕ → List ℕ
+predicatesIn firsts = take 32 firsts
+
+abbrev pub functionsIn : List ℕ → List ℕ
+functionsIn firsts = take 16 (drop 32 firsts)
+
+abbrev pub firstsIn : Bool → List ℕ → List ℕ
+firstsIn numeric firsts = cond numeric (functionsIn firsts) (predicatesIn firsts)
+
+-- ---- lists of bytes without the 0 at their end
+
+module _ (n : ℕ) (ps fs : List ℕ) where
+  unfoldable pub openTests : List Cond → List ℕ
+  openTests [] = []
+  openTests (c ∷ cs) = testBytes n ps fs c ++ openTests cs
+
+  unfoldable pub openEffects : List Effect → List ℕ
+  openEffects [] = []
+  openEffects (e ∷ es) = effectBytes n ps fs e ++ openEffects es
+
+-- ---- the bytes of each, by the first indexes
+
+module _ (firsts : List ℕ) where
+  abbrev pub formIn : ℕ → Bool → Ref → List ℕ
+  formIn tag numeric r = formBytes (countIn firsts) (predicatesIn firsts) (functionsIn firsts) tag (firstsIn numeric firsts) r
+
+  abbrev pub exprIn : Expr → List ℕ
+  exprIn e = exprBytes (countIn firsts) (predicatesIn firsts) (functionsIn firsts) e
+
+  abbrev pub condIn : Cond → List ℕ
+  condIn c = openTests (countIn firsts) (predicatesIn firsts) (functionsIn firsts) (singles c)
+
+  abbrev pub condsIn : Conds → List ℕ
+  condsIn cs = openTests (countIn firsts) (predicatesIn firsts) (functionsIn firsts) (singlesOf cs)
+
+  abbrev pub effectIn : Effect → List ℕ
+  effectIn e = effectBytes (countIn firsts) (predicatesIn firsts) (functionsIn firsts) e
+
+  abbrev pub effectsIn : List Effect → List ℕ
+  effectsIn es = openEffects (countIn firsts) (predicatesIn firsts) (functionsIn firsts) es
+
+-- ---- an argument of a reference: what it adds to the base, and its byte if it is a parameter, with m arguments after it
+
+abbrev pub fixedOf : Arg → ℕ
+fixedOf (object i) = i
+fixedOf (variable i) = 0
+
+abbrev pub shareOf : ℕ → Arg → List ℕ
+shareOf m (object i) = []
+shareOf m (variable i) = (i + 4 * m) ∷ []

@@ -1,0 +1,4 @@
+// What load has read, prepared for running: from the cells of the actions and of the goal to rows.
+pub mod cells;
+pub mod forms;
+pub mod numbers;
