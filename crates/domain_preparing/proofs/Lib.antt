@@ -3,3 +3,5 @@ pub mod Reading
 pub mod Storing
 pub mod Folding
 pub mod Numerals
+pub mod Shapes
+pub mod Expressing

@@ -10,6 +10,7 @@ use Rattle.domain_meaning.specs.Terms.{Arg, object, variable, Ref, Expr}
 use Rattle.domain_meaning.specs.Conditions.{Cond, Conds}
 use Rattle.domain_meaning.specs.Effects.{Effect}
 use Rattle.domain_meaning.specs.Actions.{Lasting}
+use Rattle.domain_stored_meaning.specs.Decode.{Decoded}
 use Rattle.domain_prepared_meaning.specs.Preparing.{singles, singlesOf}
 use Rattle.domain_prepared_meaning.specs.Rows.{formBytes, exprBytes, testBytes, effectBytes, testsBytes, effectsBytes, lastsBytes}
 
@@ -17,6 +18,11 @@ use Rattle.domain_prepared_meaning.specs.Rows.{formBytes, exprBytes, testBytes,
 pub record Stored (rows : List ℕ) (used : ℕ) (bytes rows′ : List ℕ) (u : ℕ) : Type 0 where
   pub are : rows′ ≡ sets rows used bytes
   pub free : u ≡ used + length bytes
+
+-- what was read is d: its bytes were stored, and the place after it is answered with the first free place
+pub record Copies {A : Type 0} (bytes : A → List ℕ) (rows : List ℕ) (used : ℕ) (d : Decoded A) (rows′ : List ℕ) (next free : ℕ) : Type 0 where
+  pub stored : Stored rows used (bytes (d .tree)) rows′ free
+  pub ends : next ≡ d .next
 
 -- ---- how far: of n cells, those from `at` on are still to be read. A row has at most six bytes for each of its cells, and what is read last may
 -- reach past the end, by at most 8
