@@ -5,3 +5,6 @@ pub mod Folding
 pub mod Numerals
 pub mod Shapes
 pub mod Expressing
+pub mod Groups
+pub mod Walking
+pub mod Testing

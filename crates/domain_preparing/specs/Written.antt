@@ -91,3 +91,8 @@ fixedOf (variable i) = 0
 abbrev pub shareOf : ℕ → Arg → List ℕ
 shareOf m (object i) = []
 shareOf m (variable i) = (i + 4 * m) ∷ []
+
+-- what stands in several parts, one after the other
+unfoldable pub allOf : {A : Type 0} → (A → List ℕ) → List A → List ℕ
+allOf bytes [] = []
+allOf bytes (x ∷ xs) = bytes x ++ allOf bytes xs

@@ -1,6 +1,7 @@
 // Expressions: copied in their order, every function by its form, every number in its shortest cells.
 use crate::cells;
 use crate::forms;
+use crate::forms::Copied;
 use crate::numbers;
 ghost use mathlib.Core.Path.{_≡_};
 ghost use Prim.Native.Nat.{_+_, _≤_, _<_};
@@ -9,12 +10,6 @@ ghost use lib.IntN.{pos};
 ghost use Rattle.domain_literals.specs.Literal.{numberCells};
 ghost use Rattle.domain_stored_meaning.specs.Decode.{leafAt, exprAt};
 ghost use Rattle.domain_preparing.specs.Written.{Stored, Copies, Room, Spent, exprIn};
-
-// The place after what was read, and the first place that is free.
-pub struct Copied {
-    pub next: usize,
-    pub free: usize,
-}
 
 // The number 0, where cells give none.
 fn put_zero(rows: &mut [u8], used: usize, next: usize) -> Copied

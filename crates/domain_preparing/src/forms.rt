@@ -2,12 +2,19 @@
 use crate::cells;
 ghost use mathlib.Core.Path.{_≡_};
 ghost use Prim.Native.Nat.{_+_, _*_, _≤_, _<_};
+ghost use mathlib.Core.Bool.{false};
 ghost use lib.ListN.{length};
 ghost use lib.Seq.{sets};
 ghost use Rattle.domain_stored_meaning.specs.Decode.{argOf, argsAt, refAt};
 ghost use Rattle.domain_prepared_meaning.specs.Forms.{folded};
 ghost use Rattle.domain_prepared_meaning.specs.Rows.{twoBytes, shareBytes};
 ghost use Rattle.domain_preparing.specs.Written.{Stored, fixedOf, shareOf, formIn};
+
+// The place after what was read, and the first place that is free.
+pub struct Copied {
+    pub next: usize,
+    pub free: usize,
+}
 
 // Two bytes, the lower first.
 pub fn put_word(rows: &mut [u8], at: usize, x: usize)
@@ -102,4 +109,25 @@ pub fn put_form<'a>(
     domain_literals::put(rows, used, tag + (end - (used + 3)));
     put_word(rows, used + 1, base);
     end
+}
+
+// The fact whose first cell is at a place, as it is written or under `not`, or as an effect.
+pub fn put_fact<'a>(
+    code: &'a [u8],
+    firsts: &'a [u16],
+    at: usize,
+    tag: usize,
+    k: usize,
+    rows: &mut [u8],
+    used: usize,
+) -> Copied
+    requires { ⌜ (at < length (now code)) × (k ≤ 3) × (tag ≤ 252) × (used < 18446744073709551609) ⌝ }
+    ensures { λ r. ⌜ Stored (now (rows .entry)) used (formIn (now (firsts .entry)) tag false (refAt (now (code .entry)) (at + 1) k)) (now (rows .exit)) (r .free)
+        × (r .next ≡ at + 2 + k) × (r .free ≤ used + 3 + k) ⌝ }
+{
+    let free = put_form(code, firsts, false, tag, at + 1, k, rows, used);
+    Copied {
+        next: at + 2 + k,
+        free,
+    }
 }

@@ -3,7 +3,7 @@ use native.Mathlib.Omega.{arith}
 use borrow.Author.Needs.{needs}
 use Rattle.domain_preparing.proofs.Shapes.{expr-none, expr-past, expr-leaf}
 use Rattle.domain_preparing.proofs.Expressing.{copies-zero, copies-as, copies-minus, copies-two}
-use Prim.Native.Nat.{ℕ}
+use Prim.Native.Nat.{ℕ, _<_}
 use borrow.Fn.Kinds.{In}
 use borrow.Fn.PlainCycle.{Measures, is, falls, and}
 use Rattle.domain_preparing.proofs.expressions.put_expr.Reads as put-expr
