@@ -8,3 +8,5 @@ pub mod Expressing
 pub mod Groups
 pub mod Walking
 pub mod Testing
+pub mod Parting
+pub mod Effecting

@@ -119,12 +119,18 @@ module _ (n : ℕ) (ps fs : List ℕ) where
 
   -- ---- those of several parts, and the 0 behind them
 
-  pub open-parts : (cs : List Cond) → allOf bytes cs ≡ openTests n ps fs (allSingles cs)
+  open-parts : (cs : List Cond) → allOf bytes cs ≡ openTests n ps fs (allSingles cs)
   unfolding allOf openTests allSingles
   open-parts [] = refl
   open-parts (c ∷ cs) = ap (λ (zs : List ℕ). bytes c ++ zs) (open-parts cs) ∙ sym (open-join (singles c) (allSingles cs))
 
-  pub tests-closed : (cs : List Cond) → openTests n ps fs cs ++ 0 ∷ [] ≡ testsBytes n ps fs cs
+  tests-closed : (cs : List Cond) → openTests n ps fs cs ++ 0 ∷ [] ≡ testsBytes n ps fs cs
   unfolding openTests testsBytes
   tests-closed [] = refl
   tests-closed (c ∷ cs) = append-assoc (testBytes n ps fs c) _ _ ∙ ap (λ (zs : List ℕ). testBytes n ps fs c ++ zs) (tests-closed cs)
+
+  pub tests-stored : (cs : List Cond) (l : List ℕ) (u : ℕ) {l′ l″ : List ℕ} {v : ℕ} → Stored l u (allOf bytes cs) l′ v → l″ ≡ set l′ v 0
+      → Stored l u (testsBytes n ps fs (allSingles cs)) l″ (v + 1)
+  tests-stored cs l u {l′} {v = v} s e =
+      stored-as l u (ap (λ (zs : List ℕ). zs ++ 0 ∷ []) (open-parts cs) ∙ tests-closed (allSingles cs))
+      (stored-then l u (allOf bytes cs) s (stored-one l′ v 0 e))

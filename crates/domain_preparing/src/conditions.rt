@@ -157,3 +157,62 @@ fn put_conds<'a>(
         free: u,
     }
 }
+
+// The single conditions for a time, among the parts from a place on: the first place behind them. A part for another time is copied past the
+// end of the rows, where nothing is stored.
+fn put_parts<'a>(
+    code: &'a [u8],
+    firsts: &'a [u16],
+    at: usize,
+    time: usize,
+    rows: &mut [u8],
+    used: usize,
+) -> usize
+    requires { ⌜ (length (now code) ≤ 32768) × (length (now rows) ≤ 1000000000) × (used ≤ 1000000000) ⌝ }
+    ensures { λ r. ⌜ Stored (now (rows .entry)) used
+        (allOf (condIn (now (firsts .entry))) (partsAt (whenOf time) (conditionsAt (now (code .entry)) at .tree))) (now (rows .exit)) r
+        × (r ≤ used + 196656) ⌝ }
+{
+    let mut i = at;
+    let mut u = used;
+    let mut left = code.len();
+    while 0 < left {
+        if code.len() <= i {
+            return u;
+        }
+        let tag = cells::cell(code, i);
+        if tag == 0 {
+            return u;
+        }
+        left -= 1;
+        if cells::is_at(tag, time) {
+            let c = put_cond(code, firsts, i + 1, 16, rows, u);
+            i = c.next;
+            u = c.free;
+            continue;
+        }
+        let far = rows.len();
+        let p = put_cond(code, firsts, i + 1, 16, rows, far);
+        i = p.next;
+    }
+    u
+}
+
+// The list of the single conditions for a time: 1 at the start, 2 over all, else at the end.
+pub fn put_tests<'a>(
+    code: &'a [u8],
+    firsts: &'a [u16],
+    at: usize,
+    time: usize,
+    rows: &mut [u8],
+    used: usize,
+) -> usize
+    requires { ⌜ (length (now code) ≤ 32768) × (length (now rows) ≤ 1000000000) × (used ≤ 1000000000) ⌝ }
+    ensures { λ r. ⌜ Stored (now (rows .entry)) used (testsBytes (countIn (now (firsts .entry))) (predicatesIn (now (firsts .entry)))
+        (functionsIn (now (firsts .entry))) (allSingles (partsAt (whenOf time) (conditionsAt (now (code .entry)) at .tree)))) (now (rows .exit)) r
+        × (r ≤ used + 200000) ⌝ }
+{
+    let u = put_parts(code, firsts, at, time, rows, used);
+    domain_literals::put(rows, u, 0);
+    u + 1
+}
