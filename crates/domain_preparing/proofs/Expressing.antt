@@ -58,7 +58,7 @@ module _ (m : ℕ) (ps fs code : List ℕ) (at d : ℕ) {tag : ℕ} (n : d ≡ 0
     unfolding exprBytes
     copies-two z k b = elim (ℕ-discrete tag 1) [
       | yes w ↦ rw (expr-less code at d n h g w)
-        (record { stored = rw (← a .ends) (rw w at (two-stored b)); ends = rw (← a .ends) (b .ends) })
+          (record { stored = rw (← a .ends) (rw w at (two-stored b)); ends = rw (← a .ends) (b .ends) })
       | no w ↦ let v : tag ≡ 2 = omega arith in rw (expr-plus code at d n h g v)
-        (record { stored = rw (← a .ends) (rw v at (two-stored b)); ends = rw (← a .ends) (b .ends) })
+          (record { stored = rw (← a .ends) (rw v at (two-stored b)); ends = rw (← a .ends) (b .ends) })
     ]

@@ -10,3 +10,5 @@ pub mod Walking
 pub mod Testing
 pub mod Parting
 pub mod Effecting
+pub mod Acting
+pub mod Examples

@@ -8,6 +8,7 @@ use native.Mathlib.Decide.{decLe}
 use native.Mathlib.Numerals.{add-one}
 use lib.Dec.{ltb, eqb}
 use lib.ListN.{length, set}
+use lib.Seq.{sets}
 use borrow.Author.Tests.{lt-ltb, le-ltb, eq-eqb, ne-eqb}
 use Rattle.domain_meaning.specs.Terms.{Ref, Expr}
 use Rattle.domain_meaning.specs.Conditions.{Cond, Conds, all, atom, same, compare, none, cons}
@@ -134,3 +135,8 @@ module _ (n : ℕ) (ps fs : List ℕ) where
   tests-stored cs l u {l′} {v = v} s e =
       stored-as l u (ap (λ (zs : List ℕ). zs ++ 0 ∷ []) (open-parts cs) ∙ tests-closed (allSingles cs))
       (stored-then l u (allOf bytes cs) s (stored-one l′ v 0 e))
+
+  -- those of one condition, and the 0
+  pub goal-stored : (c : Cond) (l : List ℕ) {l′ l″ : List ℕ} {v : ℕ} → Stored l 0 (bytes c) l′ v → l″ ≡ set l′ v 0
+      → l″ ≡ sets l 0 (testsBytes n ps fs (singles c))
+  goal-stored c l {l′} {v = v} s e = stored-as l 0 (tests-closed (singles c)) (stored-then l 0 (bytes c) s (stored-one l′ v 0 e)) .are

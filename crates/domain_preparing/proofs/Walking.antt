@@ -30,7 +30,7 @@ module _ {A : Type 0} (bytes : A → List ℕ) (l₀ : List ℕ) (u₀ : ℕ) (a
         rw (c .ends)
         (record {
           toward =
-            toward-step l u l₀ u₀ (bytes (all .tree)) (bytes₁ (a .tree)) (bytes (g (a .next) .tree)) (toward-as (b (a .tree) (g (a .next) .tree)) (o .toward))
-            (c .stored);
+              toward-step l u l₀ u₀ (bytes (all .tree)) (bytes₁ (a .tree)) (bytes (g (a .next) .tree)) (toward-as (b (a .tree) (g (a .next) .tree)) (o .toward))
+              (c .stored);
           ends = o .ends;
         })

@@ -9,10 +9,10 @@ use lib.Seq.{sets}
 use Rattle.domain_meaning.specs.Terms.{Arg, object, variable, Ref, Expr}
 use Rattle.domain_meaning.specs.Conditions.{Cond, Conds}
 use Rattle.domain_meaning.specs.Effects.{Effect}
-use Rattle.domain_meaning.specs.Actions.{Lasting}
+use Rattle.domain_meaning.specs.Actions.{Action}
 use Rattle.domain_stored_meaning.specs.Decode.{Decoded}
 use Rattle.domain_prepared_meaning.specs.Preparing.{singles, singlesOf}
-use Rattle.domain_prepared_meaning.specs.Rows.{formBytes, exprBytes, testBytes, effectBytes, testsBytes, effectsBytes, lastsBytes}
+use Rattle.domain_prepared_meaning.specs.Rows.{twoBytes, formBytes, exprBytes, testBytes, effectBytes, sizes, placesFrom, actionBytes, allPlaces, actionsBytes}
 
 -- bytes were stored from `used` on, and u is the first place behind them
 pub record Stored (rows : List ℕ) (used : ℕ) (bytes rows′ : List ℕ) (u : ℕ) : Type 0 where
@@ -96,3 +96,19 @@ shareOf m (variable i) = (i + 4 * m) ∷ []
 unfoldable pub allOf : {A : Type 0} → (A → List ℕ) → List A → List ℕ
 allOf bytes [] = []
 allOf bytes (x ∷ xs) = bytes x ++ allOf bytes xs
+
+-- ---- actions
+
+-- numbers of two bytes each
+abbrev pub wordsOf : List ℕ → List ℕ
+wordsOf [] = []
+wordsOf (x ∷ xs) = twoBytes x ++ wordsOf xs
+
+-- the lists of a were stored from `used` on, and their places as those of action j
+pub record Acted (n : ℕ) (ps fs rows : List ℕ) (j used : ℕ) (a : Action) (rows′ : List ℕ) (free : ℕ) : Type 0 where
+  pub are : rows′ ≡ sets (sets rows (1 + 12 * j) (placesFrom n ps fs used (sizes n ps fs a))) used (actionBytes n ps fs a)
+  pub ends : free ≡ used + length (actionBytes n ps fs a)
+
+-- the rows when those of all actions are stored, from number j on
+abbrev pub allActed : ℕ → List ℕ → List ℕ → List ℕ → ℕ → ℕ → List Action → List ℕ
+allActed n ps fs rows j used as′ = sets (sets rows (1 + 12 * j) (allPlaces n ps fs used as′)) used (actionsBytes n ps fs as′)

@@ -136,10 +136,7 @@ fn put_conds<'a>(
     let mut left = code.len();
     while 0 < left {
         if code.len() <= i {
-            return Copied {
-                next: i,
-                free: u,
-            };
+            return Copied { next: i, free: u };
         }
         if cells::cell(code, i) == 0 {
             return Copied {
@@ -152,10 +149,7 @@ fn put_conds<'a>(
         u = c.free;
         left -= 1;
     }
-    Copied {
-        next: i,
-        free: u,
-    }
+    Copied { next: i, free: u }
 }
 
 // The single conditions for a time, among the parts from a place on: the first place behind them. A part for another time is copied past the

@@ -87,10 +87,7 @@ fn put_part<'a>(
     let mut left = code.len();
     while 0 < left {
         if code.len() <= i {
-            return Copied {
-                next: i,
-                free: u,
-            };
+            return Copied { next: i, free: u };
         }
         let tag = cells::cell(code, i);
         if !begins_effect(tag) {
@@ -104,10 +101,7 @@ fn put_part<'a>(
         u = e.free;
         left -= 1;
     }
-    Copied {
-        next: i,
-        free: u,
-    }
+    Copied { next: i, free: u }
 }
 
 // The effects for a time, among the parts from a place on: the first place behind them. A part for another time is copied past the end of the

@@ -9,7 +9,6 @@ use Rattle.domain_preparing.proofs.Expressing.{copies-as}
 use Rattle.domain_preparing.proofs.Groups.{cond-none, cond-past, cond-group, cond-single, conds-spent, conds-out, conds-last, conds-step}
 use Rattle.domain_preparing.proofs.Walking.{Walk, walk-start, walk-end, walk-step}
 use Rattle.domain_preparing.proofs.Testing.{copies-none, copies-group, listed-none, listed-cons}
-
 use borrow.Fn.Kinds.{In}
 use borrow.Fn.PlainCycle.{Measures, is, falls, and}
 use Rattle.domain_preparing.proofs.conditions.put_cond.Reads as put-cond
