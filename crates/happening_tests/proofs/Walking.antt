@@ -82,21 +82,21 @@ begun-row true false r e = let o : _≡_ {A = ℕ} 0 1 = cc in absurd (omega ari
 begun-row false q r e = let o : _≡_ {A = ℕ} 0 1 = cc in absurd (omega arith)
 
 module _ (rows os : List ℕ) (i : ℕ) where
-  abbrev now′ : Decoded Cond
+  abbrev pub now′ : Decoded Cond
   now′ = testAt rows i (byteAt rows i)
 
-  tests-spent : (left : ℕ) → left ≡ 0 → testsFrom left rows i ≡ []
+  pub tests-spent : (left : ℕ) → left ≡ 0 → testsFrom left rows i ≡ []
   unfolding testsFrom
   tests-spent left h = rw h
 
-  tests-end : (left : ℕ) → isEnd (rowAt rows os i) ≡ true → testsFrom left rows i ≡ []
+  pub tests-end : (left : ℕ) → isEnd (rowAt rows os i) ≡ true → testsFrom left rows i ≡ []
   unfolding testsFrom rowAt
   tests-end zero e = refl
   tests-end (suc n) e =
       ended-by (ltb i (length rows)) (beginsTest (byteAt rows i)) (rowOf os (i + 1) now′) (now′ .tree ∷ testsFrom n rows (now′ .next))
       (not-end rows os i (byteAt rows i)) e
 
-  tests-step : (left : ℕ) → 0 < left → isEnd (rowAt rows os i) ≡ false → testsFrom left rows i ≡ now′ .tree ∷ testsFrom (left - 1) rows (now′ .next)
+  pub tests-step : (left : ℕ) → 0 < left → isEnd (rowAt rows os i) ≡ false → testsFrom left rows i ≡ now′ .tree ∷ testsFrom (left - 1) rows (now′ .next)
   unfolding testsFrom rowAt
   tests-step zero l e = absurd (omega arith)
   tests-step (suc n) l e =
@@ -104,7 +104,7 @@ module _ (rows os : List ℕ) (i : ℕ) where
       rw z
       (begun-rest (ltb i (length rows)) (beginsTest (byteAt rows i)) (rowOf os (i + 1) now′) (now′ .tree ∷ testsFrom n rows (now′ .next)) e)
 
-  row-here : isEnd (rowAt rows os i) ≡ false → rowAt rows os i ≡ rowOf os (i + 1) now′
+  pub row-here : isEnd (rowAt rows os i) ≡ false → rowAt rows os i ≡ rowOf os (i + 1) now′
   unfolding rowAt
   row-here e = begun-row (ltb i (length rows)) (beginsTest (byteAt rows i)) (rowOf os (i + 1) now′) e
 
