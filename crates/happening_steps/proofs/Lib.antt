@@ -1,0 +1,9 @@
+-- What the proofs of several functions use.
+pub mod Places
+pub mod Each
+pub mod Ruled
+pub mod Tested
+pub mod Applied
+pub mod Answers
+pub mod Happens
+pub mod Unwatched

@@ -1,0 +1,81 @@
+-- Steps 1 and 2 for point j, and step 5 for line j. Assumes nothing.
+use mathlib.Core.Path.{_≡_, ap, sym, _∙_}
+use mathlib.Core.List.{List}
+use mathlib.Core.Bool.{Bool, true, false}
+use Prim.Native.Nat.{ℕ}
+use lib.IntN.{ℤ}
+use Rattle.domain_prepared_meaning.specs.Decode.{testsAt}
+use Rattle.happening_meaning.specs.State.{State}
+use Rattle.happening_meaning.specs.Truths.{holdAll}
+use Rattle.happening_meaning.specs.Writes.{itself, marksOf}
+use Rattle.happening_meaning.specs.Happening.{lasting, ruleOf, unless, tested, judged, lineOf, objectsOf, conditionsOf, marks, apart, spans}
+use Rattle.happening_meaning.specs.declared.Truth.{Truth}
+use Rattle.happening_meaning.specs.declared.Truth.the-variants as T
+use Rattle.happening_meaning.specs.declared.Outcome.{Outcome}
+use Rattle.happening_meaning.specs.declared.Outcome.the-variants.{Done, Condition, Undefined, Range, Itself, Invariant}
+use Rattle.happening_meaning.proofs.Failing.{Fails, unless-done, unless-fails}
+use Rattle.happening_forms.specs.Summed.{summed, fourAt}
+use Rattle.happening_tests.specs.Reading.{maskOf}
+use Rattle.happening_writes.specs.Rows.{marksAt}
+use Rattle.happening_placing.specs.Given.{placedIn, stepIn, pointIn}
+use Rattle.happening_placing.specs.declared.Placed.{Placed}
+use Rattle.happening_placing.proofs.Placing.{line-is, objects-are, conditions-are, effects-are, during-is}
+use Rattle.happening_steps.specs.Watching.{watching}
+
+module _ (fails : Outcome) (l : ℕ) {t : Truth} where
+  pub judged-holds : t ≡ T.Holds → Done ≡ judged fails l t
+  unfolding judged
+  judged-holds e = rw e
+
+  pub judged-fails : t ≡ T.Fails → fails ≡ judged fails l t
+  unfolding judged
+  judged-fails e = rw e
+
+  pub judged-undefined : t ≡ T.Undefined → Undefined l ≡ judged fails l t
+  unfolding judged
+  judged-undefined e = rw e
+
+  pub judged-range : t ≡ T.Range → Range l ≡ judged fails l t
+  unfolding judged
+  judged-range e = rw e
+
+module _ (rows ps os : List ℕ) (j : ℕ) where
+  -- ---- step 1
+
+  module _ (s : State) {o : Outcome} (eo : o ≡ lasting summed (s .numbers) (pointIn rows ps os j) (ruleOf (pointIn rows ps os j))) where
+    pub test-fails : Fails o → o ≡ tested summed s (pointIn rows ps os j)
+    unfolding tested
+    test-fails f = rw (← eo) (unless-fails o _ f)
+
+    pub test-judges : o ≡ Done → {p : Placed} → p ≡ placedIn rows ps j → {t : Truth} {r : Outcome}
+        → t ≡ holdAll summed s (fourAt os j) (testsAt rows (p .tests)) → r ≡ judged (Condition (p .line)) (p .line) t
+        → r ≡ tested summed s (pointIn rows ps os j)
+    unfolding tested
+    test-judges d ep et er =
+        er ∙ rw (et, ep, ← conditions-are rows ps os j, ← objects-are rows ps os j, ← line-is rows ps os j, ← eo) (unless-done _ d)
+
+  -- ---- step 2
+
+  pub marks-are : {p : Placed} → p ≡ placedIn rows ps j → marks summed (pointIn rows ps os j) ≡ marksAt rows (fourAt os j) (p .effects)
+  marks-are ep = rw (ep, ← effects-are rows ps os j, ← objects-are rows ps os j)
+
+  module _ {p : Placed} (ep : p ≡ placedIn rows ps j) {b : Bool} (e : b ≡ itself (marksAt rows (fourAt os j) (p .effects))) where
+    pub apart-not : b ≡ true → Itself (p .line) ≡ apart summed (pointIn rows ps os j)
+    unfolding apart
+    apart-not h = rw (marks-are ep, ← e, h, ep, ← line-is rows ps os j)
+
+    pub apart-so : b ≡ false → Done ≡ apart summed (pointIn rows ps os j)
+    unfolding apart
+    apart-so h = rw (marks-are ep, ← e, h)
+
+  -- ---- step 5
+
+  module _ {p : Placed} (ep : p ≡ placedIn rows ps j) where
+    pub spans-by : (s : State) {t : Truth} {o : Outcome} → t ≡ holdAll summed s (fourAt os j) (testsAt rows (p .during))
+        → o ≡ judged (Invariant (p .line)) (p .line) t → o ≡ spans summed s (stepIn rows ps os j)
+    unfolding spans pointIn
+    spans-by s et eo = eo ∙ rw (et, ep, ← during-is rows ps os j, ← objects-are rows ps os j, ← line-is rows ps os j)
+
+    pub watching-by : {m : ℕ} → m ≡ maskOf summed (fourAt os j) (testsAt rows (p .during)) → m ≡ watching summed (stepIn rows ps os j)
+    unfolding watching pointIn
+    watching-by e = e ∙ rw (ep, ← during-is rows ps os j, ← objects-are rows ps os j)
