@@ -8,3 +8,4 @@ pub mod Clashing
 pub mod Turning
 pub mod Joining
 pub mod Masking
+pub mod Quiet
