@@ -1,0 +1,3 @@
+-- What the contracts name.
+pub mod Order
+pub mod Keys
