@@ -16,7 +16,7 @@ ghost use Rattle.happening_truths.specs.Judged.{stateIn};
 ghost use Rattle.happening_meaning.specs.State.{State};
 ghost use Rattle.plan_meaning.specs.Feed.{feed};
 ghost use Rattle.plan_meaning.specs.Lines.{reader, limits};
-ghost use Rattle.plan_waiting.specs.Lent.{queueIn};
+ghost use Rattle.plan_waiting.specs.Lent.{queueIn, Kept};
 ghost use Rattle.plan_running.specs.Running.{rulesIn};
 ghost use Rattle.plan_lines.specs.Knowing.{Tabled, Headed, knownIn};
 ghost use Rattle.plan_feeding.specs.Feeding.{heldIn, counted, Fit};
@@ -51,7 +51,7 @@ fn take_bytes<'a>(
     numbers: &mut [i64],
     fresh: &mut [i64],
     line: &mut [u8],
-    words: &mut [usize; 384],
+    words: &mut [usize; 640],
     objects: &mut [u8; 256],
     count: usize,
     progress: PlanProgress,
@@ -64,6 +64,7 @@ fn take_bytes<'a>(
     requires { ⌜
         Tabled (now tables) counts × Headed (now heads) acting × Fit acting (queueIn (now words) (now objects) count) progress
         × (progress .refused ≡ false) × (length (now line) ≡ 257) × (length (now code) ≤ 32768) × (now fresh ≡ now numbers)
+        × Kept (now words) (now objects) count
         ⌝ }
     ensures { λ r. ⌜
         ((c : Cond) (s : State)
@@ -162,7 +163,7 @@ pub fn take_part<'a>(
         × Fit acting (r .queue) (r .progress) × (length (now (line .exit)) ≡ 257)
         ⌝ }
 {
-    let mut words = [0usize; 384];
+    let mut words = [0usize; 640];
     let mut objects = [0u8; 256];
     let mut points = [0usize; 256];
     let mut whos = [0u8; 256];

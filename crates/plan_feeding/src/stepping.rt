@@ -1,4 +1,4 @@
-// A line that has ended, and the plan's end. The points that wait are the first `count` in `words` and `objects`; points, whos, lines and others are
+// A line that has ended, and the plan's end. The points that wait are `count` in `words` and `objects`; points, whos, lines and others are
 // lent to be written in.
 use crate::PlanProgress;
 use crate::Went;
@@ -26,8 +26,8 @@ ghost use Rattle.plan_meaning.specs.Plan as P;
 ghost use Rattle.plan_meaning.specs.Feed.{reading, close};
 ghost use Rattle.plan_meaning.specs.Stored.{stepIn};
 ghost use Rattle.plan_meaning.specs.Lines.{reader, limits};
-ghost use Rattle.plan_waiting.specs.Waiting.{waiting, soundStep, Sound, Timed};
-ghost use Rattle.plan_waiting.specs.Lent.{queueIn};
+ghost use Rattle.plan_waiting.specs.Waiting.{waiting, soundStep, Sound, Timed, TimedStep};
+ghost use Rattle.plan_waiting.specs.Lent.{queueIn, Kept};
 ghost use Rattle.plan_running.specs.Running.{runIn, rulesIn};
 ghost use Rattle.plan_lines.specs.Knowing.{Tabled, Headed, knownIn};
 ghost use Rattle.plan_feeding.specs.Feeding.{refusedIn, checkIn, closedIn, refusing, going, Fit};
@@ -73,7 +73,7 @@ fn take_step<'a>(
     facts: &mut [u8],
     numbers: &mut [i64],
     fresh: &mut [i64],
-    words: &mut [usize; 384],
+    words: &mut [usize; 640],
     objects: &mut [u8; 256],
     count: usize,
     p: PlanProgress,
@@ -85,7 +85,7 @@ fn take_step<'a>(
 ) -> Went
     requires { ⌜
         Timed (queueIn (now words) (now objects) count) × (p .refused ≡ false) × (x .line ≡ p .number) × (x .start < 1000000000000) × (x .width ≤ 257)
-        × (length (now code) ≤ 32768) × (now fresh ≡ now numbers)
+        × (length (now code) ≤ 32768) × (now fresh ≡ now numbers) × Kept (now words) (now objects) count × TimedStep x
         ⌝ }
     ensures { λ r. ⌜
         ((c : Cond) (es : Table) (s : State) → Sound (length es) (queueIn (now (words .entry)) (now (objects .entry)) count) → length es ≤ 32
@@ -98,7 +98,7 @@ fn take_step<'a>(
         × ((n : ℕ) → Sound n (queueIn (now (words .entry)) (now (objects .entry)) count) → soundStep n x ≡ true
         → Sound n (queueIn (now (words .exit)) (now (objects .exit)) (r .count)))
         × (r .progress .used ≡ p .used) × (r .progress .number ≡ p .number) × ((m : ℕ) → p .start < m → x .start < m → r .progress .start < m)
-        × (now (fresh .exit) ≡ now (numbers .exit))
+        × (now (fresh .exit) ≡ now (numbers .exit)) × Kept (now (words .exit)) (now (objects .exit)) (r .count)
         ⌝ }
 {
     let d = plan_running::drain_below(
@@ -144,7 +144,7 @@ pub fn take_line<'a>(
     numbers: &mut [i64],
     fresh: &mut [i64],
     line: &'a [u8],
-    words: &mut [usize; 384],
+    words: &mut [usize; 640],
     objects: &mut [u8; 256],
     count: usize,
     p: PlanProgress,
@@ -155,7 +155,7 @@ pub fn take_line<'a>(
 ) -> Went
     requires { ⌜
         Tabled (now tables) counts × Headed (now heads) acting × Fit acting (queueIn (now words) (now objects) count) p × (p .refused ≡ false)
-        × (length (now line) ≡ 257) × (length (now code) ≤ 32768) × (now fresh ≡ now numbers)
+        × (length (now line) ≡ 257) × (length (now code) ≤ 32768) × (now fresh ≡ now numbers) × Kept (now words) (now objects) count
         ⌝ }
     ensures { λ r. ⌜
         ((c : Cond) (s : State)
@@ -165,7 +165,7 @@ pub fn take_line<'a>(
         (reader (knownIn (now (tables .entry)) counts (now (heads .entry)) acting (now (code .entry)) (now (starts .entry))) .line (p .number)
         (p .start) (take (p .used) (now (line .entry)))))
         × Fit acting (queueIn (now (words .exit)) (now (objects .exit)) (r .count)) (r .progress) × (r .progress .number ≡ p .number)
-        × (now (fresh .exit) ≡ now (numbers .exit))
+        × (now (fresh .exit) ≡ now (numbers .exit)) × Kept (now (words .exit)) (now (objects .exit)) (r .count)
         ⌝ }
 {
     let text = runs::part_of(line, 0, p.used);
@@ -261,7 +261,7 @@ fn end_run<'a>(
     facts: &mut [u8],
     numbers: &mut [i64],
     fresh: &mut [i64],
-    words: &mut [usize; 384],
+    words: &mut [usize; 640],
     objects: &mut [u8; 256],
     count: usize,
     p: PlanProgress,
@@ -270,7 +270,8 @@ fn end_run<'a>(
     lines: &mut [usize; 256],
     others: &mut [u8; 256],
 ) -> Past
-    requires { ⌜ Timed (queueIn (now words) (now objects) count) × (p .start < 1000000000000) × (length (now code) ≤ 32768) × (now fresh ≡ now numbers) ⌝ }
+    requires { ⌜ Timed (queueIn (now words) (now objects) count) × (p .start < 1000000000000) × (length (now code) ≤ 32768) × (now fresh ≡ now numbers)
+        × Kept (now words) (now objects) count ⌝ }
     ensures { λ r. ⌜
         ((es : Table) (s : State) → Sound (length es) (queueIn (now (words .entry)) (now (objects .entry)) count) → length es ≤ 32
         → P.ended (runIn r (stateIn (now (facts .exit)) (now (numbers .exit))))
@@ -331,7 +332,7 @@ pub fn end_plan<'a>(
         (reading (checkIn (stateIn (now (facts .entry)) (now (numbers .entry))) queue p) (p .number) (take (p .used) (now (line .entry)))))
         ⌝ }
 {
-    let mut words = [0usize; 384];
+    let mut words = [0usize; 640];
     let mut objects = [0u8; 256];
     let mut points = [0usize; 256];
     let mut whos = [0u8; 256];

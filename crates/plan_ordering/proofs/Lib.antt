@@ -2,3 +2,4 @@
 pub mod Shifting
 pub mod Ordering
 pub mod Ways
+pub mod Mapping

@@ -31,7 +31,7 @@ module _ {A : Type 0} (time : A → ℕ) where
   Sorted [] = Unit {0}
   Sorted (x ∷ xs) = NotBelow (time x) xs × Sorted xs
 
-  pub not-below-less : (t u : ℕ) (s : List A) → t ≤ u → NotBelow u s → NotBelow t s
+  not-below-less : (t u : ℕ) (s : List A) → t ≤ u → NotBelow u s → NotBelow t s
   unfolding NotBelow
   not-below-less t u [] h g = tt
   not-below-less t u (x ∷ s) h g = let i : u ≤ time x = g .0 in (omega arith, not-below-less t u s h (g .1))
@@ -91,7 +91,7 @@ module _ {A : Type 0} (time : A → ℕ) where
       go true e g = ltb-true t (time x) e
       go false e g = absurd (never (sym g))
 
-  pub insert-sorted : (p : A) (s : List A) → Sorted s → Sorted (insert time p s)
+  insert-sorted : (p : A) (s : List A) → Sorted s → Sorted (insert time p s)
   unfolding insert Sorted NotBelow
   insert-sorted p [] h = (tt, tt)
   insert-sorted p (x ∷ s) h = go (allLater time (time p) (x ∷ s)) refl (insert-sorted p s (h .1))
@@ -115,7 +115,8 @@ module _ {A : Type 0} (time : A → ℕ) where
   keep-insert f p (x ∷ s) h = go (allLater time (time p) (x ∷ s)) refl (keep-insert f p s (rest-sorted x s h))
     where
       two : (b c : Bool) → keep f (insert time p s) ≡ cond c (insert time p (keep f s)) (keep f s) → ltb (time p) (time x) ≡ false
-          → cond b (x ∷ keep f (insert time p s)) (keep f (insert time p s)) ≡ cond c (insert time p (cond b (x ∷ keep f s) (keep f s))) (cond b (x ∷ keep f s) (keep f s))
+          → cond b (x ∷ keep f (insert time p s)) (keep f (insert time p s))
+          ≡ cond c (insert time p (cond b (x ∷ keep f s) (keep f s))) (cond b (x ∷ keep f s) (keep f s))
       two true true ih l = ap (λ (m : List A). x ∷ m) ih ∙ sym (insert-behind p x (keep f s) l)
       two true false ih l = ap (λ (m : List A). x ∷ m) ih
       two false true ih l = ih
@@ -128,7 +129,7 @@ module _ {A : Type 0} (time : A → ℕ) where
 
   -- ---- all that came
 
-  pub all-sorted : (s q : List A) → Sorted s → Sorted (insertAll time s q)
+  all-sorted : (s q : List A) → Sorted s → Sorted (insertAll time s q)
   unfolding insertAll
   all-sorted s [] h = h
   all-sorted s (p ∷ q) h = all-sorted (insert time p s) q (insert-sorted p s h)
@@ -161,13 +162,14 @@ module _ {A : Type 0} (time : A → ℕ) where
   keep-all : (f : A → Bool) (s q : List A) → Sorted s → keep f (insertAll time s q) ≡ insertAll time (keep f s) (keep f q)
   unfolding insertAll
   keep-all f s [] h = refl
-  keep-all f s (p ∷ q) h = keep-all f (insert time p s) q (insert-sorted p s h) ∙ ap (λ (l : List A). insertAll time l (keep f q)) (keep-insert f p s h) ∙ go (f p)
+  keep-all f s (p ∷ q) h =
+      keep-all f (insert time p s) q (insert-sorted p s h) ∙ ap (λ (l : List A). insertAll time l (keep f q)) (keep-insert f p s h) ∙ go (f p)
     where
       go : (b : Bool) → insertAll time (cond b (insert time p (keep f s)) (keep f s)) (keep f q) ≡ insertAll time (keep f s) (cond b (p ∷ keep f q) (keep f q))
       go true = refl
       go false = refl
 
-  pub keep-ordered : (f : A → Bool) (q : List A) → keep f (ordered time q) ≡ ordered time (keep f q)
+  keep-ordered : (f : A → Bool) (q : List A) → keep f (ordered time q) ≡ ordered time (keep f q)
   keep-ordered f q = keep-all f [] q nothing
 
   -- ---- the points of one time stand as they came
@@ -207,7 +209,7 @@ module _ {A : Type 0} (time : A → ℕ) where
   unfolding Same
   no-same t = tt
 
-  pub at-ordered : (t : ℕ) (q : List A) → at time t (ordered time q) ≡ at time t q
+  at-ordered : (t : ℕ) (q : List A) → at time t (ordered time q) ≡ at time t q
   at-ordered t q = keep-ordered (λ p. eqb (time p) t) q ∙ all-same t [] (at time t q) (no-same t) (keep-same t q)
 
   -- ---- those in front
@@ -222,7 +224,7 @@ module _ {A : Type 0} (time : A → ℕ) where
   from-all t u [] h g = refl
   from-all t u (x ∷ s) h g = let i : u ≤ time x = g .0 in simp (le-leb (suc t) (time x) (omega arith), from-all t u s h (g .1))
 
-  pub taken-front : (t : ℕ) (s : List A) → Sorted s → NotBelow t s → take (front time t s) s ≡ at time t s
+  taken-front : (t : ℕ) (s : List A) → Sorted s → NotBelow t s → take (front time t s) s ≡ at time t s
   unfolding front Sorted NotBelow
   taken-front t [] h g = refl
   taken-front t (x ∷ s) h g = go (eqb (time x) t) refl (taken-front t s (h .1) (g .1))
@@ -235,7 +237,7 @@ module _ {A : Type 0} (time : A → ℕ) where
           let n : time x ≡ t → ⊥ = eqb-false (time x) t e in
           sym (at-none t (time x) s (less i n) (h .0))
 
-  pub left-front : (t : ℕ) (s : List A) → Sorted s → NotBelow t s → drop (front time t s) s ≡ from time (suc t) s
+  left-front : (t : ℕ) (s : List A) → Sorted s → NotBelow t s → drop (front time t s) s ≡ from time (suc t) s
   unfolding front Sorted NotBelow
   left-front t [] h g = refl
   left-front t (x ∷ s) h g = go (eqb (time x) t) refl (left-front t s (h .1) (g .1))
@@ -253,7 +255,8 @@ module _ {A : Type 0} (time : A → ℕ) where
   pub happening : (t : ℕ) (q : List A) → NotBelow t (ordered time q) → take (front time t (ordered time q)) (ordered time q) ≡ at time t q
   happening t q g = taken-front t (ordered time q) (ordered-sorted q) g ∙ at-ordered t q
 
-  pub remaining : (t : ℕ) (q : List A) → NotBelow t (ordered time q) → drop (front time t (ordered time q)) (ordered time q) ≡ ordered time (from time (suc t) q)
+  pub remaining : (t : ℕ) (q : List A) → NotBelow t (ordered time q)
+      → drop (front time t (ordered time q)) (ordered time q) ≡ ordered time (from time (suc t) q)
   remaining t q g = left-front t (ordered time q) (ordered-sorted q) g ∙ keep-ordered (λ p. leb (suc t) (time p)) q
 
   -- ---- the first time is the soonest
@@ -287,10 +290,6 @@ module _ {A : Type 0} (time : A → ℕ) where
   unfolding soonest Sorted NotBelow
   soonest-first b x [] h = refl
   soonest-first b x (y ∷ s) h = let i : time x ≤ time y = h .0 .0 in omega (arith, soonest-first b y s (h .1))
-
-  pub first-not-below : (x : A) (s : List A) → Sorted (x ∷ s) → NotBelow (time x) (x ∷ s)
-  unfolding Sorted NotBelow
-  first-not-below x s h = (omega arith, h .0)
 
   pub soonest-not-below : (b : ℕ) (s : List A) → NotBelow (soonest time b s) s
   unfolding soonest NotBelow

@@ -6,7 +6,8 @@ use Prim.Native.Nat.{ℕ, zero, suc, _+_, _-_, _≤_, _<_}
 use native.Mathlib.Omega.{arith}
 use lib.Dec.{ltb}
 use lib.ListN.{getD, set, take, drop, length, length-set, length-drop}
-use lib.Seq.{set-split, take-suc, drop-cons, take-set-le, drop-set-lt, getD-set-same, getD-set-other, lt-length-set, drop-set-add, getD-drop, take-at, length-take-le}
+use lib.Seq.{set-split, take-suc, drop-cons, take-set-le, drop-set-lt, getD-set-same, getD-set-other, lt-length-set, drop-set-add, getD-drop, take-at}
+use lib.Seq.{length-take-le}
 use borrow.Author.Tests.{lt-ltb, le-ltb}
 use Rattle.plan_ordering.specs.Order.{allLater, insert, shifted}
 use Rattle.plan_ordering.specs.Keys.{timeOf, keysIn, shiftedAt}
@@ -66,10 +67,11 @@ module _ {A : Type 0} (time : A → ℕ) where
         drop-cons (set l (suc i) x) (suc i) d (lt-length-set l (suc i) x h)
         ∙ ap₂ _∷_ (getD-set-same l (suc i) x d h) (drop-set-lt (suc (suc i)) l (suc i) x (omega arith))
 
-    pub shift-inserts : (i : ℕ) (l : List A) → i < length l → shifted time d i l p ≡ insert time p (take i l) ++ drop (suc i) l
+    shift-inserts : (i : ℕ) (l : List A) → i < length l → shifted time d i l p ≡ insert time p (take i l) ++ drop (suc i) l
     unfolding shifted insert
     shift-inserts zero l h = set-split l 0 p h
-    shift-inserts (suc i) l h = go (ltb (time p) (time (getD l i d))) refl (shift-inserts i (set l (suc i) (getD l i d)) (lt-length-set l (suc i) (getD l i d) (omega arith)))
+    shift-inserts (suc i) l h =
+        go (ltb (time p) (time (getD l i d))) refl (shift-inserts i (set l (suc i) (getD l i d)) (lt-length-set l (suc i) (getD l i d) (omega arith)))
       where
         top : take (suc i) l ≡ take i l ++ (getD l i d) ∷ []
         top = take-suc l i d (omega arith)
@@ -79,12 +81,14 @@ module _ {A : Type 0} (time : A → ℕ) where
             → cond b (shifted time d i (set l (suc i) (getD l i d)) p) (set l (suc i) p) ≡ insert time p (take (suc i) l) ++ drop (suc (suc i)) l
         go true e ih =
             ih ∙ ap₂ (λ (a b : List A). insert time p a ++ b) (take-set-le i l (suc i) (getD l i d) (omega arith)) (tail-set i l (getD l i d) h)
-            ∙ sym (ap (λ (s : List A). s ++ drop (suc (suc i)) l) (ap (insert time p) top ∙ insert-later p (getD l i d) e (take i l)) ∙ append-assoc (insert time p (take i l)) ((getD l i d) ∷ []) (drop (suc (suc i)) l))
+            ∙ sym (ap (λ (s : List A). s ++ drop (suc (suc i)) l) (ap (insert time p) top ∙ insert-later p (getD l i d) e (take i l))
+            ∙ append-assoc (insert time p (take i l)) ((getD l i d) ∷ []) (drop (suc (suc i)) l))
         go false e ih =
             set-split l (suc i) p h
             ∙ ap (λ (s : List A). s ++ p ∷ drop (suc (suc i)) l) top
             ∙ append-assoc (take i l) ((getD l i d) ∷ []) (p ∷ drop (suc (suc i)) l)
-            ∙ sym (ap (λ (s : List A). s ++ drop (suc (suc i)) l) (ap (insert time p) top ∙ insert-last p (getD l i d) e (take i l)) ∙ append-assoc (take i l) ((getD l i d) ∷ p ∷ []) (drop (suc (suc i)) l))
+            ∙ sym (ap (λ (s : List A). s ++ drop (suc (suc i)) l) (ap (insert time p) top ∙ insert-last p (getD l i d) e (take i l))
+            ∙ append-assoc (take i l) ((getD l i d) ∷ p ∷ []) (drop (suc (suc i)) l))
 
 -- ---- in a window
 
@@ -116,11 +120,13 @@ window from (suc i) l p =
     go (ltb (timeOf p) (timeOf (getD l (from + i) 0))) (ltb (timeOf p) (timeOf (getD (drop from l) i 0)))
     (ap (λ (x : ℕ). ltb (timeOf p) (timeOf x)) (sym (getD-drop from l i 0))) (window from i (set l (from + suc i) (getD l (from + i) 0)) p)
   where
-    go : (b c : Bool) → b ≡ c → drop from (shiftedAt from i (set l (from + suc i) (getD l (from + i) 0)) p) ≡ shifted timeOf 0 i (drop from (set l (from + suc i) (getD l (from + i) 0))) p
+    go : (b c : Bool) → b ≡ c
+        → drop from (shiftedAt from i (set l (from + suc i) (getD l (from + i) 0)) p) ≡ shifted timeOf 0 i (drop from (set l (from + suc i) (getD l (from + i) 0))) p
         → drop from (cond b (shiftedAt from i (set l (from + suc i) (getD l (from + i) 0)) p) (set l (from + suc i) p))
         ≡ cond c (shifted timeOf 0 i (set (drop from l) (suc i) (getD (drop from l) i 0)) p) (set (drop from l) (suc i) p)
     go true c e ih =
-        rw (← e) (ih ∙ ap (λ (m : List ℕ). shifted timeOf 0 i m p) (drop-set-add from l (suc i) (getD l (from + i) 0) ∙ ap (λ (v : ℕ). set (drop from l) (suc i) v) (sym (getD-drop from l i 0))))
+        rw (← e) (ih ∙ ap (λ (m : List ℕ). shifted timeOf 0 i m p)
+        (drop-set-add from l (suc i) (getD l (from + i) 0) ∙ ap (λ (v : ℕ). set (drop from l) (suc i) v) (sym (getD-drop from l i 0))))
     go false c e ih = rw (← e) (drop-set-add from l (suc i) p)
 
 -- the queue with a point more

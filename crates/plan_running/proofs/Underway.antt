@@ -2,10 +2,11 @@
 use Prim.Native.Nat.{ℕ, suc, _+_, _-_, _*_, _≤_, _<_}
 use mathlib.Core.Bool.{Bool, true, false, _&&_}
 use mathlib.Core.List.{List, [], _∷_, map}
-use mathlib.Core.Path.{_≡_, refl, sym, _∙_}
+use mathlib.Core.Path.{_≡_, refl, sym, ap, _∙_}
 use native.Mathlib.Omega.{arith}
 use lib.Dec.{eqb, ltb}
 use lib.ListN.{length, take, getD, length-map}
+use lib.Seq.{take-all}
 use Rattle.base_laws.proofs.Splits.{and-left, and-right}
 use Rattle.domain_meaning.specs.Tables.{Table}
 use Rattle.domain_meaning.specs.Actions.{Action}
@@ -38,6 +39,14 @@ isAt t s = eqb (time (pointIn s)) t
 -- it is the end of a step, and lies after t
 abbrev pub isOpen : ℕ → Slot → Bool
 isOpen t s = s .ends && ltb t (time (pointIn s))
+
+-- any slot
+abbrev pub every : Slot → Bool
+every s = true
+
+keep-every : (l : List Slot) → keep every l ≡ l
+keep-every [] = refl
+keep-every (s ∷ ss) = ap (λ (l : List Slot). s ∷ l) (keep-every ss)
 
 abbrev pub pointWhen : Slot → ℕ
 pointWhen s = whenIn (s .ends)
@@ -143,17 +152,18 @@ module _ (code starts : List ℕ) (es : Table) (few : length es ≤ 32) where
 
   -- ---- when all slots are gone through
 
-  module _ (t : ℕ) {l : List Slot} {rows objects : List ℕ} {n j : ℕ} (sound : soundAll (length es) (take n l) ≡ true) where
-    pub points-laid : Laying (isAt t) pointWhen l rows objects n j
-        → pointsIn code starts rows objects j 0 ≡ map (pointFor actions) (at t (map pointIn (take n l)))
-    points-laid k =
-        let kept = keep (isAt t) (take n l) in
-        let count : length kept ≡ j = sym (length-map kept (rowAt pointWhen)) ∙ k .counted in
-        rw (← count, ← points-at t (take n l)) (laid-points rows objects kept 0 (sound-keep (length es) (isAt t) (take n l) sound) (k .laid))
+  module _ (t : ℕ) {rows objects : List ℕ} where
+    -- those that are laid are those of the time t
+    pub points-laid : (l ss : List Slot) {k : ℕ} → Laying every pointWhen ss rows objects k k → length ss ≡ k → ss ≡ keep (isAt t) l
+        → soundAll (length es) l ≡ true → pointsIn code starts rows objects k 0 ≡ map (pointFor actions) (at t (map pointIn l))
+    points-laid l ss {k} r n e sound =
+        let all : keep every (take k ss) ≡ ss = ap (keep every) (take-all k ss (omega arith)) ∙ keep-every ss in
+        rw (← n, ← points-at t l, ← e)
+        (laid-points rows objects ss 0 (rw e (sound-keep (length es) (isAt t) l sound)) (rw all at (r .laid)))
 
-    pub steps-laid : Laying (isOpen t) endWhen l rows objects n j
+    pub steps-laid : {l : List Slot} {n j : ℕ} → soundAll (length es) (take n l) ≡ true → Laying (isOpen t) endWhen l rows objects n j
         → stepsIn code starts rows objects j 0 ≡ map (stepFor actions) (underWay t (map pointIn (take n l)))
-    steps-laid k =
+    steps-laid {l} {n} {j} sound k =
         let kept = keep (isOpen t) (take n l) in
         let count : length kept ≡ j = sym (length-map kept (rowAt endWhen)) ∙ k .counted in
         rw (← count, ← steps-open t (take n l)) (laid-steps rows objects kept 0 (sound-keep (length es) (isOpen t) (take n l) sound) (k .laid))

@@ -9,10 +9,10 @@ ghost use Rattle.domain_meaning.specs.Tables.{Table};
 ghost use Rattle.domain_stored_meaning.specs.Decode.{actionsAt};
 ghost use Rattle.happening_instants.specs.Given.{pointsIn, stepsIn};
 ghost use Rattle.plan_meaning.specs.Plan.{at};
-ghost use Rattle.plan_meaning.specs.Machine.{underWay};
+ghost use Rattle.plan_meaning.specs.Machine.{soonest, underWay};
 ghost use Rattle.plan_meaning.specs.Promised.{pointFor, stepFor};
 ghost use Rattle.plan_waiting.specs.Waiting.{waiting, Sound, Timed};
-ghost use Rattle.plan_waiting.specs.Lent.{queueIn};
+ghost use Rattle.plan_waiting.specs.Lent.{queueIn, Kept};
 ghost use Rattle.plan_running.specs.Laid.{Row, Laid};
 
 // Row j: the step x at a time of its action, 1 for its start, 3 for its end. The arrays come as slices: where an array is lent as a slice its length
@@ -33,36 +33,34 @@ fn lay(rows: &mut [usize], whos: &mut [u8], j: usize, x: Step, when: usize)
     whos[i + 3] = x.d;
 }
 
-// The points of time t, by line number: how many.
+// The points of the soonest time t, by line number: how many.
 pub fn lay_points<'a>(
-    words: &'a [usize; 384],
+    words: &'a [usize; 640],
     objects: &'a [u8; 256],
     n: usize,
     t: usize,
     rows: &mut [usize; 256],
     whos: &mut [u8; 256],
 ) -> usize
-    requires { ⌜ Timed (queueIn (now words) (now objects) n) ⌝ }
-    ensures { λ r. ⌜ (r ≤ 64) × ((code starts : List ℕ) (es : Table) → Sound (length es) (queueIn (now (words .entry)) (now (objects .entry)) n)
+    requires { ⌜ Kept (now words) (now objects) n ⌝ }
+    ensures { λ r. ⌜ (r ≤ 64) × ((code starts : List ℕ) (es : Table) (b : ℕ) → t ≡ soonest b (waiting (queueIn (now (words .entry)) (now (objects .entry)) n))
+        → Sound (length es) (queueIn (now (words .entry)) (now (objects .entry)) n)
         → length es ≤ 32 → pointsIn code starts (now (rows .exit)) (now (whos .exit)) r 0 ≡ map (pointFor (actionsAt code starts 0 es))
         (at t (waiting (queueIn (now (words .entry)) (now (objects .entry)) n)))) ⌝ }
 {
+    let k = lent::due(words, n, t);
     let mut i = 0;
-    let mut j = 0;
-    while i < n {
-        if lent::time_at(words, i) == t {
-            let s = lent::slot_at(words, objects, i);
-            lay(rows, whos, j, s.step, lent::when_of(s.ends));
-            j += 1;
-        }
+    while i < k {
+        let s = lent::slot_at(words, objects, lent::due_place(words, i));
+        lay(rows, whos, i, s.step, lent::when_of(s.ends));
         i += 1;
     }
-    j
+    k
 }
 
 // "every durative line with start at or before, and end after, this time": of the lines so far, those whose ends wait and lie after t. How many.
 pub fn lay_lines<'a>(
-    words: &'a [usize; 384],
+    words: &'a [usize; 640],
     objects: &'a [u8; 256],
     n: usize,
     t: usize,
@@ -77,8 +75,9 @@ pub fn lay_lines<'a>(
     let mut i = 0;
     let mut j = 0;
     while i < n {
-        let s = lent::slot_at(words, objects, i);
-        if s.ends && t < lent::time_at(words, i) {
+        let p = lent::place_at(words, i);
+        let s = lent::slot_at(words, objects, p);
+        if s.ends && t < lent::time_at(words, p) {
             lay(rows, whos, j, s.step, 3);
             j += 1;
         }

@@ -15,8 +15,8 @@ ghost use Rattle.happening_meaning.specs.State.{State};
 ghost use Rattle.plan_meaning.specs.Plan.{at, instant, judged};
 ghost use Rattle.plan_meaning.specs.Machine.{underWay, drain};
 ghost use Rattle.plan_waiting.specs.Waiting.{waiting, Sound, Timed};
-ghost use Rattle.plan_waiting.specs.Lent.{queueIn};
-ghost use Rattle.plan_running.specs.Running.{runIn, rulesIn};
+ghost use Rattle.plan_waiting.specs.Lent.{queueIn, Kept};
+ghost use Rattle.plan_running.specs.Running.{runIn, rulesIn, Next};
 
 // The first failure and its time; or none, and the time of the last happening.
 pub struct Past {
@@ -39,7 +39,7 @@ fn happen_at<'a>(
     facts: &mut [u8],
     numbers: &mut [i64],
     fresh: &mut [i64],
-    words: &'a [usize; 384],
+    words: &'a [usize; 640],
     objects: &'a [u8; 256],
     count: usize,
     t: usize,
@@ -49,8 +49,8 @@ fn happen_at<'a>(
     lines: &mut [usize; 256],
     others: &mut [u8; 256],
 ) -> Past
-    requires { ⌜ Timed (queueIn (now words) (now objects) count) × (0 < length (at t (waiting (queueIn (now words) (now objects) count))))
-        × (length (now code) ≤ 32768) × (now fresh ≡ now numbers) ⌝ }
+    requires { ⌜ Timed (queueIn (now words) (now objects) count) × Next (queueIn (now words) (now objects) count) t
+        × (length (now code) ≤ 32768) × (now fresh ≡ now numbers) × Kept (now words) (now objects) count ⌝ }
     ensures { λ r. ⌜ ((c : Cond) (es : Table) (s : State) → Sound (length es) (queueIn (now (words .entry)) (now (objects .entry)) count)
         → length es ≤ 32 → runIn r (stateIn (now (facts .exit)) (now (numbers .exit))) ≡ instant
         (rulesIn (now (code .entry)) (now (starts .entry)) (now (firsts .entry)) c es s) t
@@ -89,8 +89,8 @@ pub fn drain_below<'a>(
     facts: &mut [u8],
     numbers: &mut [i64],
     fresh: &mut [i64],
-    words: &mut [usize; 384],
-    objects: &mut [u8; 256],
+    words: &mut [usize; 640],
+    objects: &'a [u8; 256],
     count: usize,
     b: usize,
     past: Past,
@@ -99,17 +99,19 @@ pub fn drain_below<'a>(
     lines: &mut [usize; 256],
     others: &mut [u8; 256],
 ) -> Drained
-    requires { ⌜ Timed (queueIn (now words) (now objects) count) × (length (now code) ≤ 32768) × (now fresh ≡ now numbers) ⌝ }
+    requires { ⌜ Timed (queueIn (now words) (now objects) count) × (length (now code) ≤ 32768) × (now fresh ≡ now numbers)
+        × Kept (now words) (now objects) count ⌝ }
     ensures { λ r. ⌜ ((c : Cond) (es : Table) (s : State) → Sound (length es) (queueIn (now (words .entry)) (now (objects .entry)) count)
         → length es ≤ 32 → (
           runIn (r .past) (stateIn (now (facts .exit)) (now (numbers .exit))),
-          waiting (queueIn (now (words .exit)) (now (objects .exit)) (r .count)),
+          waiting (queueIn (now (words .exit)) (now (objects .entry)) (r .count)),
         ) ≡ drain
         (rulesIn (now (code .entry)) (now (starts .entry)) (now (firsts .entry)) c es s)
         (length (waiting (queueIn (now (words .entry)) (now (objects .entry)) count))) b
         (runIn past (stateIn (now (facts .entry)) (now (numbers .entry)))) (waiting (queueIn (now (words .entry)) (now (objects .entry)) count)))
         × ((n : ℕ) → Sound n (queueIn (now (words .entry)) (now (objects .entry)) count)
-        → Sound n (queueIn (now (words .exit)) (now (objects .exit)) (r .count))) × (now (fresh .exit) ≡ now (numbers .exit)) ⌝ }
+        → Sound n (queueIn (now (words .exit)) (now (objects .entry)) (r .count))) × (now (fresh .exit) ≡ now (numbers .exit))
+        × Kept (now (words .exit)) (now (objects .entry)) (r .count) ⌝ }
 {
     let mut n = count;
     let mut p = past;
@@ -132,7 +134,7 @@ pub fn drain_below<'a>(
             lines,
             others,
         );
-        n = lent::later(words, objects, n, t);
+        n = lent::later(words, n, t);
         t = lent::soonest(words, n, b);
     }
     Drained { count: n, past: p }

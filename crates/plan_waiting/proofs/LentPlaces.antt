@@ -1,46 +1,90 @@
 -- Points that lie in lent numbers: the places as a list, a point put to a place, and the times of the first n. Assumes nothing.
-use Prim.Native.Nat.{ℕ, zero, suc, _+_, _*_, _≤_, _<_, min, max}
+use Prim.Native.Nat.{ℕ, zero, suc, _+_, _*_, _%_, _≤_, _<_, max}
 use mathlib.Core.Bool.{Bool, true, false}
 use mathlib.Core.List.{List, [], _∷_, _++_, map, map-append}
 use mathlib.Core.Path.{_≡_, refl, sym, ap, _∙_}
 use native.Mathlib.Nat.{add-zero}
+use native.Mathlib.Numerals.{add-one}
 use native.Mathlib.Omega.{arith}
-use borrow.Author.Tests.{eqb-true, eqb-false, eq-eqb, ne-eqb}
+use borrow.Author.Tests.{eq-eqb, ne-eqb}
 use lib.Dec.{eqb}
-use lib.ListN.{length, take, getD, set, length-set}
-use lib.Seq.{getD-set-same, getD-set-other, ext-getD}
-use Rattle.plan_meaning.specs.Plan.{Point, time, latest}
-use Rattle.plan_meaning.specs.Machine.{soonest}
-use Rattle.plan_meaning.specs.Promised.{Act}
+use lib.ListN.{length, take, getD, set, length-set, length-map}
+use lib.Seq.{getD-set-same, getD-set-other, getD-take, ext-getD, take-suc, length-take-le}
+use Rattle.plan_meaning.specs.Plan.{time, latest}
 use Rattle.plan_meaning.specs.Stored.{pointIn}
 use Rattle.plan_meaning.specs.declared.Slot.{Slot}
+use Rattle.plan_ordering.proofs.Mapping.{map-take}
 use Rattle.plan_waiting.specs.declared.Queue.{Queue}
-use Rattle.plan_waiting.specs.Waiting.{used, waiting, noSlot, soundStep, soundAll, Sound, Timed}
-use Rattle.plan_waiting.specs.Lent.{whenIn, slotIn, slotsFrom, queueIn, Sized, TimedWords, TimedWord}
+use Rattle.plan_waiting.specs.Waiting.{used, waiting, noSlot, soundStep, soundAll, Sound}
+use Rattle.plan_waiting.specs.Lent.{whenIn, slotIn, slotAt, placesFrom, placesIn, queueIn, Put, Sized, TimedWords, TimedWord}
 use Rattle.plan_waiting.proofs.Soundness.{sound-start, sound-duration, sound-snoc, timed-at}
-use Rattle.plan_waiting.proofs.Places.{push-place}
-use Rattle.plan_waiting.proofs.Sifting.{Sifted, same-at}
-use Rattle.plan_waiting.proofs.Points.{end-time, start-time, soonest-more, latest-more}
+use Rattle.plan_waiting.proofs.Points.{end-time, start-time, latest-more}
 
 -- ---- the places
 
+module _ (words : List ℕ) where
+  places-many : (k i : ℕ) → length (placesFrom words k i) ≡ k
+  unfolding placesFrom
+  places-many zero i = refl
+  places-many (suc k) i = ap suc (places-many k (i + 1))
+
+  place-from : (k i j : ℕ) → j < k → getD (placesFrom words k i) j 0 ≡ getD words (384 + (i + j)) 0
+  unfolding placesFrom
+  place-from zero i j h = absurd (let y : ⊥ = omega arith in y)
+  place-from (suc k) i zero h = rw (add-zero i)
+  place-from (suc k) i (suc j) h = let e : i + 1 + j ≡ i + suc j = omega arith in rw (← e) (place-from k (i + 1) j (omega arith))
+
+  pub places-long : length (placesIn words) ≡ 64
+  places-long = places-many 64 0
+
+  pub place-there : (i : ℕ) → i < 64 → getD (placesIn words) i 0 ≡ getD words (384 + i) 0
+  place-there i h = let e : 384 + (0 + i) ≡ 384 + i = omega arith in place-from 64 0 i h ∙ ap (λ (k : ℕ). getD words k 0) e
+
+  pub places-more : (i : ℕ) → i < 64 → take (i + 1) (placesIn words) ≡ take i (placesIn words) ++ getD words (384 + i) 0 ∷ []
+  places-more i h = rw (add-one, ← place-there i h) (take-suc (placesIn words) i 0 (omega (arith, places-long)))
+
+-- the same numbers list the same places
+pub places-same : (words words′ : List ℕ) (n : ℕ) → n ≤ 64 → ((k : ℕ) → k < n → getD words′ (384 + k) 0 ≡ getD words (384 + k) 0)
+    → take n (placesIn words′) ≡ take n (placesIn words)
+places-same words words′ n few h =
+    let l : length (take n (placesIn words)) ≡ n = length-take-le n (placesIn words) (omega (arith, places-long words)) in
+    let l′ : length (take n (placesIn words′)) ≡ n = length-take-le n (placesIn words′) (omega (arith, places-long words′)) in
+    ext-getD 0 (take n (placesIn words′)) (take n (placesIn words)) (l′ ∙ sym l)
+    (λ k g.
+    let b : k < n = omega arith in
+    getD-take n (placesIn words′) k 0 b ∙ place-there words′ k (omega arith) ∙ h k b
+    ∙ sym (getD-take n (placesIn words) k 0 b ∙ place-there words k (omega arith)))
+
+pub mapped-at : (f : ℕ → Slot) (l : List ℕ) (i : ℕ) → i < length l → getD (map f l) i noSlot ≡ f (getD l i 0)
+mapped-at f [] i h = absurd (let y : ⊥ = omega arith in y)
+mapped-at f (x ∷ l) zero h = refl
+mapped-at f (x ∷ l) (suc i) h = mapped-at f l i (omega arith)
+
 module _ (words objects : List ℕ) where
-  slots-many : (k i : ℕ) → length (slotsFrom words objects k i) ≡ k
-  unfolding slotsFrom
-  slots-many zero i = refl
-  slots-many (suc k) i = ap suc (slots-many k (i + 1))
+  pub slots-long : length (queueIn words objects 0 .slots) ≡ 64
+  slots-long = length-map (placesIn words) (slotAt words objects) ∙ places-long words
 
-  slot-from : (k i j : ℕ) → j < k → getD (slotsFrom words objects k i) j noSlot ≡ slotIn words objects (i + j)
-  unfolding slotsFrom
-  slot-from zero i j h = absurd (let y : ⊥ = omega arith in y)
-  slot-from (suc k) i zero h = rw (add-zero i)
-  slot-from (suc k) i (suc j) h = let e : i + 1 + j ≡ i + suc j = omega arith in rw (← e) (slot-from k (i + 1) j (omega arith))
+  pub slot-there : (i : ℕ) → i < 64 → getD (queueIn words objects 0 .slots) i noSlot ≡ slotIn words objects (getD words (384 + i) 0 % 64)
+  slot-there i h =
+      mapped-at (slotAt words objects) (placesIn words) i (omega (arith, places-long words))
+      ∙ ap (λ (p : ℕ). slotIn words objects (p % 64)) (place-there words i h)
 
-  pub slots-long : length (slotsFrom words objects 64 0) ≡ 64
-  slots-long = slots-many 64 0
+  pub used-is : (n : ℕ) → used (queueIn words objects n) ≡ map (slotAt words objects) (take n (placesIn words))
+  used-is n = sym (map-take (slotAt words objects) n (placesIn words))
 
-  pub slot-there : (i : ℕ) → i < 64 → getD (slotsFrom words objects 64 0) i noSlot ≡ slotIn words objects i
-  slot-there i h = let e : 0 + i ≡ i = omega arith in slot-from 64 0 i h ∙ ap (slotIn words objects) e
+-- the same words of places hold the same points
+pub slot-same : (words words′ objects : List ℕ) (p : ℕ) → p < 64 → ((k : ℕ) → k < 384 → getD words′ k 0 ≡ getD words k 0)
+    → slotIn words′ objects p ≡ slotIn words objects p
+unfolding slotIn
+slot-same words words′ objects p h g =
+    rw (
+      g (6 * p) (omega arith),
+      g (6 * p + 1) (omega arith),
+      g (6 * p + 2) (omega arith),
+      g (6 * p + 3) (omega arith),
+      g (6 * p + 4) (omega arith),
+      g (6 * p + 5) (omega arith),
+    )
 
 -- ---- numbers stored one after the other: the next at n + k
 
@@ -96,7 +140,7 @@ module _ (words objects : List ℕ) (i : ℕ) (s : Slot) where
   abbrev pub objectsWith : List ℕ
   objectsWith = run objects (4 * i) (s .step .a) three
 
-  module _ (long : length words ≡ 384) (wide : length objects ≡ 256) (h : i < 64) where
+  module _ (long : length words ≡ 640) (wide : length objects ≡ 256) (h : i < 64) where
     word : (m : ℕ) → m < 5 → getD wordsWith (6 * i + (1 + m)) 0 ≡ getD five m 0
     word m k = run-next words (6 * i) (s .step .line) five m k (omega arith)
 
@@ -143,33 +187,19 @@ module _ (words objects : List ℕ) (i : ℕ) (s : Slot) where
           object-away 3 (omega arith),
         )
 
-  pub slots-put : Sized words objects → i < 64 → slotsFrom wordsWith objectsWith 64 0 ≡ set (slotsFrom words objects 64 0) i s
-  slots-put sized h =
-      ext-getD noSlot (slotsFrom wordsWith objectsWith 64 0) (set (slotsFrom words objects 64 0) i s)
-      (slots-long wordsWith objectsWith ∙ sym (length-set (slotsFrom words objects 64 0) i s ∙ slots-long words objects))
-      (λ j k. let few : j < 64 = omega (arith, k, slots-long wordsWith objectsWith) in slot-there wordsWith objectsWith j few ∙ at j few (eqb j i) refl)
-    where
-      at : (j : ℕ) → j < 64 → (b : Bool) → eqb j i ≡ b → slotIn wordsWith objectsWith j ≡ getD (set (slotsFrom words objects 64 0) i s) j noSlot
-      at j few true e =
-          rw (eqb-true j i e) (put-same (sized .0) (sized .1) h
-          ∙ sym (getD-set-same (slotsFrom words objects 64 0) i s noSlot (omega (arith, slots-long words objects))))
-      at j few false e =
-          put-other j (eqb-false j i e) ∙ sym (getD-set-other (slotsFrom words objects 64 0) i j s noSlot (eqb-false j i e) ∙ slot-there words objects j few)
+  next-long : (l : List ℕ) (n k : ℕ) (vs : List ℕ) → length (next l n k vs) ≡ length l
+  next-long l n k [] = refl
+  next-long l n k (v ∷ vs) = next-long (set l (n + k) v) n (suc k) vs ∙ length-set l (n + k) v
 
--- ---- a point put behind those of a queue
-
-module _ (q : Queue) (l : List Slot) (s : Slot) (there : l ≡ set (q .slots) (q .count) s) (long : length (q .slots) ≡ 64) (room : q .count < 64) where
-  abbrev grown : Queue
-  grown = record { slots = l; count = q .count + 1 }
-
-  grown-used : used grown ≡ used q ++ s ∷ []
-  grown-used = rw there (push-place (q .slots) (q .count) s (omega arith))
-
-  pub grown-waits : waiting grown ≡ waiting q ++ pointIn s ∷ []
-  grown-waits = ap (map pointIn) grown-used ∙ map-append pointIn (used q) (s ∷ [])
-
-  pub grown-sound : (m : ℕ) → Sound m q → soundStep m (s .step) ≡ true → Sound m grown
-  grown-sound m h k = (omega arith, ap (soundAll m) grown-used ∙ sound-snoc m (used q) s (h .1) k)
+  pub slot-put : Sized words objects → i < 64 → Put words objects wordsWith objectsWith i s
+  slot-put sized h =
+      record {
+        there = put-same (sized .0) (sized .1) h;
+        other = put-other;
+        behind = λ k g. run-other words (6 * i) (s .step .line) five k (λ a b. omega (arith, a, b));
+        long = next-long (set words (6 * i) (s .step .line)) (6 * i) 1 five ∙ length-set words (6 * i) (s .step .line) ∙ sized .0;
+        wide = next-long (set objects (4 * i) (s .step .a)) (4 * i) 1 three ∙ length-set objects (4 * i) (s .step .a) ∙ sized .1;
+      }
 
 -- ---- times
 
@@ -191,28 +221,24 @@ module _ (words : List ℕ) (i : ℕ) where
     unfolding slotIn
     start-there e = start-time (slotIn words objects i) (ne-eqb (getD words (6 * i + 2) 0) 3 e)
 
-pub timed-place : (words : List ℕ) (n i : ℕ) → TimedWords words n → i < n → TimedWord words i
+pub timed-place : (words : List ℕ) (n i : ℕ) → TimedWords words n → i < n → TimedWord words (getD words (384 + i) 0 % 64)
 timed-place words n i t h =
     let o = t .0 in
     let few = t .1 .1 .0 in
     (o, rw (← slot-there words o i (omega arith)) (timed-at (queueIn words o n) i (slots-long words o) (t .1) h))
 
--- as long as they are sifted, the next is as it was
-module _ (q : Queue) (words objects : List ℕ) where
-  pub sifted-timed : {f : Slot → Bool} {i j : ℕ} → Sifted f (q .slots) (slotsFrom words objects 64 0) i j → length (q .slots) ≡ 64 → Timed q
-      → i < q .count → TimedWord words i
-  sifted-timed {f} {i} k long t h =
-      let few = t .1 .0 in
-      (objects, rw (← slot-there words objects i (omega arith), same-at k) (timed-at q i long t h))
-
 -- ---- one point more
 
 module _ (words objects : List ℕ) (i : ℕ) (h : i < 64) where
-  abbrev firsts : ℕ → List (Point Act)
-  firsts k = map pointIn (take k (slotsFrom words objects 64 0))
+  pub latest-place : latest (waiting (queueIn words objects (i + 1)))
+      ≡ max (time (pointIn (slotIn words objects (getD words (384 + i) 0 % 64)))) (latest (waiting (queueIn words objects i)))
+  latest-place = rw (← slot-there words objects i h) (latest-more (queueIn words objects 0 .slots) i (omega (arith, slots-long words objects)))
 
-  pub soonest-place : (b : ℕ) → soonest b (firsts (i + 1)) ≡ min (time (pointIn (slotIn words objects i))) (soonest b (firsts i))
-  soonest-place b = rw (← slot-there words objects i h) (soonest-more b (slotsFrom words objects 64 0) i (omega (arith, slots-long words objects)))
+-- ---- a point more behind those of a queue
 
-  pub latest-place : latest (firsts (i + 1)) ≡ max (time (pointIn (slotIn words objects i))) (latest (firsts i))
-  latest-place = rw (← slot-there words objects i h) (latest-more (slotsFrom words objects 64 0) i (omega (arith, slots-long words objects)))
+module _ (q r : Queue) (s : Slot) (there : used r ≡ used q ++ s ∷ []) where
+  pub grown-waits : waiting r ≡ waiting q ++ pointIn s ∷ []
+  grown-waits = ap (map pointIn) there ∙ map-append pointIn (used q) (s ∷ [])
+
+  pub grown-sound : (m : ℕ) → r .count ≤ 64 → Sound m q → soundStep m (s .step) ≡ true → Sound m r
+  grown-sound m few h k = (few, ap (soundAll m) there ∙ sound-snoc m (used q) s (h .1) k)

@@ -2,6 +2,8 @@
 pub mod Soundness
 pub mod Fitting
 pub mod Points
-pub mod Sifting
 pub mod Places
 pub mod LentPlaces
+pub mod Sifting
+pub mod Keeping
+pub mod Entering

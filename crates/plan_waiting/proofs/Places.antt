@@ -1,12 +1,12 @@
 -- The places of a queue: those of a list, one filled more, and zeros behind. Assumes nothing.
 use Prim.Native.Nat.{ℕ, suc, _+_, _-_, _≤_, _<_}
 use mathlib.Core.Bool.{true}
-use mathlib.Core.List.{List, [], _∷_, _++_, map}
+use mathlib.Core.List.{List, _++_, map}
 use mathlib.Core.Path.{_≡_, refl, sym, _∙_}
 use native.Mathlib.Numerals.{add-one}
 use native.Mathlib.Omega.{arith}
 use lib.ListN.{length, take, getD, set, replicate, length-map}
-use lib.Seq.{take-suc, take-suc-set, take-append-seam, length-take-le, set-at, append-snoc}
+use lib.Seq.{take-suc, take-append-seam, length-take-le, set-at, append-snoc}
 use Rattle.plan_meaning.specs.declared.Slot.{Slot}
 use Rattle.plan_waiting.specs.declared.Queue.{Queue}
 use Rattle.plan_waiting.specs.Waiting.{used, noSlot, queueOf, soundAll, Sound}
@@ -29,14 +29,6 @@ pub sound-queue : (n : ℕ) (l : List Slot) → soundAll n l ≡ true → length
 sound-queue n l h k = rw (queue-waits l k, queue-count l) (k, h)
 
 -- ---- a place filled
-
-pub push-place : (l : List Slot) (n : ℕ) (s : Slot) → n < length l → take (n + 1) (set l n s) ≡ take n l ++ s ∷ []
-push-place l n s h = rw add-one (take-suc-set l n s h)
-
--- a place filled from another list, with which it agrees before it
-pub push-same : (l k : List Slot) (i : ℕ) {m : List Slot} → i < length l → i < length k → m ≡ set l i (getD k i noSlot) → take i l ≡ take i k
-    → take (i + 1) m ≡ take (i + 1) k
-push-same l k i hl hk there same = rw (there, push-place l i (getD k i noSlot) hl, same, add-one, take-suc k i noSlot hk)
 
 -- the first i places of l, and zeros behind
 abbrev pub cleaned : List Slot → ℕ → List Slot

@@ -1,5 +1,5 @@
--- The points of slots: their times, the soonest and the latest of them, and one slot more. Assumes nothing.
-use Prim.Native.Nat.{ℕ, _+_, _<_, min, max}
+-- The points of slots: their times, the latest of them, and one slot more. Assumes nothing.
+use Prim.Native.Nat.{ℕ, _+_, _<_, max}
 use mathlib.Core.Bool.{true, false}
 use mathlib.Core.List.{List, [], _∷_, _++_, map, map-append}
 use mathlib.Core.Path.{_≡_, refl, sym, ap, _∙_}
@@ -9,7 +9,6 @@ use borrow.Author.Tests.{ne-eqb}
 use lib.ListN.{length, take, getD}
 use lib.Seq.{take-suc, append-snoc}
 use Rattle.plan_meaning.specs.Plan.{Point, time, pointsOf, latest}
-use Rattle.plan_meaning.specs.Machine.{soonest}
 use Rattle.plan_meaning.specs.Promised.{Act}
 use Rattle.plan_meaning.specs.Stored.{spanIn, stepIn, pointIn}
 use Rattle.plan_meaning.specs.declared.Step.{Step}
@@ -54,14 +53,6 @@ module _ (x : Step) where
 
 pub points-more : (l : List Slot) (i : ℕ) → i < length l → map pointIn (take (i + 1) l) ≡ map pointIn (take i l) ++ pointIn (getD l i noSlot) ∷ []
 points-more l i h = rw (add-one, take-suc l i noSlot h) (map-append pointIn (take i l) (getD l i noSlot ∷ []))
-
-soonest-snoc : (b : ℕ) (ps : List (Point Act)) (p : Point Act) → soonest b (ps ++ p ∷ []) ≡ min (time p) (soonest b ps)
-soonest-snoc b [] p = refl
-soonest-snoc b (q ∷ ps) p = rw (soonest-snoc b ps p) (omega arith)
-
-pub soonest-more : (b : ℕ) (l : List Slot) (i : ℕ) → i < length l
-    → soonest b (map pointIn (take (i + 1) l)) ≡ min (time (pointIn (getD l i noSlot))) (soonest b (map pointIn (take i l)))
-soonest-more b l i h = rw (points-more l i h) (soonest-snoc b (map pointIn (take i l)) (pointIn (getD l i noSlot)))
 
 latest-snoc : (ps : List (Point Act)) (p : Point Act) → latest (ps ++ p ∷ []) ≡ max (time p) (latest ps)
 latest-snoc [] p = refl

@@ -1,72 +1,41 @@
-// The points that wait, as numbers in lent arrays: within a call they change in place. Six numbers each (line, action, time in the action, duration,
-// start, width) and four objects.
+// The points that wait, as numbers in lent arrays: within a call they change in place. Each lies in one of 64 places, six words (line, action, time in the
+// action, duration, start, width) and four objects, and stays there. Behind the places' words stand the places as they came, the free ones, and the keys.
 use crate::Queue;
 use plan_meaning::Slot;
 use plan_meaning::Step;
 ghost use mathlib.Core.Path.{_≡_};
 ghost use mathlib.Core.Bool.{true};
-ghost use mathlib.Core.List.{List, _++_};
-ghost use Prim.Native.Nat.{ℕ, suc, _+_, _≤_, _<_};
-ghost use lib.ListN.{length, set};
+ghost use mathlib.Core.List.{List, [], _∷_, _++_};
+ghost use Prim.Native.Nat.{ℕ, suc, _+_, _%_, _≤_, _<_};
+ghost use lib.Dec.{leb};
+ghost use lib.ListN.{length, getD};
 ghost use Rattle.plan_meaning.specs.Plan.{time, pointsOf, from, latest};
 ghost use Rattle.plan_meaning.specs.Machine as Machine;
 ghost use Rattle.plan_meaning.specs.Stored.{stepIn, pointIn};
-ghost use Rattle.plan_waiting.specs.Waiting.{used, waiting, queueOf, soundStep, Sound, Timed};
-ghost use Rattle.plan_waiting.specs.Lent.{whenIn, slotIn, slotsFrom, queueIn, Sized, TimedWords, TimedWord};
+ghost use Rattle.plan_ordering.specs.Keys.{Inside};
+ghost use Rattle.plan_waiting.specs.Waiting.{used, waiting, queueOf, soundStep, Sound, Timed, TimedStep};
+ghost use Rattle.plan_waiting.specs.Lent.{whenIn, slotIn, slotAt, queueIn, beginIn, whenAt, Apart, Kept, Due, Put, Swapped, Sifted};
+ghost use Rattle.plan_waiting.specs.Lent.{Sized, TimedWords, TimedWord};
 
-// When the point at place i happens.
-pub fn time_at(words: &[usize; 384], i: usize) -> usize
-    requires { ⌜ (i < 64) × TimedWord (now words) i ⌝ }
-    ensures { λ r. ⌜ ((o : List ℕ) → r ≡ time (pointIn (slotIn (now (words .entry)) o i))) × (r < 2000000000000) ⌝ }
+// When the point at place p happens.
+pub fn time_at(words: &[usize; 640], p: usize) -> usize
+    requires { ⌜ (p < 64) × TimedWord (now words) p ⌝ }
+    ensures { λ r. ⌜ ((o : List ℕ) → r ≡ time (pointIn (slotIn (now (words .entry)) o p))) × (r < 2000000000000) ⌝ }
 {
-    let at = 6 * i;
+    let at = 6 * p;
     if words[at + 2] == 3 {
         return words[at + 4] + words[at + 3];
     }
     words[at + 4]
 }
 
-// The least time below b of the first n points, or b.
-pub fn soonest(words: &[usize; 384], n: usize, b: usize) -> usize
-    requires { ⌜ TimedWords (now words) n ⌝ }
-    ensures { λ r. ⌜ ((o : List ℕ) → r ≡ Machine.soonest b (waiting (queueIn (now (words .entry)) o n))) ⌝ }
+// What stands at place p.
+pub fn slot_at<'a>(words: &'a [usize; 640], objects: &'a [u8; 256], p: usize) -> Slot
+    requires { ⌜ p < 64 ⌝ }
+    ensures { λ r. ⌜ r ≡ slotIn (now (words .entry)) (now (objects .entry)) p ⌝ }
 {
-    let mut best = b;
-    let mut i = 0;
-    while i < n {
-        let t = time_at(words, i);
-        if t < best {
-            best = t;
-        }
-        i += 1;
-    }
-    best
-}
-
-// The time of the last of the first n points, 0 if there is none.
-pub fn last(words: &[usize; 384], n: usize) -> usize
-    requires { ⌜ TimedWords (now words) n ⌝ }
-    ensures { λ r. ⌜ ((o : List ℕ) → r ≡ latest (waiting (queueIn (now (words .entry)) o n))) × (r < 2000000000000) ⌝ }
-{
-    let mut best = 0;
-    let mut i = 0;
-    while i < n {
-        let t = time_at(words, i);
-        if best < t {
-            best = t;
-        }
-        i += 1;
-    }
-    best
-}
-
-// What stands at place i.
-pub fn slot_at<'a>(words: &'a [usize; 384], objects: &'a [u8; 256], i: usize) -> Slot
-    requires { ⌜ i < 64 ⌝ }
-    ensures { λ r. ⌜ r ≡ slotIn (now (words .entry)) (now (objects .entry)) i ⌝ }
-{
-    let at = 6 * i;
-    let j = 4 * i;
+    let at = 6 * p;
+    let j = 4 * p;
     let step = Step {
         line: words[at],
         start: words[at + 4],
@@ -84,6 +53,65 @@ pub fn slot_at<'a>(words: &'a [usize; 384], objects: &'a [u8; 256], i: usize) ->
     }
 }
 
+// The place of the point that came as number i.
+pub fn place_at(words: &[usize; 640], i: usize) -> usize
+    requires { ⌜ i < 64 ⌝ }
+    ensures { λ r. ⌜ (r ≡ getD (now (words .entry)) (384 + i) 0 % 64) × (r < 64) ⌝ }
+{
+    words[384 + i] % 64
+}
+
+// The place of the point whose key is number i.
+pub fn due_place(words: &[usize; 640], i: usize) -> usize
+    requires { ⌜ beginIn (now words) + i < 640 ⌝ }
+    ensures { λ r. ⌜ (r ≡ getD (now (words .entry)) (beginIn (now (words .entry)) + i) 0 % 64) × (r < 64) ⌝ }
+{
+    let begin = words[448];
+    words[begin + i] % 64
+}
+
+// The least time below b of the n points, or b: that of the first key.
+pub fn soonest(words: &[usize; 640], n: usize, b: usize) -> usize
+    requires { ⌜ Inside (now words) (beginIn (now words)) n ⌝ }
+    ensures { λ r. ⌜ ((o : List ℕ) → Kept (now (words .entry)) o n → r ≡ Machine.soonest b (waiting (queueIn (now (words .entry)) o n))) ⌝ }
+{
+    if n == 0 {
+        return b;
+    }
+    let begin = words[448];
+    let t = words[begin] / 64;
+    if t < b {
+        return t;
+    }
+    b
+}
+
+// How many of the n points have the soonest time t: their keys are in front.
+pub fn due(words: &[usize; 640], n: usize, t: usize) -> usize
+    requires { ⌜ Inside (now words) (beginIn (now words)) n ⌝ }
+    ensures { λ r. ⌜ (r ≤ n) × ((o : List ℕ) (b : ℕ) → Kept (now (words .entry)) o n
+        → t ≡ Machine.soonest b (waiting (queueIn (now (words .entry)) o n)) → Due (now (words .entry)) o n t r) ⌝ }
+{
+    plan_ordering::front_of(words, words[448], n, t)
+}
+
+// The time of the last of the n points, 0 if there is none.
+pub fn last(words: &[usize; 640], n: usize) -> usize
+    requires { ⌜ TimedWords (now words) n ⌝ }
+    ensures { λ r. ⌜ ((o : List ℕ) → r ≡ latest (waiting (queueIn (now (words .entry)) o n))) × (r < 2000000000000) ⌝ }
+{
+    let mut best = 0;
+    let mut i = 0;
+    while i < n {
+        let t = time_at(words, place_at(words, i));
+        if best < t {
+            best = t;
+        }
+        i += 1;
+    }
+    best
+}
+
 // The time in its action of a point.
 pub fn when_of(ends: bool) -> usize
     ensures { λ r. ⌜ r ≡ whenIn ends ⌝ }
@@ -94,51 +122,47 @@ pub fn when_of(ends: bool) -> usize
     1
 }
 
-// Another point to place i. The arrays come as slices: where an array is lent as a slice its length is known to the proof.
-fn put(words: &mut [usize], objects: &mut [u8], i: usize, s: Slot)
-    requires { ⌜ (i < 64) × Sized (now words) (now objects) ⌝ }
-    ensures { λ _. ⌜ (slotsFrom (now (words .exit)) (now (objects .exit)) 64 0 ≡ set (slotsFrom (now (words .entry)) (now (objects .entry)) 64 0) i s) ⌝ }
+// Another point to place p. The arrays come as slices: where an array is lent as a slice its length is known to the proof.
+fn put(words: &mut [usize], objects: &mut [u8], p: usize, s: Slot)
+    requires { ⌜ (p < 64) × Sized (now words) (now objects) ⌝ }
+    ensures { λ _. ⌜ Put (now (words .entry)) (now (objects .entry)) (now (words .exit)) (now (objects .exit)) p s ⌝ }
 {
     let x = s.step;
-    let at = 6 * i;
+    let at = 6 * p;
     words[at] = x.line;
     words[at + 1] = x.action;
     words[at + 2] = when_of(s.ends);
     words[at + 3] = x.duration;
     words[at + 4] = x.start;
     words[at + 5] = x.width;
-    let j = 4 * i;
+    let j = 4 * p;
     objects[j] = x.a;
     objects[j + 1] = x.b;
     objects[j + 2] = x.c;
     objects[j + 3] = x.d;
 }
 
-// What stands at place i, to place j.
-fn copy_to(words: &mut [usize; 384], objects: &mut [u8; 256], i: usize, j: usize)
-    requires { ⌜ (i < 64) × (j < 64) ⌝ }
-    ensures { λ _. ⌜ (slotsFrom (now (words .exit)) (now (objects .exit)) 64 0 ≡ set (slotsFrom (now (words .entry)) (now (objects .entry)) 64 0) j
-        (slotIn (now (words .entry)) (now (objects .entry)) i)) ⌝ }
+// The places listed as numbers i and j change places.
+fn swap(words: &mut [usize; 640], i: usize, j: usize)
+    requires { ⌜ (i < 64) × (j < 64) × (length (now words) ≡ 640) ⌝ }
+    ensures { λ _. ⌜ Swapped (now (words .entry)) (now (words .exit)) i j ⌝ }
 {
-    if i == j {
-        return;
-    }
-    let s = slot_at(words, objects, i);
-    put(words, objects, j, s);
+    let p = words[384 + i];
+    words[384 + i] = words[384 + j];
+    words[384 + j] = p;
 }
 
-// Those of the first n points that are after the time t, in order: how many. The others are taken out.
-pub fn later(words: &mut [usize; 384], objects: &mut [u8; 256], n: usize, t: usize) -> usize
-    requires { ⌜ Timed (queueIn (now words) (now objects) n) ⌝ }
-    ensures { λ r. ⌜ (waiting (queueIn (now (words .exit)) (now (objects .exit)) r) ≡ from (suc t)
-        (waiting (queueIn (now (words .entry)) (now (objects .entry)) n)))
-        × ((m : ℕ) → Sound m (queueIn (now (words .entry)) (now (objects .entry)) n) → Sound m (queueIn (now (words .exit)) (now (objects .exit)) r)) ⌝ }
+// Those of the n points that are after the time t to the front of the list, in order: how many. The places of the others are free.
+fn sift(words: &mut [usize; 640], n: usize, t: usize) -> usize
+    requires { ⌜ TimedWords (now words) n × Apart (now words) × (length (now words) ≡ 640) ⌝ }
+    ensures { λ r. ⌜ ((o : List ℕ)
+        → Sifted (λ p. leb (suc t) (whenAt (slotAt (now (words .entry)) o) p)) (now (words .entry)) (now (words .exit)) n r) ⌝ }
 {
     let mut i = 0;
     let mut j = 0;
     while i < n {
-        if t < time_at(words, i) {
-            copy_to(words, objects, i, j);
+        if t < time_at(words, place_at(words, i)) {
+            swap(words, i, j);
             j += 1;
         }
         i += 1;
@@ -146,14 +170,40 @@ pub fn later(words: &mut [usize; 384], objects: &mut [u8; 256], n: usize, t: usi
     j
 }
 
+// The points of the soonest time t are taken out: how many are left.
+pub fn later(words: &mut [usize; 640], n: usize, t: usize) -> usize
+    requires { ⌜ TimedWords (now words) n × Apart (now words) × Inside (now words) (beginIn (now words)) n ⌝ }
+    ensures { λ r. ⌜ ((o : List ℕ) (b : ℕ) → Kept (now (words .entry)) o n → t ≡ Machine.soonest b (waiting (queueIn (now (words .entry)) o n))
+        → Kept (now (words .exit)) o r × (waiting (queueIn (now (words .exit)) o r) ≡ from (suc t) (waiting (queueIn (now (words .entry)) o n)))
+        × ((m : ℕ) → Sound m (queueIn (now (words .entry)) o n) → Sound m (queueIn (now (words .exit)) o r))) ⌝ }
+{
+    let r = sift(words, n, t);
+    words[448] = words[448] + (n - r);
+    r
+}
+
+// A point more, in a free place.
+fn enter_point(words: &mut [usize; 640], objects: &mut [u8; 256], n: usize, s: Slot)
+    requires { ⌜ Kept (now words) (now objects) n × (n < 64) × TimedStep (s .step) ⌝ }
+    ensures { λ _. ⌜ Kept (now (words .exit)) (now (objects .exit)) (n + 1)
+        × (used (queueIn (now (words .exit)) (now (objects .exit)) (n + 1)) ≡ used (queueIn (now (words .entry)) (now (objects .entry)) n) ++ s ∷ []) ⌝ }
+{
+    let p = place_at(words, n);
+    put(words, objects, p, s);
+    let key = time_at(words, p) * 64 + p;
+    let begin = words[448];
+    words[448] = plan_ordering::enter(words, begin, n, key);
+}
+
 // The points of a step more: how many there are then.
-pub fn enter(words: &mut [usize; 384], objects: &mut [u8; 256], n: usize, x: Step) -> usize
-    requires { ⌜ (n + length (pointsOf (stepIn x)) ≤ 64) ⌝ }
-    ensures { λ r. ⌜ (waiting (queueIn (now (words .exit)) (now (objects .exit)) r) ≡ waiting (queueIn (now (words .entry)) (now (objects .entry)) n)
+pub fn enter(words: &mut [usize; 640], objects: &mut [u8; 256], n: usize, x: Step) -> usize
+    requires { ⌜ Kept (now words) (now objects) n × (n + length (pointsOf (stepIn x)) ≤ 64) × TimedStep x ⌝ }
+    ensures { λ r. ⌜ Kept (now (words .exit)) (now (objects .exit)) r
+        × (waiting (queueIn (now (words .exit)) (now (objects .exit)) r) ≡ waiting (queueIn (now (words .entry)) (now (objects .entry)) n)
         ++ pointsOf (stepIn x)) × ((m : ℕ) → Sound m (queueIn (now (words .entry)) (now (objects .entry)) n) → soundStep m x ≡ true
         → Sound m (queueIn (now (words .exit)) (now (objects .exit)) r)) ⌝ }
 {
-    put(
+    enter_point(
         words,
         objects,
         n,
@@ -165,7 +215,7 @@ pub fn enter(words: &mut [usize; 384], objects: &mut [u8; 256], n: usize, x: Ste
     if x.duration == 0 {
         return n + 1;
     }
-    put(
+    enter_point(
         words,
         objects,
         n + 1,
@@ -177,21 +227,36 @@ pub fn enter(words: &mut [usize; 384], objects: &mut [u8; 256], n: usize, x: Ste
     n + 2
 }
 
-// The points of a queue, into the lent numbers.
-pub fn lend(q: Queue, words: &mut [usize; 384], objects: &mut [u8; 256])
-    requires { ⌜ (q .count ≤ 64) ⌝ }
-    ensures { λ _. ⌜ (used (queueIn (now (words .exit)) (now (objects .exit)) (q .count)) ≡ used q) ⌝ }
+// No point waits: all places are free. The arrays come as slices, as above.
+fn clear(words: &mut [usize], objects: &[u8])
+    requires { ⌜ Sized (now words) (now objects) ⌝ }
+    ensures { λ _. ⌜ Kept (now (words .exit)) (now (objects .entry)) 0 ⌝ }
 {
+    let mut i = 0;
+    while i < 64 {
+        words[384 + i] = i;
+        i += 1;
+    }
+    words[448] = 449;
+}
+
+// The points of a queue, into the lent numbers.
+pub fn lend(q: Queue, words: &mut [usize; 640], objects: &mut [u8; 256])
+    requires { ⌜ Timed q ⌝ }
+    ensures { λ _. ⌜ Kept (now (words .exit)) (now (objects .exit)) (q .count)
+        × (used (queueIn (now (words .exit)) (now (objects .exit)) (q .count)) ≡ used q) ⌝ }
+{
+    clear(words, objects);
     let n = q.count;
     let mut i = 0;
     while i < n {
-        put(words, objects, i, q.slots[i]);
+        enter_point(words, objects, i, q.slots[i]);
         i += 1;
     }
 }
 
 // And back: the queue of the first n points.
-pub fn back<'a>(words: &'a [usize; 384], objects: &'a [u8; 256], n: usize) -> Queue
+pub fn back<'a>(words: &'a [usize; 640], objects: &'a [u8; 256], n: usize) -> Queue
     requires { ⌜ n ≤ 64 ⌝ }
     ensures { λ r. ⌜ r ≡ queueOf (used (queueIn (now (words .entry)) (now (objects .entry)) n)) ⌝ }
 {
@@ -199,7 +264,7 @@ pub fn back<'a>(words: &'a [usize; 384], objects: &'a [u8; 256], n: usize) -> Qu
     let mut slots = fresh.slots;
     let mut i = 0;
     while i < n {
-        slots[i] = slot_at(words, objects, i);
+        slots[i] = slot_at(words, objects, place_at(words, i));
         i += 1;
     }
     Queue { slots, count: n }

@@ -10,16 +10,16 @@ use Rattle.happening_meaning.specs.State.{State}
 use Rattle.happening_truths.specs.Judged.{stateIn}
 use Rattle.plan_meaning.specs.Machine.{soonest, drain}
 use Rattle.plan_waiting.specs.Waiting.{waiting, Sound, Timed}
-use Rattle.plan_waiting.specs.Lent.{queueIn}
+use Rattle.plan_waiting.specs.Lent.{queueIn, Kept}
 use Rattle.plan_running.specs.Running.{runIn, rulesIn}
 use Rattle.plan_meaning.proofs.Drain.{drain-done}
-use Rattle.plan_running.proofs.Fuel.{some-at, shrinks, round}
+use Rattle.plan_running.proofs.Fuel.{shrinks, round}
 use Rattle.plan_running.proofs.drain_below.Statement.{statement}
 use Rattle.plan_running.proofs.drain_below.Tie as tie
 
 abbrev Inv-loop : tie.InvT-loop
-Inv-loop code starts firsts facts₀ numbers₀ fresh₀ words₀ objects₀ count b points₀ whos₀ lines₀ others₀ n₀ p₀ t₀ facts numbers fresh words objects points whos lines others n p t =
-    let q₀ = queueIn words₀ objects₀ n₀ in
+Inv-loop code starts firsts facts₀ numbers₀ fresh₀ words₀ objects count b points₀ whos₀ lines₀ others₀ n₀ p₀ t₀ facts numbers fresh words points whos lines others n p t =
+    let q₀ = queueIn words₀ objects n₀ in
     let q = queueIn words objects n in
     Timed q
     × (t ≡ soonest b (waiting q))
@@ -31,56 +31,60 @@ Inv-loop code starts firsts facts₀ numbers₀ fresh₀ words₀ objects₀ cou
     × (length facts ≡ length facts₀)
     × (length numbers ≡ length numbers₀)
     × (length fresh ≡ length fresh₀)
+    × Kept words objects n
 
 abbrev μ-loop : tie.MeasureT-loop
-μ-loop code starts firsts facts₀ numbers₀ fresh₀ words₀ objects₀ count b points₀ whos₀ lines₀ others₀ n₀ p₀ t₀ facts numbers fresh words objects points whos lines others n p t = length (waiting (queueIn words objects n))
+μ-loop code starts firsts facts₀ numbers₀ fresh₀ words₀ objects count b points₀ whos₀ lines₀ others₀ n₀ p₀ t₀ facts numbers fresh words points whos lines others n p t = length (waiting (queueIn words objects n))
 
 soonest-requires : tie.Need-soonest-requires Inv-loop μ-loop
-soonest-requires c κs =
-    let start = c .before .before .before .before .before in
-    (now (start .args .objects), start .pre .0)
+soonest-requires c κs = c .before .before .before .before .before .pre .3 .inside
 
 loop-holds : tie.Need-loop-holds Inv-loop μ-loop
 loop-holds c =
-    let start = c .before .before .before .before .before .before in
-    (start .pre .0, c .soonest .ensures (now (start .args .objects)), λ _ _ _ _ _. refl, λ n h. h, start .pre .2, refl, refl, refl)
+    let o = now (c .before .before .before .before .before .before .args .objects) in
+    (c .before .before .before .before .before .before .pre .0, c .soonest .ensures o (c .before .before .before .before .before .before .pre .3), λ _ _ _ _ _. refl, λ n h. h, c .before .before .before .before .before .before .pre .2, refl, refl, refl, c .before .before .before .before .before .before .pre .3)
 
 happen-at-requires : tie.Need-happen-at-requires Inv-loop μ-loop
 happen-at-requires c κs =
-    let k = c .before .before .before .before .before .before .before .before .before .before .loop in
-    let start = c .before .before .before .before .before .before .before .before .before .before .before .before .before .before .before .before .before in
-    (k .inv .0, some-at (k .t) (start .args .b) (waiting (queueIn (k .words) (k .objects) (k .n))) (k .inv .1) (c .before .before .before .before .before .before .before .before .before .loop-test .taken), start .pre .1, k .inv .4)
+    let k = c .before .before .before .before .before .before .before .before .before .loop in
+    (k .inv .0, (c .before .before .before .before .before .before .before .before .before .before .before .before .before .before .before .before .args .b, k .inv .1, c .before .before .before .before .before .before .before .before .loop-test .taken), c .before .before .before .before .before .before .before .before .before .before .before .before .before .before .before .before .pre .1, k .inv .4, k .inv .8)
 
 later-requires : tie.Need-later-requires Inv-loop μ-loop
-later-requires c κs = c .before .before .before .before .before .before .before .before .before .before .before .before .before .before .before .before .before .loop .inv .0
+later-requires c κs =
+    let v = c .before .before .before .before .before .before .before .before .before .before .before .before .before .before .before .loop .inv in
+    ((now (c .before .before .before .before .before .before .before .before .before .before .before .before .before .before .before .before .before .before .before .before .before .before .args .objects), v .0), v .8 .apart, v .8 .inside)
 
 soonest-requires-2 : tie.Need-soonest-requires-2 Inv-loop μ-loop
 soonest-requires-2 c κs =
-    let timed = c .before .before .before .before .before .before .before .before .before .before .before .before .before .before .before .before .before .before .before .loop .inv .0 in
-    let gone = c .before .later in
-    (gone .last .1 .0, (timed .0, gone .ensures .1 (timed .0) (timed .1)))
+    let v = c .before .before .before .before .before .before .before .before .before .before .before .before .before .before .before .before .before .loop .inv in
+    c .before .later .ensures (now (c .before .before .before .before .before .before .before .before .before .before .before .before .before .before .before .before .before .before .before .before .before .before .before .before .args .objects)) (c .before .before .before .before .before .before .before .before .before .before .before .before .before .before .before .before .before .before .before .before .before .before .before .before .args .b) (v .8) (v .1) .0 .inside
 
 loop-less : tie.Need-loop-less Inv-loop μ-loop
 loop-less c =
-    let k = c .before .before .before .before .before .before .before .before .before .before .before .before .before .before .before .before .before .before .before .before .loop in
-    shrinks (c .before .before .before .before .before .before .before .before .before .before .before .before .before .before .before .before .before .before .before .before .before .before .before .before .before .before .before .args .b) (waiting (queueIn (k .words) (k .objects) (k .n))) (k .inv .1) (c .before .before .before .before .before .before .before .before .before .before .before .before .before .before .before .before .before .before .before .loop-test .taken) (c .before .before .later .ensures .0)
+    let a = c .before .before .before .before .before .before .before .before .before .before .before .before .before .before .before .before .before .before .before .before .before .before .before .before .before .args in
+    let k = c .before .before .before .before .before .before .before .before .before .before .before .before .before .before .before .before .before .before .loop in
+    let v = k .inv in
+    let gone = c .before .before .later .ensures (now (a .objects)) (a .b) (v .8) (v .1) in
+    shrinks (a .b) (waiting (queueIn (k .words) (now (a .objects)) (k .n))) (v .1) (c .before .before .before .before .before .before .before .before .before .before .before .before .before .before .before .before .before .loop-test .taken) (gone .1)
 
 loop-again : tie.Need-loop-again Inv-loop μ-loop
 loop-again c =
-    let a = c .before .before .before .before .before .before .before .before .before .before .before .before .before .before .before .before .before .before .before .before .before .before .before .before .before .before .before .args in
-    let k = c .before .before .before .before .before .before .before .before .before .before .before .before .before .before .before .before .before .before .before .before .loop in
+    let a = c .before .before .before .before .before .before .before .before .before .before .before .before .before .before .before .before .before .before .before .before .before .before .before .before .before .args in
+    let o = now (a .objects) in
+    let k = c .before .before .before .before .before .before .before .before .before .before .before .before .before .before .before .before .before .before .loop in
     let v = k .inv in
-    let happened = c .before .before .before .before .before .before .before .before .before .happen-at .ensures in
-    let gone = c .before .before .later in (
-      (v .0 .0, gone .ensures .1 (v .0 .0) (v .0 .1)),
-      c .soonest2 .ensures (gone .last .1 .0),
-      λ goal es s sound few. round (a .b) (waiting (queueIn (k .words) (k .objects) (k .n))) (v .1) (c .before .before .before .before .before .before .before .before .before .before .before .before .before .before .before .before .before .before .before .loop-test .taken) (gone .ensures .0)
+    let happened = c .before .before .before .before .before .before .before .before .happen-at .ensures in
+    let gone = c .before .before .later .ensures o (a .b) (v .8) (v .1) in (
+      (v .0 .0, gone .2 (v .0 .0) (v .0 .1)),
+      c .soonest2 .ensures o (gone .0),
+      λ goal es s sound few. round (a .b) (waiting (queueIn (k .words) o (k .n))) (v .1) (c .before .before .before .before .before .before .before .before .before .before .before .before .before .before .before .before .before .loop-test .taken) (gone .1)
           (rulesIn (now (a .code)) (now (a .starts)) (now (a .firsts)) goal es s) (runIn (k .p) (stateIn (k .facts) (k .numbers))) (happened .0 goal es s (v .3 (length es) sound) few) (v .2 goal es s sound few),
-      λ n h. gone .ensures .1 n (v .3 n h),
+      λ n h. gone .2 n (v .3 n h),
       happened .1,
-      c .before .before .before .before .before .before .before .before .facts .given ∙ v .5,
-      c .before .before .before .before .before .before .numbers .given ∙ v .6,
-      c .before .before .before .before .before .fresh .given ∙ v .7,
+      c .before .before .before .before .before .before .before .facts .given ∙ v .5,
+      c .before .before .before .before .before .numbers .given ∙ v .6,
+      c .before .before .before .before .fresh .given ∙ v .7,
+      gone .0,
     )
 
 same-length : tie.Need-same-length Inv-loop μ-loop
@@ -96,12 +100,13 @@ returns : tie.Need-returns Inv-loop μ-loop
 returns c =
     let a = c .before .before .before .before .before .before .before .before .args in
     let k = c .before .loop in
-    let waits = waiting (queueIn (k .words) (k .objects) (k .n)) in
+    let waits = waiting (queueIn (k .words) (now (a .objects)) (k .n)) in
     let v = k .inv in
     let l : a .b ≤ soonest (a .b) waits = omega (arith, v .1) in (
       λ goal es s sound few. sym (drain-done (rulesIn (now (a .code)) (now (a .starts)) (now (a .firsts)) goal es s) (a .b) (length waits) (runIn (k .p) (stateIn (k .facts) (k .numbers))) waits l) ∙ v .2 goal es s sound few,
       v .3,
       v .4,
+      v .8,
     )
 
 pub drain-below-spec : {M : Type 1} → statement M

@@ -8,6 +8,7 @@ use Rattle.plan_meaning.specs.Machine.{underWay}
 use Rattle.plan_waiting.specs.Waiting.{waiting}
 use Rattle.plan_waiting.specs.Lent.{queueIn}
 use Rattle.plan_running.specs.Running.{rulesIn}
+use Rattle.plan_running.proofs.Fuel.{some-at}
 use Rattle.plan_running.proofs.Instant.{instant-past, instant-run}
 use borrow.Author.Needs.{needs}
 use Rattle.plan_running.proofs.happen_at.Statement.{statement}
@@ -44,8 +45,10 @@ returns-2 : tie.Need-returns-2
 returns-2 c =
     let entry = c .before .before .before .before .before .before .before .before .before .before .before .before .before .before .before .before .before .before .before .before .before .before .before .before .before .before .before .before in
     let a = entry .args in
+    let next = entry .pre .1 in
     let waits = waiting (queueIn (now (a .words)) (now (a .objects)) (a .count)) in
-    (λ goal es s sound few. instant-run (groundsIn (now (a .firsts))) goal (actionsAt (now (a .code)) (now (a .starts)) 0 es) s (a .t) (at (a .t) waits) (underWay (a .t) waits) (entry .pre .1) (a .past) (stateIn (now (a .facts)) (now (a .numbers))) (c .before .before .before .before .before .before .before .before .before .before .before .before .before .before .before .before .before .before .before .before .before .before .enum-told .given .1) (c .before .before .before .before .instant .ensures .0) (c .before .before .before .before .before .before .before .before .before .before .before .before .before .before .before .before .before .before .before .lay-points .ensures .1 (now (a .code)) (now (a .starts)) es sound few) (c .before .before .before .before .before .before .before .before .before .before .before .before .before .before .before .before .lay-lines .ensures .1 (now (a .code)) (now (a .starts)) es sound few), c .before .before .before .before .instant .ensures .1)
+    let some = some-at (a .t) (next .0) waits (next .1) (next .2) in
+    (λ goal es s sound few. instant-run (groundsIn (now (a .firsts))) goal (actionsAt (now (a .code)) (now (a .starts)) 0 es) s (a .t) (at (a .t) waits) (underWay (a .t) waits) some (a .past) (stateIn (now (a .facts)) (now (a .numbers))) (c .before .before .before .before .before .before .before .before .before .before .before .before .before .before .before .before .before .before .before .before .before .before .enum-told .given .1) (c .before .before .before .before .instant .ensures .0) (c .before .before .before .before .before .before .before .before .before .before .before .before .before .before .before .before .before .before .before .lay-points .ensures .1 (now (a .code)) (now (a .starts)) es (next .0) (next .1) sound few) (c .before .before .before .before .before .before .before .before .before .before .before .before .before .before .before .before .lay-lines .ensures .1 (now (a .code)) (now (a .starts)) es sound few), c .before .before .before .before .instant .ensures .1)
 
 pub happen-at-spec : {M : Type 1} → statement M
 happen-at-spec =

@@ -14,7 +14,7 @@ use Rattle.plan_meaning.specs.Plan.{Rules}
 use Rattle.plan_meaning.specs.Promised.{Act}
 use Rattle.plan_meaning.specs.Feed.{feed}
 use Rattle.plan_meaning.specs.Lines.{Known, reader, limits}
-use Rattle.plan_waiting.specs.Lent.{queueIn}
+use Rattle.plan_waiting.specs.Lent.{queueIn, Kept}
 use Rattle.plan_running.specs.Running.{rulesIn}
 use Rattle.plan_lines.specs.Knowing.{knownIn}
 use Rattle.plan_bytes.proofs.Turning.{Memory, memory, held, Ready, Sized, sized-same, sized-on, Turn, turn-same, turn-beyond, turn-more, turn-full, turn-lf, turned, feed-end, held-refused}
@@ -29,6 +29,7 @@ Inv-loop tables counts heads acting code starts firsts facts₀ numbers₀ fresh
     × ((c : Cond) (s : State)
     → feed (rulesIn code starts firsts c (signedIn heads acting) s) limits (reader (knownIn tables counts heads acting code starts)) (held (memory facts numbers fresh line (queueIn words objects n) p)) (drop i part)
     ≡ feed (rulesIn code starts firsts c (signedIn heads acting) s) limits (reader (knownIn tables counts heads acting code starts)) (held (memory facts₀ numbers₀ fresh₀ line₀ (queueIn words₀ objects₀ n₀) p₀)) part)
+    × Kept words objects n
 
 abbrev μ-loop : tie.MeasureT-loop
 μ-loop tables counts heads acting code starts firsts facts₀ numbers₀ fresh₀ line₀ words₀ objects₀ count part points₀ whos₀ lines₀ others₀ n₀ p₀ i₀ facts numbers fresh line words objects points whos lines others n p i = length part - i
@@ -53,7 +54,7 @@ before-byte k = memory (k .loop .facts) (k .loop .numbers) (k .loop .fresh) (k .
 loop-holds : tie.Need-loop-holds Inv-loop μ-loop
 loop-holds c =
     let asked = c .before .before .before .before .before .before .before .before .pre in
-    (omega arith, record { fit = asked .2; long = asked .4; same = asked .6 }, sized-same _, λ _ _. refl)
+    (omega arith, record { fit = asked .2; long = asked .4; same = asked .6 }, sized-same _, λ _ _. refl, asked .7)
 
 shared-slice-read-b : tie.Need-shared-slice-read-b Inv-loop μ-loop
 shared-slice-read-b c = c .before .loop-test .taken
@@ -83,7 +84,7 @@ take-line-requires : tie.Need-take-line-requires Inv-loop μ-loop
 take-line-requires c κs =
     let k = c .before .before .before .before .before .before .before .before .before .before .before .before .before .before .before .before in
     let v = k .loop .inv .1 in
-    (start k .pre .0, start k .pre .1, v .fit, c .before .before .before .before .before .before .before .before .before .before .before .before .before .if1 .left, v .long, start k .pre .5, v .same)
+    (start k .pre .0, start k .pre .1, v .fit, c .before .before .before .before .before .before .before .before .before .before .before .before .before .if1 .left, v .long, start k .pre .5, v .same, k .loop .inv .4)
 
 add-counting : tie.Need-add-counting Inv-loop μ-loop
 add-counting c = omega (arith, c .before .before .before .before .before .before .take-line .ensures .1 .4)
@@ -136,6 +137,19 @@ turn c =
     (turn-full m b ready unrefused (w .5 .result) (w .0 .left) (w .1 .left) (w .3 .left) (w .5 .ensures .0) (w .5 .ensures .1)))))
     (c .if2 .came)
 
+-- what is kept of the points that wait
+kept : (c : tie.Joined2 Inv-loop μ-loop) → Kept (c .if2 .words) (c .if2 .objects) (c .if2 .n)
+kept c =
+    let before = c .before .before .before .before .before .loop .inv .4 in
+    ⊎-elim
+    (λ w. rw (w .6, w .7, w .12) before)
+    (⊎-elim
+    (λ w. rw (w .24, w .25, w .30) (w .12 .ensures .4))
+    (⊎-elim
+    (λ w. rw (w .9, w .10, w .15) before)
+    (λ w. rw (w .10, w .11, w .16) before)))
+    (c .if2 .came)
+
 loop-again : tie.Need-loop-again Inv-loop μ-loop
 loop-again c =
     let k = c .before .before .before .before .before in
@@ -145,6 +159,7 @@ loop-again c =
       t .ready,
       sized-on _ _ _ (k .loop .inv .2) (t .sized),
       λ goal s. turned (before-byte k) (now (start k .args .part)) (k .loop .i) _ less t goal s _ (k .loop .inv .3 goal s),
+      kept c,
     )
 
 same-length-5 : tie.Need-same-length-5 Inv-loop μ-loop

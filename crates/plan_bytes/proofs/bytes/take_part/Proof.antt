@@ -20,14 +20,14 @@ abbrev after : tie.After-take-bytes → Queue
 after c = let b = c .take-bytes in queueIn (b .last .1 .1 .1 .1 .1 .1 .1 .1 .1 .1 .1 .0) (b .last .1 .1 .1 .1 .1 .1 .1 .1 .1 .1 .1 .1 .0) (b .result .count)
 
 lend-requires : tie.Need-lend-requires
-lend-requires c κs = c .before .before .before .before .before .before .before .before .before .before .pre .2 .0 .0
+lend-requires c κs = let s = c .before .before .before .before .before .before .before .before .before .before in (s .args .acting, s .pre .2 .0)
 
 take-bytes-requires : tie.Need-take-bytes-requires
 take-bytes-requires c κs =
     let l = c .before .before .before .before .before .before .before .before .before .before in
     let pre = start l .pre in
     let a = start l .args in
-    (pre .0, pre .1, fit-alike (a .queue) (lent l) (l .lend .ensures) (a .acting) (a .progress) refl (pre .2), pre .3, pre .4, pre .5, pre .6)
+    (pre .0, pre .1, fit-alike (a .queue) (lent l) (l .lend .ensures .1) (a .acting) (a .progress) refl (pre .2), pre .3, pre .4, pre .5, pre .6, l .lend .ensures .0)
 
 back-requires : tie.Need-back-requires
 back-requires c κs = c .before .before .before .before .before .before .before .before .before .take-bytes .ensures .1 .0 .0
@@ -56,7 +56,7 @@ returns c =
     let same = made-alike (after v) (made .result) (fit .0 .0) (made .ensures) in (
       λ g s. rw (
         check-alike (after v) (made .result) same there (b .result .progress),
-        ← check-alike (a .queue) (lent l) (l .lend .ensures) (stateIn (now (a .facts)) (now (a .numbers))) (a .progress),
+        ← check-alike (a .queue) (lent l) (l .lend .ensures .1) (stateIn (now (a .facts)) (now (a .numbers))) (a .progress),
       ) (b .ensures .0 g s),
       made-fit (after v) (made .result) (fit .0 .0) (made .ensures) (a .acting) (b .result .progress) fit,
       b .ensures .2,

@@ -61,17 +61,17 @@ taken : (c : tie.After-take-line) (s : State) → (let a = start c .args in
 taken c s =
     let a = start c .args in
     let l = c .before .before .before .before .before .before .before .before .before .before in
-    rw (← check-alike (a .queue) (lent l) (l .lend .ensures) (first (start c)) (a .p)) (c .take-line .ensures .0 (goal (start c)) s)
+    rw (← check-alike (a .queue) (lent l) (l .lend .ensures .1) (first (start c)) (a .p)) (c .take-line .ensures .0 (goal (start c)) s)
 
 lend-requires : tie.Need-lend-requires
-lend-requires c κs = c .before .before .before .before .before .before .before .before .before .before .pre .2 .0 .0
+lend-requires c κs = let s = c .before .before .before .before .before .before .before .before .before .before in (s .args .acting, s .pre .2 .0)
 
 take-line-requires : tie.Need-take-line-requires
 take-line-requires c κs =
     let l = c .before .before .before .before .before .before .before .before .before in
     let s = l .before .before .before .before .before .before .before .before .before .before .before in
     let a = s .args in
-    (s .pre .0, s .pre .1, fit-alike (a .queue) (lent l) (l .lend .ensures) (a .acting) (a .p) refl (s .pre .2), s .pre .3, s .pre .4, s .pre .5, s .pre .6)
+    (s .pre .0, s .pre .1, fit-alike (a .queue) (lent l) (l .lend .ensures .1) (a .acting) (a .p) refl (s .pre .2), s .pre .3, s .pre .4, s .pre .5, s .pre .6, l .lend .ensures .0)
 
 same-length : tie.Need-same-length
 same-length c = search needs
@@ -94,7 +94,7 @@ end-run-requires : tie.Need-end-run-requires
 end-run-requires c κs =
     let v = c .before .before .before .before .before .before .before .before .before .before .before .before .before .before .before in
     let t = v .take-line .ensures in
-    ((start v .args .acting, t .1 .0), t .1 .1, start v .pre .5, t .3)
+    ((start v .args .acting, t .1 .0), t .1 .1, start v .pre .5, t .3, t .4)
 
 begun-requires : tie.Need-begun-requires
 begun-requires c κs = search needs

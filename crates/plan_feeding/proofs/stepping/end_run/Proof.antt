@@ -28,7 +28,7 @@ add-b c = search needs
 drain-below-requires : tie.Need-drain-below-requires
 drain-below-requires c κs =
     let s = c .before .before .before .before .before .before .before .before .before .before .before .before .before .before .before .before .before in
-    (s .pre .0, s .pre .2, s .pre .3)
+    (s .pre .0, s .pre .2, s .pre .3, s .pre .4)
 
 judge-requires : tie.Need-judge-requires
 judge-requires c κs = search needs
@@ -51,7 +51,7 @@ returns c =
     let q = queueIn (now (a .words)) (now (a .objects)) (a .count) in
     let first = stateIn (now (a .facts)) (now (a .numbers)) in
     let last = stateIn (d .last .1 .1 .1 .0) (d .last .1 .1 .1 .1 .0) in
-    let left = queueIn (d .last .1 .1 .1 .1 .1 .1 .0) (d .last .1 .1 .1 .1 .1 .1 .1 .0) (d .result .count) in
+    let left = queueIn (d .last .1 .1 .1 .1 .1 .1 .0) (now (a .objects)) (d .result .count) in
     let b : 1 + v .higher .result ≡ suc (max (a .p .start) (latest (waiting q))) = omega (arith, v .higher .ensures, v .before .last .ensures .0 (now (a .objects))) in
     λ es s h k. ran-out (rulesIn (now (a .code)) (now (a .starts)) (now (a .firsts)) g es s) first last q (a .p) (d .result .past)
     (c .judge .result) (waiting left) (1 + v .higher .result) b (d .ensures .0 g es s h k)

@@ -105,7 +105,7 @@ take-step-requires c κs =
     let g = lined-read (a .acting) (v .line-at .result) y (found (start v)) (l .1) (lined v) in
     let n = read-line (text (start v)) (known (start v)) (a .p .number) (a .p .start) (a .acting) y g in
     let w = read-width (text (start v)) (known (start v)) (a .p .number) (a .p .start) (a .acting) y g in
-    ((a .acting, pre .2 .0), pre .3, n, g .within .1, omega (arith, width (start v), w), pre .5, pre .6)
+    ((a .acting, pre .2 .0), pre .3, n, g .within .1, omega (arith, width (start v), w), pre .5, pre .6, pre .7, (a .acting, sound-step-of (a .acting) y (g .within .0) (g .within .1) (g .within .2)))
 
 returns : tie.Need-returns
 returns c =
@@ -117,6 +117,7 @@ returns c =
       pre .2,
       refl,
       pre .6,
+      pre .7,
     )
 
 returns-2 : tie.Need-returns-2
@@ -131,6 +132,7 @@ returns-2 c =
       rw (r .ensures) (pre .2),
       ap (λ (w : PlanProgress). w .number) (r .ensures),
       pre .6,
+      pre .7,
     )
 
 same-length : tie.Need-same-length
@@ -166,6 +168,7 @@ returns-3 c =
       ),
       t .ensures .3,
       t .ensures .5,
+      t .ensures .6,
     )
 
 pub take-line-spec : {M : Type 1} → statement M

@@ -39,11 +39,11 @@ abbrev before : tie.Start → Queue
 before c = queueIn (now (c .args .words)) (now (c .args .objects)) (c .args .count)
 
 abbrev left : tie.After-drain-below → Queue
-left c = let d = c .drain-below in queueIn (d .last .1 .1 .1 .1 .1 .1 .0) (d .last .1 .1 .1 .1 .1 .1 .1 .0) (d .result .count)
+left c = let d = c .drain-below in queueIn (d .last .1 .1 .1 .1 .1 .1 .0) (now (start c .args .objects)) (d .result .count)
 
 -- they have all their places, and are no more than places
 long : (c : tie.After-drain-below) → length (left c .slots) ≡ 64
-long c = let d = c .drain-below in slots-long (d .last .1 .1 .1 .1 .1 .1 .0) (d .last .1 .1 .1 .1 .1 .1 .1 .0)
+long c = let d = c .drain-below in slots-long (d .last .1 .1 .1 .1 .1 .1 .0) (now (start c .args .objects))
 
 few : (c : tie.After-drain-below) → c .drain-below .result .count ≤ 64
 few c = let t = start c .pre .0 in c .drain-below .ensures .1 (t .0) (t .1) .0
@@ -51,7 +51,7 @@ few c = let t = start c .pre .0 in c .drain-below .ensures .1 (t .0) (t .1) .0
 drain-below-requires : tie.Need-drain-below-requires
 drain-below-requires c κs =
     let s = c .before .before .before .before .before .before .before .before .before .before .before .before .before in
-    (s .pre .0, s .pre .5, s .pre .6)
+    (s .pre .0, s .pre .5, s .pre .6, s .pre .7)
 
 points-of-requires : tie.Need-points-of-requires
 points-of-requires c κs = search needs
@@ -92,10 +92,13 @@ returns c =
       ap (λ (w : PlanProgress). w .number) (r .ensures),
       λ m h k. rw (r .ensures) h,
       d .ensures .2,
+      d .ensures .3,
     )
 
 enter-requires : tie.Need-enter-requires
-enter-requires c κs = omega (arith, c .before .before .if1 .left, c .before .before .before .points-of .ensures)
+enter-requires c κs =
+    let v = c .before .before .before .before .before .before .before .before in
+    (v .drain-below .ensures .3, omega (arith, c .before .before .if1 .left, c .before .before .before .points-of .ensures), start v .pre .8)
 
 begun-requires : tie.Need-begun-requires
 begun-requires c κs = search needs
@@ -118,12 +121,13 @@ returns-2 c =
     let e = c .before .enter in (
       λ g es s h k. admitted (left v) (a .x) (rules (start v) g es s) (before (start v)) (first (start v)) (there v) (d .result .past) (a .p) (r .result)
           (d .ensures .0 g es s h k) (long v) (few v) (queueIn (e .last .0) (e .last .1 .0) (e .result)) (r .ensures)
-          (omega (arith, c .before .before .before .before .if1 .left, c .before .before .before .before .before .points-of .ensures)) (e .ensures .0) (start v .pre .1),
-      λ n h k. e .ensures .1 n (d .ensures .1 n h) k,
+          (omega (arith, c .before .before .before .before .if1 .left, c .before .before .before .before .before .points-of .ensures)) (e .ensures .1) (start v .pre .1),
+      λ n h k. e .ensures .2 n (d .ensures .1 n h) k,
       ap (λ (w : PlanProgress). w .used) (r .ensures),
       ap (λ (w : PlanProgress). w .number) (r .ensures),
       λ m h k. rw (r .ensures) k,
       d .ensures .2,
+      e .ensures .0,
     )
 
 pub take-step-spec : {M : Type 1} → statement M

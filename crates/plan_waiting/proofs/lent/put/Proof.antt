@@ -2,7 +2,7 @@
 use native.Mathlib.Omega.{arith}
 use lib.ListN.{length-set}
 use denote.Ref.{now}
-use Rattle.plan_waiting.proofs.LentPlaces.{slots-put}
+use Rattle.plan_waiting.proofs.LentPlaces.{slot-put}
 use borrow.Author.Needs.{needs}
 use Rattle.plan_waiting.proofs.lent.put.Statement.{statement}
 use Rattle.plan_waiting.proofs.lent.put.Tie as tie
@@ -98,7 +98,7 @@ returns : tie.Need-returns
 returns c =
     let a = c .before .before .before .before .args in
     let e = c .when-of .ensures in
-    rw e (slots-put (now (a .words)) (now (a .objects)) (a .i) (a .s) (c .before .before .before .before .pre .1) (c .before .before .before .before .pre .0))
+    rw e (slot-put (now (a .words)) (now (a .objects)) (a .p) (a .s) (c .before .before .before .before .pre .1) (c .before .before .before .before .pre .0))
 
 pub put-spec : {M : Type 1} → statement M
 put-spec =

@@ -44,7 +44,7 @@ add-result-3 c = let w = now (c .before .before .before .before .args .words) in
 
 returns : tie.Need-returns
 returns c = let c2 = c .before .before in let w = now (c2 .before .before .args .words) in
-    let i = c2 .before .before .args .i in
+    let i = c2 .before .before .args .p in
     let t = c2 .before .before .pre .1 in
     (λ o. sym (end-there w i o (c2 .if1 .taken)), omega (arith, word-start w i t, word-duration w i t))
 
@@ -59,7 +59,7 @@ element-copy-out-result-3 c = search needs
 
 returns-2 : tie.Need-returns-2
 returns-2 c = let c3 = c .before .before .before in let w = now (c3 .args .words) in
-    let i = c3 .args .i in
+    let i = c3 .args .p in
     (λ o. sym (start-there w i o (c .before .if1 .left)), omega (arith, word-start w i (c3 .pre .1)))
 
 pub time-at-spec : {M : Type 1} → statement M
