@@ -1,7 +1,7 @@
 -- Step 3 for two points: what one reads of what the other writes, and effects that can't be together; then pair by pair. Assumes nothing.
 use mathlib.Core.Path.{_≡_, refl, ap, ap₂, sym, _∙_}
 use mathlib.Core.List.{List, [], _∷_}
-use mathlib.Core.Bool.{Bool, true, false, _||_}
+use mathlib.Core.Bool.{Bool, true, false}
 use Prim.Native.Nat.{ℕ, zero, suc, _<_}
 use native.Mathlib.Omega.{arith}
 use Rattle.domain_meaning.specs.Conditions.{Cond}
@@ -9,14 +9,14 @@ use Rattle.domain_meaning.specs.Effects.{Effect}
 use Rattle.domain_meaning.specs.Actions.{Lasting}
 use Rattle.happening_meaning.specs.State.{Grounds}
 use Rattle.happening_meaning.specs.Writes.{some, condReads, rightReads, against}
-use Rattle.happening_meaning.specs.Happening.{Point, lineOf, objectsOf, conditionsOf, effectsOf, ruleOf, ruleReads, readsFact, readsNumber, reads, marks}
+use Rattle.happening_meaning.specs.Happening.{Point, objectsOf, conditionsOf, effectsOf, ruleOf, ruleReads, readsFact, readsNumber, reads, marks}
 use Rattle.happening_meaning.specs.Happening.{unless, each, interfere, clear, pairs}
 use Rattle.happening_meaning.specs.declared.Mark.{Mark}
 use Rattle.happening_meaning.specs.declared.Mark.the-variants.{Fact, Number}
 use Rattle.happening_meaning.specs.declared.Outcome.{Outcome}
 use Rattle.happening_meaning.specs.declared.Outcome.the-variants.{Done, Conflict}
 use Rattle.happening_meaning.proofs.Failing.{Fails, unless-done, unless-fails}
-use Rattle.domain_prepared_meaning.specs.Decode.{lastsAt, testsAt, effectsAt}
+use Rattle.domain_prepared_meaning.specs.Decode.{testsAt, effectsAt}
 use Rattle.happening_forms.specs.Summed.{summed, fourAt}
 use Rattle.happening_placing.specs.Given.{placedIn, pointIn, pointsIn}
 use Rattle.happening_placing.specs.declared.Placed.{Placed}

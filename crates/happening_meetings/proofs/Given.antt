@@ -2,7 +2,7 @@
 use mathlib.Core.Path.{_≡_, refl, sym, ap, ap₂, _∙_}
 use mathlib.Core.List.{List, [], _∷_, _++_, map}
 use mathlib.Core.Bool.{Bool, true, false, cond, _||_}
-use Prim.Native.Nat.{ℕ, zero, suc, _+_, _-_, _≤_, _<_}
+use Prim.Native.Nat.{ℕ, suc, _+_, _-_, _≤_, _<_}
 use native.Mathlib.Omega.{arith}
 use lib.Dec.{ltb}
 use borrow.Author.Tests.{ltb-true}
@@ -14,7 +14,6 @@ use Rattle.domain_prepared_meaning.specs.Decode.{testsAt, effectsAt}
 use Rattle.happening_meaning.specs.State.{Grounds, factOf, numberOf}
 use Rattle.happening_meaning.specs.Happening.{Point, objectsOf, conditionsOf, effectsOf, ruleOf, marks}
 use Rattle.happening_meaning.specs.Writes.{marksOf}
-use Rattle.happening_meaning.specs.declared.Mark.{Mark}
 use Rattle.happening_forms.specs.Summed.{summed, fourAt}
 use Rattle.happening_placing.specs.Given.{placedIn, pointIn, pointsIn}
 use Rattle.happening_placing.specs.declared.Placed.{Placed}
@@ -22,7 +21,7 @@ use Rattle.happening_placing.proofs.Placing.{objects-are, rule-is, conditions-a
 use Rattle.happening_writes.specs.Rows.{marksAt}
 use Rattle.happening_meetings.specs.Accesses.{Access, factCell, numberCell, exprAccesses, condAccesses, condsAccesses, testsAccesses}
 use Rattle.happening_meetings.specs.Accesses.{ruleAccesses, effectAccesses, effectsAccesses, allAccesses, pointAccesses, somePair}
-use Rattle.happening_meetings.specs.Marks.{noMarks, markAll, hitAny, wipeAll, markEach, scan, wipeEach, Went}
+use Rattle.happening_meetings.specs.Marks.{noMarks, markAll, hitAny, markEach, scan, wipeEach, Went}
 use Rattle.happening_meetings.specs.Points.{ruleIn, placedAccesses, accessesIn}
 use Rattle.happening_meetings.proofs.Marking.{Inside, InsideAll, or-assoc, or-false, scanned, all-wiped}
 use Rattle.happening_meetings.proofs.Going.{went-both, went-same, held, marked, wiped}
@@ -61,6 +60,7 @@ module _ (g : Grounds) (os : List ℕ) where
 
   mutual
     unfolding condAccesses Inside
+
     cond-inside : (c : Cond) → Inside 17408 (condAccesses g os c)
     cond-inside (all cs) = conds-inside cs
     cond-inside (atom yes′ r) = (fact-inside (factOf g os r), tt)

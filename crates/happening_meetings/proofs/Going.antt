@@ -1,9 +1,8 @@
 -- A walk over accesses part by part, and its three modes: held against the marks, marked, wiped. Assumes nothing.
 use mathlib.Core.Path.{_≡_, refl, sym, ap, ap₂, _∙_}
 use mathlib.Core.List.{List, [], _∷_, _++_}
-use mathlib.Core.Bool.{Bool, true, false, cond, _||_}
+use mathlib.Core.Bool.{Bool, false, _||_}
 use Prim.Native.Nat.{ℕ}
-use lib.Dec.{eqb}
 use lib.ListN.{getD, set}
 use borrow.Author.Tests.{ne-eqb}
 use Rattle.happening_meetings.specs.Accesses.{Access, access}
@@ -90,10 +89,10 @@ module _ {mode : ℕ} {f : Bool} {m : List ℕ} {rest : List Access} {l : List �
   onward-turn {xs} {ys} {h} {b} {n} e w q =
       record {
         told =
-          ap₂ (λ (c : Bool) (k : List ℕ). c || met mode k ys) (q ∙ ap (λ (c : Bool). f || c) (w .told)) (w .left)
-          ∙ or-assoc f (met mode m xs) (met mode (walked mode m xs) ys)
-          ∙ ap (λ (c : Bool). f || c) (sym (met-append mode m xs ys) ∙ ap (met mode m) (sym e))
-          ∙ o .told;
+            ap₂ (λ (c : Bool) (k : List ℕ). c || met mode k ys) (q ∙ ap (λ (c : Bool). f || c) (w .told)) (w .left)
+            ∙ or-assoc f (met mode m xs) (met mode (walked mode m xs) ys)
+            ∙ ap (λ (c : Bool). f || c) (sym (met-append mode m xs ys) ∙ ap (met mode m) (sym e))
+            ∙ o .told;
         left = ap (λ (k : List ℕ). walked mode k ys) (w .left) ∙ sym (walked-append mode m xs ys) ∙ ap (walked mode m) (sym e) ∙ o .left;
       }
 

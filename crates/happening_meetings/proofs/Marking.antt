@@ -1,12 +1,12 @@
 -- Marks and pairs: a point meets a mark exactly if a pair interferes, and marks that are wiped are gone. Assumes nothing.
 use mathlib.Core.Path.{_≡_, refl, sym, ap, ap₂, subst, _∙_}
-use mathlib.Core.Bool.{Bool, true, false, cond, not, _&&_, _||_}
+use mathlib.Core.Bool.{Bool, true, false, cond, _&&_, _||_}
 use mathlib.Core.List.{List, [], _∷_}
 use mathlib.Core.Logic.{_⊎_, inl, inr, ⊎-elim}
-use Prim.Native.Nat.{ℕ, zero, suc, _+_, _≤_, _<_}
+use Prim.Native.Nat.{ℕ, _+_, _≤_, _<_}
 use native.Mathlib.Omega.{arith}
 use lib.Dec.{eqb, ltb}
-use lib.ListN.{getD, set, length, replicate, length-set, length-replicate, getD-replicate, List·getD-eq-default}
+use lib.ListN.{getD, set, length, length-set, length-replicate, getD-replicate, List·getD-eq-default}
 use lib.Seq.{getD-set-same, getD-set-other, ext-getD, set-out}
 use borrow.Author.Tests.{eqb-true, eqb-false, eq-eqb, ne-eqb, ltb-true, ltb-false}
 use Rattle.happening_meetings.specs.Accesses.{Access, clash, clashes, meet, somePair}
@@ -118,7 +118,11 @@ shown-one l a x k h = ⊎-elim here there (decide (eqb (a .index) x))
 
     there : eqb (a .index) x ≡ false → hitBy (getD (markOne l a) x 0) k ≡ (hitBy (getD l x 0) k || at-kind x k a)
     there e =
-        rw (e, getD-set-other l (a .index) x (joinOf (getD l (a .index) 0) (a .kind)) 0 (λ z. eqb-false (a .index) x e (sym z)), or-false (hitBy (getD l x 0) k))
+        rw (
+          e,
+          getD-set-other l (a .index) x (joinOf (getD l (a .index) 0) (a .kind)) 0 (λ z. eqb-false (a .index) x e (sym z)),
+          or-false (hitBy (getD l x 0) k),
+        )
 
 shown : (l : List ℕ) (p : List Access) (x k : ℕ) → Inside (length l) p → hitBy (getD (markAll l p) x 0) k ≡ (hitBy (getD l x 0) k || some (at-kind x k) p)
 unfolding markAll some Inside
@@ -174,7 +178,8 @@ hit-meets : (l : List ℕ) (p q : List Access) → Inside (length l) p → hitAn
 unfolding meet
 hit-meets l p q h = hit-marked l p q h ∙ ap (λ (b : Bool). hitAny l q || b) (some-swap clashes p q)
 
-some-meets : (l : List ℕ) (p : List Access) (ps : List (List Access)) → Inside (length l) p → some (hitAny (markAll l p)) ps ≡ (some (hitAny l) ps || some (meet p) ps)
+some-meets : (l : List ℕ) (p : List Access) (ps : List (List Access)) → Inside (length l) p
+    → some (hitAny (markAll l p)) ps ≡ (some (hitAny l) ps || some (meet p) ps)
 unfolding some
 some-meets l p [] h = refl
 some-meets l p (q ∷ qs) h =
@@ -192,7 +197,10 @@ scan-pairs l (p ∷ ps) h =
 -- ---- no marks
 
 nothing-at : (x : ℕ) → getD noMarks x 0 ≡ 0
-nothing-at x = ⊎-elim (λ h. getD-replicate 17408 x 0 0 (ltb-true x 17408 h)) (λ h. List·getD-eq-default noMarks 0 {n = x} (rw (length-replicate {A = ℕ} 17408 0) (ltb-false x 17408 h))) (decide (ltb x 17408))
+nothing-at x =
+    ⊎-elim (λ h. getD-replicate 17408 x 0 0 (ltb-true x 17408 h))
+    (λ h. List·getD-eq-default noMarks 0 {n = x} (rw (length-replicate {A = ℕ} 17408 0) (ltb-false x 17408 h)))
+    (decide (ltb x 17408))
 
 none-hit : (p : List Access) → hitAny noMarks p ≡ false
 unfolding hitAny hitBy
@@ -231,7 +239,8 @@ unmarked-each l [] x h = refl
 unmarked-each l (p ∷ ps) x h = go (some (at-index x) p) refl h (unmarked-each (markAll l p) ps x)
   where
     go : (b : Bool) → some (at-index x) p ≡ b → (b || some (some (at-index x)) ps) ≡ false
-        → (some (some (at-index x)) ps ≡ false → getD (markEach (markAll l p) ps) x 0 ≡ getD (markAll l p) x 0) → getD (markEach (markAll l p) ps) x 0 ≡ getD l x 0
+        → (some (some (at-index x)) ps ≡ false → getD (markEach (markAll l p) ps) x 0 ≡ getD (markAll l p) x 0)
+        → getD (markEach (markAll l p) ps) x 0 ≡ getD l x 0
     go true e f ih = absurd (never f)
     go false e f ih = ih f ∙ unmarked l p x e
 
@@ -284,7 +293,9 @@ length-wipes l (p ∷ ps) = length-wipes (wipeAll l p) ps ∙ length-wipe l p
 
 -- marks that are wiped by the same accesses are gone
 pub all-wiped : (ps : List (List Access)) → wipeEach (markEach noMarks ps) ps ≡ noMarks
-all-wiped ps = ext-getD 0 (wipeEach (markEach noMarks ps) ps) noMarks (length-wipes (markEach noMarks ps) ps ∙ length-marks noMarks ps) (λ x h. wiped-each (markEach noMarks ps) ps x ∙ go x (some (some (at-index x)) ps) refl)
+all-wiped ps =
+    ext-getD 0 (wipeEach (markEach noMarks ps) ps) noMarks (length-wipes (markEach noMarks ps) ps ∙ length-marks noMarks ps)
+    (λ x h. wiped-each (markEach noMarks ps) ps x ∙ go x (some (some (at-index x)) ps) refl)
   where
     go : (x : ℕ) (b : Bool) → some (some (at-index x)) ps ≡ b → cond b 0 (getD (markEach noMarks ps) x 0) ≡ getD noMarks x 0
     go x true e = sym (nothing-at x)

@@ -1,5 +1,5 @@
 -- Points that interfere meet: so where no two lists of accesses meet, all pairs are clear. Assumes nothing.
-use mathlib.Core.Path.{_≡_, refl, sym, ap, subst, _∙_}
+use mathlib.Core.Path.{_≡_, refl, sym, subst, _∙_}
 use mathlib.Core.List.{List, [], _∷_, _++_, map}
 use mathlib.Core.Bool.{Bool, true, false, cond, not, _&&_, _||_}
 use Prim.Native.Nat.{ℕ}
@@ -16,7 +16,6 @@ use Rattle.happening_meaning.specs.Happening.{Point, objectsOf, conditionsOf, e
 use Rattle.happening_meaning.specs.Happening.{lineOf, each, unless, clear, pairs}
 use Rattle.happening_meaning.specs.declared.Mark.{Mark}
 use Rattle.happening_meaning.specs.declared.Mark.the-variants.{Nothing, Fact, Number}
-use Rattle.happening_meaning.specs.declared.Outcome.{Outcome}
 use Rattle.happening_meaning.specs.declared.Outcome.the-variants.{Done, Conflict}
 use Rattle.happening_meetings.specs.Accesses.{Access, access, clash, clashes, meet, somePair, factCell, numberCell, exprAccesses, condAccesses}
 use Rattle.happening_meetings.specs.Accesses.{condsAccesses, testsAccesses, ruleAccesses, effectAccesses, effectsAccesses, pointAccesses}
@@ -77,6 +76,7 @@ module _ (g : Grounds) (os : List ℕ) where
   module _ (numeric : Bool) (x : ℕ) where
     mutual
       unfolding condReads condAccesses
+
       cond-read : (c : Cond) → condReads g os numeric x c ≡ true → Reads (cellOf numeric x) (condAccesses g os c)
       cond-read (all cs) h = conds-read cs h
       cond-read (atom yes′ r) h = go numeric h

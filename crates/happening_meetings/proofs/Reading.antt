@@ -1,10 +1,8 @@
 -- The walk over what stands at a place, by what it is: an expression, a single condition that was taken apart, a duration rule. Assumes nothing.
 use mathlib.Core.Path.{_≡_, refl, sym, ap, _∙_}
-use mathlib.Core.List.{List, [], _∷_, _++_}
+use mathlib.Core.List.{List, _++_}
 use mathlib.Core.Bool.{Bool, true, false, cond, not, _||_}
 use Prim.Native.Nat.{ℕ, _+_, _-_, _≤_, _<_}
-use native.Mathlib.Omega.{arith}
-use lib.Dec.{eqb}
 use lib.IntN.{ℤ}
 use lib.ListN.{length}
 use borrow.Author.Tests.{lt-ltb, le-ltb, ne-eqb}
@@ -128,7 +126,9 @@ module _ (rows os : List ℕ) (i left : ℕ) {mode : ℕ} {f : Bool} {m l : List
     tests-turn k z {next} {h} {c} {n} w q =
         let here : row ≡ rowOf os (i + 1) (now′ rows os i) = er ∙ row-here rows os i (cc) in
         let past : next ≡ now′ rows os i .next = w .0 ∙ ap (rowNext rows) here ∙ row-next rows os i (byteAt rows i) in
-        let one : rowAccesses rows os row ≡ condAccesses summed os (now′ rows os i .tree) = ap (rowAccesses rows os) here ∙ row-accesses rows os i (byteAt rows i) in
+        let one : rowAccesses rows os row ≡ condAccesses summed os (now′ rows os i .tree) =
+        ap (rowAccesses rows os) here ∙ row-accesses rows os i (byteAt rows i)
+        in
         rw past (onward-turn o (ap (testsAccesses summed os) (tests-step rows os i left k (cc))) (went-same mode m one (w .1)) q)
 
 -- ---- the duration rule

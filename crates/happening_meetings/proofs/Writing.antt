@@ -1,10 +1,10 @@
 -- The walk over the effects of a list, one after the other. Assumes nothing.
 use mathlib.Core.Path.{_≡_, refl, sym, ap, _∙_}
-use mathlib.Core.List.{List, [], _∷_, _++_}
-use mathlib.Core.Bool.{Bool, true, false, cond, _||_}
+use mathlib.Core.List.{List, [], _∷_}
+use mathlib.Core.Bool.{Bool, cond, _||_}
 use Prim.Native.Nat.{ℕ, _+_, _<_}
 use lib.Dec.{eqb}
-use Rattle.domain_meaning.specs.Effects.{Change, assign, raise, lower, Effect, becomes, changes}
+use Rattle.domain_meaning.specs.Effects.{Change, assign, raise, lower}
 use Rattle.domain_prepared_meaning.specs.Forms.{refBy}
 use Rattle.domain_prepared_meaning.specs.Decode.{formAt, expressionAt, effectsAt}
 use Rattle.happening_meaning.specs.State.{factOf, numberOf}

@@ -62,7 +62,8 @@ fn walk_tests<'a>(
     mode: u8,
 ) -> bool
     requires { ⌜ k < 64 ⌝ }
-    ensures { λ r. ⌜ Went mode (now (marks .entry)) (testsAccesses summed (fourAt (now (objects .entry)) k) (testsAt (now (rows .entry)) at)) r (now (marks .exit)) ⌝ }
+    ensures { λ r. ⌜ Went mode (now (marks .entry)) (testsAccesses summed (fourAt (now (objects .entry)) k) (testsAt (now (rows .entry)) at)) r
+        (now (marks .exit)) ⌝ }
 {
     let mut found = false;
     let mut i = at;
@@ -91,8 +92,8 @@ fn walk_rule<'a>(
     mode: u8,
 ) -> bool
     requires { ⌜ k < 64 ⌝ }
-    ensures { λ r. ⌜ Went mode (now (marks .entry)) (ruleAccesses summed (fourAt (now (objects .entry)) k) (cond begins (lastsAt (now (rows .entry)) at) moment))
-        r (now (marks .exit)) ⌝ }
+    ensures { λ r. ⌜ Went mode (now (marks .entry))
+        (ruleAccesses summed (fourAt (now (objects .entry)) k) (cond begins (lastsAt (now (rows .entry)) at) moment)) r (now (marks .exit)) ⌝ }
 {
     if !begins {
         return false;

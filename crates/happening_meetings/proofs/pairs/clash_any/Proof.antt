@@ -1,43 +1,20 @@
 -- `happening_meetings::pairs::clash_any` meets its contract. Assumes nothing.
-use mathlib.Core.Path.{_≡_, _∙_, refl, sym, ap}
-use mathlib.Core.Bool.{_||_}
-use Prim.Native.Nat.{ℕ, _+_, _-_, _≤_, _<_}
+use mathlib.Core.Path.{_≡_, _∙_, refl, ap}
+use Prim.Native.Nat.{_-_}
 use native.Mathlib.Omega.{arith}
 use borrow.Author.Needs.{needs}
-use borrow.Author.Tests.{lt-ltb, le-ltb, eq-eqb, ne-eqb}
-use lib.Dec.{eqb}
 use lib.ListN.{length}
-use Rattle.domain_prepared_meaning.specs.Decode.{formAt, exprAt, expressionAt, testsFrom, testsAt, effectsAt}
 use Rattle.happening_meaning.specs.Writes.{some, against}
-use Rattle.happening_meaning.specs.Happening.{each, clear, pairs, marks}
-use Rattle.happening_meaning.specs.Happening as Happens
+use Rattle.happening_meaning.specs.Happening.{pairs, marks}
 use Rattle.happening_forms.specs.Summed.{summed, fourAt}
-use Rattle.happening_forms.proofs.Placing.{number-at}
-use Rattle.happening_expressions.proofs.Shapes.{leaf-value, leaf-none, leaf-plain, expr-none, expr-past, expr-leaf, expr-minus, expr-two}
-use Rattle.happening_placing.specs.Given.{pointIn, pointsIn}
+use Rattle.happening_placing.specs.Given.{pointIn}
 use Rattle.happening_writes.specs.Rows.{marksAt}
 use Rattle.happening_writes.proofs.Following.{told}
 use Rattle.happening_writes.proofs.Turning.{marks-end, marks-fact, marks-number, some-none, some-hit, some-on}
-use Rattle.happening_meetings.specs.Accesses.{factCell, numberCell, testsAccesses, effectsAccesses}
-use Rattle.happening_meetings.specs.Marks.{joinOf, hitBy, scan, markEach, wipeEach}
-use Rattle.happening_meetings.specs.Points.{accessesIn}
-use Rattle.happening_meetings.proofs.Going.{touch-held, touch-marked, touch-wiped, Onward, onward-start}
-use Rattle.happening_meetings.proofs.Reading.{walk-none, walk-plain, walk-value, walk-same, walk-minus, walk-two, row-none, row-fact, row-same, row-compare}
-use Rattle.happening_meetings.proofs.Reading.{tests-over, tests-ended, tests-turn, rule-late, rule-past, rule-none, rule-so, rule-unwalked, rule-walked, rule-unread, rule-read, not-true, not-false}
-use Rattle.happening_meetings.proofs.Writing.{effects-over, effects-fact, effects-number, number-further}
-use Rattle.happening_meetings.proofs.Given.{point-went, points-end, points-step, points-all, accesses-all, scan-end, mark-end, wipe-end, scan-turn, mark-turn, wipe-turn, pairs-scanned}
-use Rattle.happening_meetings.proofs.Crossing.{fact-read, number-in-test, number-in-rule, number-in-right, reads-fact, reads-number, marks-here, clash-here}
-use Rattle.happening_meetings.proofs.Crossing.{interfere-reads, interfere-read, interfere-clash, clear-not, clear-so, each-end, each-turn, each-fails, pairs-end, pairs-turn, pairs-fails, pairs-none}
-use Rattle.happening_meetings.proofs.Meeting.{pairs-quiet}
+use Rattle.happening_meetings.proofs.Writing.{number-further}
+use Rattle.happening_meetings.proofs.Crossing.{marks-here, clash-here}
 use Rattle.happening_meetings.proofs.pairs.clash_any.Statement.{statement}
 use Rattle.happening_meetings.proofs.pairs.clash_any.Tie as tie
-use Rattle.happening_meetings.proofs.pairs.clash_any.Reads as reads
-use Rattle.happening_meetings.proofs.pairs.clash_any.Lts as lts
-use Rattle.happening_expressions.proofs.ends.expr_end.Reads as expr-end-reads
-use Rattle.happening_forms.proofs.index.Reads as index-reads
-use Rattle.happening_placing.proofs.point_at.Reads as point-at-reads
-use Rattle.happening_writes.proofs.clashes.clashes.Reads as clashes-reads
-use Rattle.happening_writes.proofs.rows.effect_at.Reads as effect-at-reads
 
 abbrev Inv-loop : tie.InvT-loop
 Inv-loop rows points objects i j q at₀ at = some (λ m. some (against m) (marks summed (pointIn rows points objects j))) (marksAt rows (fourAt objects i) at) ≡ some (λ m. some (against m) (marks summed (pointIn rows points objects j))) (marks summed (pointIn rows points objects i))
@@ -45,87 +22,66 @@ Inv-loop rows points objects i j q at₀ at = some (λ m. some (against m) (mark
 abbrev μ-loop : tie.MeasureT-loop
 μ-loop rows points objects i j q at₀ at = length rows - at
 
--- src/pairs.rt:131:9
 point-at-requires : tie.Need-point-at-requires Inv-loop μ-loop
 point-at-requires c κs = let s = c .before in (s .pre .0, s .pre .2)
 
--- src/pairs.rt:132:9
 point-at-requires-2 : tie.Need-point-at-requires-2 Inv-loop μ-loop
 point-at-requires-2 c κs = search needs
 
--- src/pairs.rt:134:5
 loop-holds : tie.Need-loop-holds Inv-loop μ-loop
 loop-holds c = let s = c .before .before .before in ap (some (λ m. some (against m) (marks summed (pointIn (s .args .rows .now) (s .args .points .now) (s .args .objects .now) (s .args .j))))) (marks-here (s .args .rows .now) (s .args .points .now) (s .args .objects .now) (s .args .i) (c .before .point-at .ensures))
 
--- src/pairs.rt:135:13
 effect-at-requires : tie.Need-effect-at-requires Inv-loop μ-loop
 effect-at-requires c κs = search needs
 
--- src/pairs.rt:138:17
 enum-told : tie.Need-enum-told Inv-loop μ-loop
 enum-told c = search needs
 
--- src/pairs.rt:138:17
 returns : tie.Need-returns Inv-loop μ-loop
 returns c = let s = c .before .before .before .before .before .before .before in some-none (λ m. some (against m) (marks summed (pointIn (s .args .rows .now) (s .args .points .now) (s .args .objects .now) (s .args .j)))) (marks-end (s .args .rows .now) (fourAt (s .args .objects .now) (s .args .i)) (c .before .before .before .loop .at) (told _ _ (c .before .before .effect-at .ensures) (c .enum-told .given .1))) ∙ c .before .before .before .loop .inv
 
--- src/pairs.rt:140:32
 enum-known-row : tie.Need-enum-known-row Inv-loop μ-loop
 enum-known-row c = search needs
 
--- src/pairs.rt:141:66
 add-index : tie.Need-add-index Inv-loop μ-loop
 add-index c = omega (arith, (told _ _ (c .before .before .before .effect-at .ensures) (c .before .row .given .1)) .inside)
 
--- src/pairs.rt:141:21
 index-requires : tie.Need-index-requires Inv-loop μ-loop
 index-requires c κs = let s = c .before .before .before .before .before .before .before .before in (s .pre .0, (told _ _ (c .before .before .before .effect-at .ensures) (c .before .row .given .1)) .few, omega (arith, (told _ _ (c .before .before .before .effect-at .ensures) (c .before .row .given .1)) .inside))
 
--- src/pairs.rt:142:20
 clashes-requires : tie.Need-clashes-requires Inv-loop μ-loop
 clashes-requires c κs = search needs
 
--- src/pairs.rt:143:21
 returns-2 : tie.Need-returns-2 Inv-loop μ-loop
 returns-2 c = let s = c .before .before .before .before .before .before .before .before .before .before .before in some-hit (λ m. some (against m) (marks summed (pointIn (s .args .rows .now) (s .args .points .now) (s .args .objects .now) (s .args .j)))) (marks-fact (s .args .rows .now) (fourAt (s .args .objects .now) (s .args .i)) (told _ _ (c .before .before .before .before .before .before .effect-at .ensures) (c .before .before .before .before .row .given .1)) (c .before .before .index .ensures)) (clash-here (s .args .rows .now) (s .args .points .now) (s .args .objects .now) (s .args .j) (c .before .before .before .before .before .before .before .before .point-at2 .ensures) _ (c .before .clashes .ensures)) (c .if1 .taken) ∙ c .before .before .before .before .before .before .before .loop .inv
 
--- src/pairs.rt:134:5
 loop-less : tie.Need-loop-less Inv-loop μ-loop
 loop-less c = omega (arith, (told _ _ (c .before .before .before .before .before .before .effect-at .ensures) (c .before .before .before .before .row .given .1)) .inside, (told _ _ (c .before .before .before .before .before .before .effect-at .ensures) (c .before .before .before .before .row .given .1)) .further)
 
--- src/pairs.rt:134:5
 loop-again : tie.Need-loop-again Inv-loop μ-loop
 loop-again c = let s = c .before .before .before .before .before .before .before .before .before .before .before in some-on (λ m. some (against m) (marks summed (pointIn (s .args .rows .now) (s .args .points .now) (s .args .objects .now) (s .args .j)))) (marks-fact (s .args .rows .now) (fourAt (s .args .objects .now) (s .args .i)) (told _ _ (c .before .before .before .before .before .before .effect-at .ensures) (c .before .before .before .before .row .given .1)) (c .before .before .index .ensures)) (clash-here (s .args .rows .now) (s .args .points .now) (s .args .objects .now) (s .args .j) (c .before .before .before .before .before .before .before .before .point-at2 .ensures) _ (c .before .clashes .ensures)) (c .if1 .left) ∙ c .before .before .before .before .before .before .before .loop .inv
 
--- src/pairs.rt:147:34
 enum-known-row-2 : tie.Need-enum-known-row-2 Inv-loop μ-loop
 enum-known-row-2 c = search needs
 
--- src/pairs.rt:148:66
 add-index-2 : tie.Need-add-index-2 Inv-loop μ-loop
 add-index-2 c = omega (arith, (told _ _ (c .before .before .before .effect-at .ensures) (c .before .row2 .given .1)) .inside)
 
--- src/pairs.rt:148:21
 index-requires-2 : tie.Need-index-requires-2 Inv-loop μ-loop
 index-requires-2 c κs = let s = c .before .before .before .before .before .before .before .before in (s .pre .0, (told _ _ (c .before .before .before .effect-at .ensures) (c .before .row2 .given .1)) .few, omega (arith, (told _ _ (c .before .before .before .effect-at .ensures) (c .before .row2 .given .1)) .inside))
 
--- src/pairs.rt:149:20
 clashes-requires-2 : tie.Need-clashes-requires-2 Inv-loop μ-loop
 clashes-requires-2 c κs = search needs
 
--- src/pairs.rt:150:21
 returns-3 : tie.Need-returns-3 Inv-loop μ-loop
 returns-3 c = let s = c .before .before .before .before .before .before .before .before .before .before .before in some-hit (λ m. some (against m) (marks summed (pointIn (s .args .rows .now) (s .args .points .now) (s .args .objects .now) (s .args .j)))) (marks-number (s .args .rows .now) (fourAt (s .args .objects .now) (s .args .i)) (told _ _ (c .before .before .before .before .before .before .effect-at .ensures) (c .before .before .before .before .row2 .given .1)) (c .before .before .index2 .ensures) refl) (clash-here (s .args .rows .now) (s .args .points .now) (s .args .objects .now) (s .args .j) (c .before .before .before .before .before .before .before .before .point-at2 .ensures) _ (c .before .clashes2 .ensures)) (c .if2 .taken) ∙ c .before .before .before .before .before .before .before .loop .inv
 
--- src/pairs.rt:152:17
 expr-end-requires : tie.Need-expr-end-requires Inv-loop μ-loop
 expr-end-requires c κs = search needs
 
--- src/pairs.rt:134:5
 loop-less-2 : tie.Need-loop-less-2 Inv-loop μ-loop
 loop-less-2 c = omega (arith, (told _ _ (c .before .before .before .before .before .before .before .effect-at .ensures) (c .before .before .before .before .before .row2 .given .1)) .inside, number-further (told _ _ (c .before .before .before .before .before .before .before .effect-at .ensures) (c .before .before .before .before .before .row2 .given .1)) (c .expr-end .ensures))
 
--- src/pairs.rt:134:5
 loop-again-2 : tie.Need-loop-again-2 Inv-loop μ-loop
 loop-again-2 c = let s = c .before .before .before .before .before .before .before .before .before .before .before .before in some-on (λ m. some (against m) (marks summed (pointIn (s .args .rows .now) (s .args .points .now) (s .args .objects .now) (s .args .j)))) (marks-number (s .args .rows .now) (fourAt (s .args .objects .now) (s .args .i)) (told _ _ (c .before .before .before .before .before .before .before .effect-at .ensures) (c .before .before .before .before .before .row2 .given .1)) (c .before .before .before .index2 .ensures) (c .expr-end .ensures)) (clash-here (s .args .rows .now) (s .args .points .now) (s .args .objects .now) (s .args .j) (c .before .before .before .before .before .before .before .before .before .point-at2 .ensures) _ (c .before .before .clashes2 .ensures)) (c .before .if2 .left) ∙ c .before .before .before .before .before .before .before .before .loop .inv
 

@@ -1,62 +1,27 @@
 -- `happening_meetings::pairs::interferes` meets its contract. Assumes nothing.
-use mathlib.Core.Path.{_≡_, _∙_, refl, sym, ap}
-use mathlib.Core.Bool.{_||_}
-use Prim.Native.Nat.{ℕ, _+_, _-_, _≤_, _<_}
-use native.Mathlib.Omega.{arith}
-use borrow.Author.Tests.{lt-ltb, le-ltb, eq-eqb, ne-eqb}
-use lib.Dec.{eqb}
-use lib.ListN.{length}
-use Rattle.domain_prepared_meaning.specs.Decode.{formAt, exprAt, expressionAt, testsFrom, testsAt, effectsAt}
-use Rattle.happening_meaning.specs.Writes.{some, against}
-use Rattle.happening_meaning.specs.Happening.{each, clear, pairs, marks}
-use Rattle.happening_meaning.specs.Happening as Happens
-use Rattle.happening_forms.specs.Summed.{summed, fourAt}
-use Rattle.happening_forms.proofs.Placing.{number-at}
-use Rattle.happening_expressions.proofs.Shapes.{leaf-value, leaf-none, leaf-plain, expr-none, expr-past, expr-leaf, expr-minus, expr-two}
-use Rattle.happening_placing.specs.Given.{pointIn, pointsIn}
-use Rattle.happening_writes.specs.Rows.{marksAt}
-use Rattle.happening_writes.proofs.Following.{told}
-use Rattle.happening_writes.proofs.Turning.{marks-end, marks-fact, marks-number, some-none, some-hit, some-on}
-use Rattle.happening_meetings.specs.Accesses.{factCell, numberCell, testsAccesses, effectsAccesses}
-use Rattle.happening_meetings.specs.Marks.{joinOf, hitBy, scan, markEach, wipeEach}
-use Rattle.happening_meetings.specs.Points.{accessesIn}
-use Rattle.happening_meetings.proofs.Going.{touch-held, touch-marked, touch-wiped, Onward, onward-start}
-use Rattle.happening_meetings.proofs.Reading.{walk-none, walk-plain, walk-value, walk-same, walk-minus, walk-two, row-none, row-fact, row-same, row-compare}
-use Rattle.happening_meetings.proofs.Reading.{tests-over, tests-ended, tests-turn, rule-late, rule-past, rule-none, rule-so, rule-unwalked, rule-walked, rule-unread, rule-read, not-true, not-false}
-use Rattle.happening_meetings.proofs.Writing.{effects-over, effects-fact, effects-number, number-further}
-use Rattle.happening_meetings.proofs.Given.{point-went, points-end, points-step, points-all, accesses-all, scan-end, mark-end, wipe-end, scan-turn, mark-turn, wipe-turn, pairs-scanned}
-use Rattle.happening_meetings.proofs.Crossing.{fact-read, number-in-test, number-in-rule, number-in-right, reads-fact, reads-number, marks-here, clash-here}
-use Rattle.happening_meetings.proofs.Crossing.{interfere-reads, interfere-read, interfere-clash, clear-not, clear-so, each-end, each-turn, each-fails, pairs-end, pairs-turn, pairs-fails, pairs-none}
-use Rattle.happening_meetings.proofs.Meeting.{pairs-quiet}
+use Rattle.happening_meaning.specs.Happening.{pairs}
+use Rattle.happening_forms.specs.Summed.{summed}
+use Rattle.happening_placing.specs.Given.{pointIn}
+use Rattle.happening_meetings.proofs.Crossing.{interfere-reads, interfere-read, interfere-clash}
 use borrow.Author.Needs.{needs}
 use Rattle.happening_meetings.proofs.pairs.interferes.Statement.{statement}
 use Rattle.happening_meetings.proofs.pairs.interferes.Tie as tie
-use Rattle.happening_meetings.proofs.pairs.interferes.Reads as reads
-use Rattle.happening_meetings.proofs.pairs.interferes.Lts as lts
-use Rattle.happening_meetings.proofs.pairs.clash_any.Reads as clash-any-reads
-use Rattle.happening_meetings.proofs.pairs.reads_any.Reads as reads-any-reads
 
--- src/pairs.rt:169:8
 reads-any-requires : tie.Need-reads-any-requires
 reads-any-requires c κs = search needs
 
--- src/pairs.rt:170:9
 returns : tie.Need-returns
 returns c = let s = c .before .before .before in interfere-reads summed (pointIn (s .args .rows .now) (s .args .points .now) (s .args .objects .now) (s .args .i)) (pointIn (s .args .rows .now) (s .args .points .now) (s .args .objects .now) (s .args .j)) (c .before .reads-any .ensures) (c .if1 .taken)
 
--- src/pairs.rt:172:8
 reads-any-requires-2 : tie.Need-reads-any-requires-2
 reads-any-requires-2 c κs = search needs
 
--- src/pairs.rt:173:9
 returns-2 : tie.Need-returns-2
 returns-2 c = let s = c .before .before .before .before .before in interfere-read summed (pointIn (s .args .rows .now) (s .args .points .now) (s .args .objects .now) (s .args .i)) (pointIn (s .args .rows .now) (s .args .points .now) (s .args .objects .now) (s .args .j)) (c .before .before .before .reads-any .ensures) (c .before .before .if1 .left) (c .before .reads-any2 .ensures) (c .if2 .taken)
 
--- src/pairs.rt:175:5
 clash-any-requires : tie.Need-clash-any-requires
 clash-any-requires c κs = search needs
 
--- src/pairs.rt:158:1
 returns-3 : tie.Need-returns-3
 returns-3 c = let s = c .before .before .before .before .before .before in interfere-clash summed (pointIn (s .args .rows .now) (s .args .points .now) (s .args .objects .now) (s .args .i)) (pointIn (s .args .rows .now) (s .args .points .now) (s .args .objects .now) (s .args .j)) (c .before .before .before .before .reads-any .ensures) (c .before .before .before .if1 .left) (c .before .before .reads-any2 .ensures) (c .before .if2 .left) (c .clash-any .ensures)
 

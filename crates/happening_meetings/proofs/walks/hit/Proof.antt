@@ -1,54 +1,22 @@
 -- `happening_meetings::walks::hit` meets its contract. Assumes nothing.
-use mathlib.Core.Path.{_≡_, _∙_, refl, sym, ap}
-use mathlib.Core.Bool.{_||_}
-use Prim.Native.Nat.{ℕ, _+_, _-_, _≤_, _<_}
-use native.Mathlib.Omega.{arith}
-use borrow.Author.Tests.{lt-ltb, le-ltb, eq-eqb, ne-eqb}
-use lib.Dec.{eqb}
-use lib.ListN.{length}
-use Rattle.domain_prepared_meaning.specs.Decode.{formAt, exprAt, expressionAt, testsFrom, testsAt, effectsAt}
-use Rattle.happening_meaning.specs.Writes.{some, against}
-use Rattle.happening_meaning.specs.Happening.{each, clear, pairs, marks}
-use Rattle.happening_meaning.specs.Happening as Happens
-use Rattle.happening_forms.specs.Summed.{summed, fourAt}
-use Rattle.happening_forms.proofs.Placing.{number-at}
-use Rattle.happening_expressions.proofs.Shapes.{leaf-value, leaf-none, leaf-plain, expr-none, expr-past, expr-leaf, expr-minus, expr-two}
-use Rattle.happening_placing.specs.Given.{pointIn, pointsIn}
-use Rattle.happening_writes.specs.Rows.{marksAt}
-use Rattle.happening_writes.proofs.Following.{told}
-use Rattle.happening_writes.proofs.Turning.{marks-end, marks-fact, marks-number, some-none, some-hit, some-on}
-use Rattle.happening_meetings.specs.Accesses.{factCell, numberCell, testsAccesses, effectsAccesses}
-use Rattle.happening_meetings.specs.Marks.{joinOf, hitBy, scan, markEach, wipeEach}
-use Rattle.happening_meetings.specs.Points.{accessesIn}
-use Rattle.happening_meetings.proofs.Going.{touch-held, touch-marked, touch-wiped, Onward, onward-start}
-use Rattle.happening_meetings.proofs.Reading.{walk-none, walk-plain, walk-value, walk-same, walk-minus, walk-two, row-none, row-fact, row-same, row-compare}
-use Rattle.happening_meetings.proofs.Reading.{tests-over, tests-ended, tests-turn, rule-late, rule-past, rule-none, rule-so, rule-unwalked, rule-walked, rule-unread, rule-read, not-true, not-false}
-use Rattle.happening_meetings.proofs.Writing.{effects-over, effects-fact, effects-number, number-further}
-use Rattle.happening_meetings.proofs.Given.{point-went, points-end, points-step, points-all, accesses-all, scan-end, mark-end, wipe-end, scan-turn, mark-turn, wipe-turn, pairs-scanned}
-use Rattle.happening_meetings.proofs.Crossing.{fact-read, number-in-test, number-in-rule, number-in-right, reads-fact, reads-number, marks-here, clash-here}
-use Rattle.happening_meetings.proofs.Crossing.{interfere-reads, interfere-read, interfere-clash, clear-not, clear-so, each-end, each-turn, each-fails, pairs-end, pairs-turn, pairs-fails, pairs-none}
-use Rattle.happening_meetings.proofs.Meeting.{pairs-quiet}
+use Prim.Native.Nat.{_+_}
+use borrow.Author.Tests.{eq-eqb, ne-eqb}
+use Rattle.happening_meetings.specs.Marks.{hitBy}
 use borrow.Author.Needs.{needs}
 use Rattle.happening_meetings.proofs.walks.hit.Statement.{statement}
 use Rattle.happening_meetings.proofs.walks.hit.Tie as tie
-use Rattle.happening_meetings.proofs.walks.hit.Reads as reads
-use Rattle.happening_meetings.proofs.walks.hit.Lts as lts
 
--- src/walks.rt:36:9
 returns : tie.Need-returns
 unfolding hitBy
 returns c = let s = c .before in rw (eq-eqb (s .args .m) 0 (c .if1 .taken))
 
--- src/walks.rt:38:13
 add-if2 : tie.Need-add-if2
 add-if2 c = search needs
 
--- src/walks.rt:39:9
 returns-2 : tie.Need-returns-2
 unfolding hitBy
 returns-2 c = let s = c .before .before in rw (ne-eqb (s .args .m) 0 (c .before .if1 .left), eq-eqb (s .args .m) (s .args .kind + 2) (c .if2 .taken))
 
--- src/walks.rt:31:1
 returns-3 : tie.Need-returns-3
 unfolding hitBy
 returns-3 c = let s = c .before .before in rw (ne-eqb (s .args .m) 0 (c .before .if1 .left), ne-eqb (s .args .m) (s .args .kind + 2) (c .if2 .left))
