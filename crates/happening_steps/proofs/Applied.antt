@@ -26,8 +26,8 @@ use Rattle.happening_writes.proofs.Settling.{settle-append}
 use Rattle.happening_placing.specs.Given.{placedIn, pointIn, pointsIn}
 use Rattle.happening_placing.specs.declared.Placed.{Placed}
 use Rattle.happening_placing.proofs.Placing.{line-is, objects-are, effects-are}
-use Rattle.happening_steps.proofs.Places.{points-end, points-step}
-use Rattle.happening_steps.proofs.Tested.{marks-are}
+use Rattle.happening_meetings.proofs.Crossing.{marks-here}
+use Rattle.happening_meetings.proofs.Given.{points-end, points-step}
 
 abbrev madeAt : List ℕ → List ℕ → ℕ → List ℤ → List ℤ → Placed → Made
 madeAt rows os j old ns p = changeAll summed old (p .line) (fourAt os j) ns (effectsAt rows (p .effects))
@@ -93,7 +93,7 @@ module _ (rows ps os : List ℕ) (n j : ℕ) where
     marks-step : allMarks summed (pointsIn rows ps os (n - j) j)
         ≡ marksAt rows (fourAt os j) (p .effects) ++ allMarks summed (pointsIn rows ps os (n - (j + 1)) (j + 1))
     unfolding allMarks
-    marks-step = rw (points-step rows ps os n j h) (ap (λ ms. ms ++ allMarks summed (pointsIn rows ps os (n - (j + 1)) (j + 1))) (marks-are rows ps os j ep))
+    marks-step = rw (points-step rows ps os n j h) (ap (λ ms. ms ++ allMarks summed (pointsIn rows ps os (n - (j + 1)) (j + 1))) (sym (marks-here rows ps os j ep)))
 
     pub change-turn : (old ns : List ℤ) {o : Outcome} {ms : List ℤ} → made o ms ≡ madeAt rows os j old ns p → o ≡ Done
         → changePoints summed old ms (pointsIn rows ps os (n - (j + 1)) (j + 1)) ≡ changePoints summed old ns (pointsIn rows ps os (n - j) j)
@@ -108,12 +108,12 @@ module _ (rows ps os : List ℕ) (n j : ℕ) where
     pub stay-turn : (ns : List ℤ) {b : Bool} → b ≡ some (leaves ns) (marksAt rows (fourAt os j) (p .effects)) → b ≡ false
         → each (stays summed ns) (pointsIn rows ps os (n - (j + 1)) (j + 1)) ≡ each (stays summed ns) (pointsIn rows ps os (n - j) j)
     unfolding each unless stays
-    stay-turn ns e d = rw (points-step rows ps os n j h, marks-are rows ps os j ep, ← e, d)
+    stay-turn ns e d = rw (points-step rows ps os n j h, ← marks-here rows ps os j ep, ← e, d)
 
     pub stay-hit : (ns : List ℤ) {b : Bool} → b ≡ some (leaves ns) (marksAt rows (fourAt os j) (p .effects)) → b ≡ true
         → Range (p .line) ≡ each (stays summed ns) (pointsIn rows ps os (n - j) j)
     unfolding each unless stays
-    stay-hit ns e d = rw (points-step rows ps os n j h, marks-are rows ps os j ep, ← e, d, ep, ← line-is rows ps os j)
+    stay-hit ns e d = rw (points-step rows ps os n j h, ← marks-here rows ps os j ep, ← e, d, ep, ← line-is rows ps os j)
 
     pub write-turn : (f : List ℕ → Mark → List ℕ) (fs : List ℕ) {gs : List ℕ} → gs ≡ eachMark f fs (marksAt rows (fourAt os j) (p .effects))
         → eachMark f gs (allMarks summed (pointsIn rows ps os (n - (j + 1)) (j + 1))) ≡ eachMark f fs (allMarks summed (pointsIn rows ps os (n - j) j))

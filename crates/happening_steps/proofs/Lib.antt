@@ -1,6 +1,4 @@
 -- What the proofs of several functions use.
-pub mod Places
-pub mod Each
 pub mod Ruled
 pub mod Tested
 pub mod Applied

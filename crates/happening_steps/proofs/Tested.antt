@@ -3,12 +3,11 @@ use mathlib.Core.Path.{_≡_, ap, sym, _∙_}
 use mathlib.Core.List.{List}
 use mathlib.Core.Bool.{Bool, true, false}
 use Prim.Native.Nat.{ℕ}
-use lib.IntN.{ℤ}
 use Rattle.domain_prepared_meaning.specs.Decode.{testsAt}
 use Rattle.happening_meaning.specs.State.{State}
 use Rattle.happening_meaning.specs.Truths.{holdAll}
-use Rattle.happening_meaning.specs.Writes.{itself, marksOf}
-use Rattle.happening_meaning.specs.Happening.{lasting, ruleOf, unless, tested, judged, lineOf, objectsOf, conditionsOf, marks, apart, spans}
+use Rattle.happening_meaning.specs.Writes.{itself}
+use Rattle.happening_meaning.specs.Happening.{lasting, ruleOf, unless, tested, judged, lineOf, objectsOf, conditionsOf, apart, spans}
 use Rattle.happening_meaning.specs.declared.Truth.{Truth}
 use Rattle.happening_meaning.specs.declared.Truth.the-variants as T
 use Rattle.happening_meaning.specs.declared.Outcome.{Outcome}
@@ -17,9 +16,10 @@ use Rattle.happening_meaning.proofs.Failing.{Fails, unless-done, unless-fails}
 use Rattle.happening_forms.specs.Summed.{summed, fourAt}
 use Rattle.happening_tests.specs.Reading.{maskOf}
 use Rattle.happening_writes.specs.Rows.{marksAt}
+use Rattle.happening_meetings.proofs.Crossing.{marks-here}
 use Rattle.happening_placing.specs.Given.{placedIn, stepIn, pointIn}
 use Rattle.happening_placing.specs.declared.Placed.{Placed}
-use Rattle.happening_placing.proofs.Placing.{line-is, objects-are, conditions-are, effects-are, during-is}
+use Rattle.happening_placing.proofs.Placing.{line-is, objects-are, conditions-are, during-is}
 use Rattle.happening_steps.specs.Watching.{watching}
 
 module _ (fails : Outcome) (l : ℕ) {t : Truth} where
@@ -56,17 +56,14 @@ module _ (rows ps os : List ℕ) (j : ℕ) where
 
   -- ---- step 2
 
-  pub marks-are : {p : Placed} → p ≡ placedIn rows ps j → marks summed (pointIn rows ps os j) ≡ marksAt rows (fourAt os j) (p .effects)
-  marks-are ep = rw (ep, ← effects-are rows ps os j, ← objects-are rows ps os j)
-
   module _ {p : Placed} (ep : p ≡ placedIn rows ps j) {b : Bool} (e : b ≡ itself (marksAt rows (fourAt os j) (p .effects))) where
     pub apart-not : b ≡ true → Itself (p .line) ≡ apart summed (pointIn rows ps os j)
     unfolding apart
-    apart-not h = rw (marks-are ep, ← e, h, ep, ← line-is rows ps os j)
+    apart-not h = rw (← marks-here rows ps os j ep, ← e, h, ep, ← line-is rows ps os j)
 
     pub apart-so : b ≡ false → Done ≡ apart summed (pointIn rows ps os j)
     unfolding apart
-    apart-so h = rw (marks-are ep, ← e, h)
+    apart-so h = rw (← marks-here rows ps os j ep, ← e, h)
 
   -- ---- step 5
 

@@ -1,8 +1,9 @@
-// Steps 1 and 2 for all points of a happening, and step 5 for a line under way, with what it looks at.
+// Steps 1 to 3 for all points of a happening, and step 5 for a line under way, with what it looks at.
 use happening_expressions::values;
 use happening_meaning::Outcome;
 use happening_meaning::Truth;
 use happening_meaning::Value;
+use happening_meetings::clearing;
 use happening_placing::Placed;
 use happening_tests::reads;
 use happening_tests::truths;
@@ -13,10 +14,11 @@ ghost use Prim.Native.Nat.{_≤_, _<_};
 ghost use lib.IntN.{pos};
 ghost use lib.ListN.{length};
 ghost use lib.Signed.{leZ};
-ghost use Rattle.happening_meaning.specs.Happening.{each, judged, lasts, lasting, ruleOf, tested, apart, spans};
+ghost use Rattle.happening_meaning.specs.Happening.{each, judged, lasts, lasting, ruleOf, tested, apart, allowed, spans};
 ghost use Rattle.happening_forms.specs.Summed.{summed};
 ghost use Rattle.happening_state.specs.States.{stateIn};
 ghost use Rattle.happening_placing.specs.Given.{placedIn, stepIn, pointIn, pointsIn};
+ghost use Rattle.happening_meetings.specs.Marks.{noMarks};
 ghost use Rattle.happening_steps.specs.Watching.{watching};
 
 fn is_same(z: i64, d: usize) -> bool
@@ -165,6 +167,31 @@ fn apart_all<'a>(
         j += 1;
     }
     Outcome::Done
+}
+
+// Steps 1 to 3.
+pub fn allow<'a>(
+    rows: &'a [u8],
+    facts: &'a [u8],
+    numbers: &'a [i64],
+    points: &'a [usize; 256],
+    objects: &'a [u8; 256],
+    n: usize,
+    marks: &mut [u8; 17408],
+) -> Outcome
+    requires { ⌜ (n ≤ 64) × (385 ≤ length (now rows)) × (now marks ≡ noMarks) ⌝ }
+    ensures { λ r. ⌜ (r ≡ allowed summed (stateIn (now (facts .entry)) (now (numbers .entry)))
+        (pointsIn (now (rows .entry)) (now (points .entry)) (now (objects .entry)) n 0)) × (now (marks .exit) ≡ noMarks) ⌝ }
+{
+    let t = test_all(rows, facts, numbers, points, objects, n);
+    let Outcome::Done = t else {
+        return t;
+    };
+    let a = apart_all(rows, points, objects, n);
+    let Outcome::Done = a else {
+        return a;
+    };
+    clearing::clear_pairs(rows, points, objects, n, marks)
 }
 
 // Step 5 for the line given as number j: its `over all` conditions.

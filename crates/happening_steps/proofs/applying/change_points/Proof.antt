@@ -8,7 +8,7 @@ use Rattle.happening_meaning.specs.Happening.{changePoints}
 use Rattle.happening_forms.specs.Summed.{summed}
 use Rattle.happening_placing.specs.Given.{pointsIn}
 use Rattle.happening_writes.specs.Changing.{Room}
-use Rattle.happening_steps.proofs.Places.{points-all}
+use Rattle.happening_meetings.proofs.Given.{points-all}
 use Rattle.happening_steps.proofs.Applied.{room-first, room-here, room-next, change-end, change-turn, change-fails}
 use borrow.Author.Needs.{needs}
 use Rattle.happening_steps.proofs.applying.change_points.Statement.{statement}

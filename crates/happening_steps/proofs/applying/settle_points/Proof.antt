@@ -8,7 +8,7 @@ use Rattle.happening_meaning.specs.Happening.{allMarks}
 use Rattle.happening_forms.specs.Summed.{summed}
 use Rattle.happening_placing.specs.Given.{pointsIn}
 use Rattle.happening_writes.specs.Changing.{settleAll}
-use Rattle.happening_steps.proofs.Places.{points-all}
+use Rattle.happening_meetings.proofs.Given.{points-all}
 use Rattle.happening_steps.proofs.Applied.{settle-end, settle-turn}
 use borrow.Author.Needs.{needs}
 use Rattle.happening_steps.proofs.applying.settle_points.Statement.{statement}

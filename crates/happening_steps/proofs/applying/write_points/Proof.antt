@@ -10,7 +10,7 @@ use Rattle.happening_meaning.specs.Happening.{eachMark, allMarks}
 use Rattle.happening_forms.specs.Summed.{summed}
 use Rattle.happening_placing.specs.Given.{pointsIn}
 use Rattle.happening_writes.specs.Changing.{writeFact, adds}
-use Rattle.happening_steps.proofs.Places.{points-all}
+use Rattle.happening_meetings.proofs.Given.{points-all}
 use Rattle.happening_steps.proofs.Applied.{write-end, write-turn, adds-end, adds-turn}
 use borrow.Author.Needs.{needs}
 use Rattle.happening_steps.proofs.applying.write_points.Statement.{statement}

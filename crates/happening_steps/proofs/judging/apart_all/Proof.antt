@@ -6,8 +6,8 @@ use denote.Ref.{now}
 use Rattle.happening_meaning.specs.Happening.{each, apart}
 use Rattle.happening_forms.specs.Summed.{summed}
 use Rattle.happening_placing.specs.Given.{pointsIn}
-use Rattle.happening_steps.proofs.Each.{each-end, each-turn, each-fails}
-use Rattle.happening_steps.proofs.Places.{points-end, points-step, points-all}
+use Rattle.happening_meetings.proofs.Crossing.{each-end, each-turn, each-fails}
+use Rattle.happening_meetings.proofs.Given.{points-end, points-step, points-all}
 use borrow.Author.Needs.{needs}
 use Rattle.happening_steps.proofs.judging.apart_all.Statement.{statement}
 use Rattle.happening_steps.proofs.judging.apart_all.Tie as tie
