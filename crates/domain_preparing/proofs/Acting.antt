@@ -1,7 +1,7 @@
 -- Actions copied: the six lists of one and their places, and all actions one after the other. Assumes nothing.
-use mathlib.Core.Path.{_≡_, refl, sym, ap, _∙_}
+use mathlib.Core.Path.{_≡_, refl, ap, _∙_}
 use mathlib.Core.List.{List, [], _∷_, _++_}
-use Prim.Native.Nat.{ℕ, zero, suc, _+_, _-_, _*_, _≤_, _<_}
+use Prim.Native.Nat.{ℕ, suc, _+_, _-_, _*_, _≤_, _<_}
 use native.Mathlib.Omega.{arith}
 use native.Mathlib.Numerals.{add-one}
 use lib.ListN.{length, set, getD, drop, length-append, length-drop, drop-of-length-le}
@@ -9,12 +9,13 @@ use lib.Seq.{sets, drop-cons, length-sets}
 use borrow.Author.Tests.{lt-ltb, le-ltb, ne-eqb}
 use Rattle.base_laws.proofs.Sets.{sets-append}
 use Rattle.domain_meaning.specs.Tables.{Entry, Table, entry}
-use Rattle.domain_meaning.specs.Actions.{start, whole, end, Lasting, moment, rule, Action}
+use Rattle.domain_meaning.specs.Actions.{Action}
 use Rattle.domain_rows.specs.Held.{byteAt}
 use Rattle.domain_stored_meaning.specs.Decode.{expressionAt, lastingAt, conditionsAt, effectPartsAt, whenOf, actionFrom, actionAt, actionsAt}
 use Rattle.domain_prepared_meaning.specs.Preparing.{partsAt, allSingles, allEffects}
-use Rattle.domain_prepared_meaning.specs.Rows.{twoBytes, exprBytes, lastsBytes, testsBytes, effectsBytes, sizes, placesFrom, actionBytes, allPlaces, actionsBytes}
-use Rattle.domain_preparing.specs.Written.{Stored, Copies, wordsOf, Acted, allActed}
+use Rattle.domain_prepared_meaning.specs.Rows.{twoBytes, exprBytes, lastsBytes, testsBytes, effectsBytes}
+use Rattle.domain_prepared_meaning.specs.Rows.{sizes, placesFrom, actionBytes, allPlaces, actionsBytes}
+use Rattle.domain_preparing.specs.Written.{Stored, wordsOf, Acted, allActed}
 use Rattle.domain_preparing.proofs.Storing.{sets-before, stored-one, stored-first, stored-then}
 
 -- ---- the duration rule
@@ -119,7 +120,8 @@ module _ (n : ℕ) (ps fs : List ℕ) where
     -- what is left of the actions leads to the whole
     abbrev pub Onward : ℕ → List ℕ → List ℕ → ℕ → ℕ → Type 0
     Onward acting l₀ l j u =
-        (es : Table) → length es ≡ acting → allActed n ps fs l j u (actionsAt code starts j (drop j es)) ≡ allActed n ps fs l₀ 0 385 (actionsAt code starts 0 es)
+        (es : Table) → length es ≡ acting
+        → allActed n ps fs l j u (actionsAt code starts j (drop j es)) ≡ allActed n ps fs l₀ 0 385 (actionsAt code starts 0 es)
 
     module _ (acting : ℕ) (l₀ : List ℕ) where
       pub onward-start : Onward acting l₀ l₀ 0 385

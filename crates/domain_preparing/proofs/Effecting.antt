@@ -8,10 +8,10 @@ use native.Mathlib.Decide.{decLe}
 use lib.Dec.{ltb}
 use lib.ListN.{length, set}
 use borrow.Author.Tests.{lt-ltb, le-ltb, ltb-true}
-use Rattle.domain_meaning.specs.Effects.{Change, assign, raise, lower, Effect, becomes, changes}
+use Rattle.domain_meaning.specs.Effects.{Change, assign, raise, lower, Effect}
 use Rattle.domain_rows.specs.Held.{byteAt}
 use Rattle.domain_stored_meaning.specs.Cells.{changeCell}
-use Rattle.domain_stored_meaning.specs.Decode.{Decoded, decoded, both, refAt, expressionAt, becomesAt, changeAt, effectAt, begins, effectsAt}
+use Rattle.domain_stored_meaning.specs.Decode.{decoded, both, refAt, expressionAt, becomesAt, changeAt, effectAt, begins, effectsAt}
 use Rattle.domain_prepared_meaning.specs.Preparing.{allEffects}
 use Rattle.domain_prepared_meaning.specs.Rows.{formBytes, exprBytes, effectBytes, effectsBytes}
 use Rattle.domain_preparing.specs.Written.{Stored, Copies, openEffects, allOf}

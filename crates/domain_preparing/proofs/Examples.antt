@@ -8,11 +8,17 @@ use Rattle.domain_meaning.specs.Actions.{Action}
 use Rattle.domain_literals.specs.Literal.{signBase, sizeOf, bytesOf, numberCells}
 use Rattle.domain_prepared_meaning.specs.Forms.{folded, formOf}
 use Rattle.domain_prepared_meaning.specs.Preparing.{partsAt, singles, allSingles, allEffects}
-use Rattle.domain_prepared_meaning.specs.Rows.{shareBytes, formBytes, exprBytes, testBytes, effectBytes, testsBytes, effectsBytes, lastsBytes, sizes, actionBytes, placesFrom, listsAt}
+use Rattle.domain_prepared_meaning.specs.Rows.{shareBytes, formBytes, exprBytes, testBytes, effectBytes, testsBytes, effectsBytes, lastsBytes}
+use Rattle.domain_prepared_meaning.specs.Rows.{sizes, actionBytes, placesFrom, listsAt}
 
--- what opens rows
+-- what opens lists of rows
+unfoldable open-lists : Unit {0}
+unfolding testBytes effectBytes testsBytes effectsBytes lastsBytes actionBytes placesFrom
+open-lists = tt
+
+-- and all that they hold
 unfoldable open-rows : Unit {0}
-unfolding open-bench signBase sizeOf bytesOf numberCells folded formOf partsAt singles allSingles allEffects shareBytes exprBytes testBytes effectBytes testsBytes effectsBytes lastsBytes actionBytes placesFrom
+unfolding open-bench signBase sizeOf bytesOf numberCells folded formOf partsAt singles allSingles allEffects shareBytes exprBytes open-lists
 open-rows = tt
 
 -- with two objects the predicates and the functions begin at 0 and 2

@@ -1,12 +1,12 @@
 -- Expressions copied: the bytes of a whole are those of its first cell and of its parts. Assumes nothing.
-use mathlib.Core.Path.{_≡_, refl, sym, ap, _∙_}
-use mathlib.Core.List.{List, [], _∷_, _++_}
-use Prim.Native.Nat.{ℕ, zero, suc, _+_, _-_, _≤_, _<_}
+use mathlib.Core.Path.{_≡_}
+use mathlib.Core.List.{List, _∷_, _++_}
+use Prim.Native.Nat.{ℕ, _+_, _-_, _≤_, _<_}
 use native.Mathlib.Omega.{arith}
 use native.Mathlib.Decide.{ℕ-discrete}
 use lib.IntN.{ℤ, pos}
 use lib.ListN.{length, set}
-use Rattle.domain_meaning.specs.Terms.{Ref, Expr, number, value, minus, difference, plus}
+use Rattle.domain_meaning.specs.Terms.{Ref, Expr, number, value}
 use Rattle.domain_literals.specs.Literal.{signBase, sizeOf, bytesOf, numberCells}
 use Rattle.domain_rows.specs.Held.{byteAt}
 use Rattle.domain_stored_meaning.specs.Decode.{Decoded, decoded, noExpr, exprAt}
@@ -20,7 +20,8 @@ unfolding numberCells signBase sizeOf bytesOf
 zero-stored l u e = stored-one l u 32 e
 
 -- what is read is another's
-pub copies-as : {A : Type 0} {b : A → List ℕ} {l : List ℕ} {u : ℕ} {d e : Decoded A} {l′ : List ℕ} {n f : ℕ} → d ≡ e → Copies b l u e l′ n f → Copies b l u d l′ n f
+pub copies-as : {A : Type 0} {b : A → List ℕ} {l : List ℕ} {u : ℕ} {d e : Decoded A} {l′ : List ℕ} {n f : ℕ} → d ≡ e
+    → Copies b l u e l′ n f → Copies b l u d l′ n f
 copies-as e c = rw e c
 
 module _ (m : ℕ) (ps fs l : List ℕ) (u : ℕ) {d : Decoded Expr} {l′ : List ℕ} {next free : ℕ} where

@@ -1,6 +1,6 @@
 -- References as forms: the constants of none to three arguments folded into the base, and the bytes of the parameters one after the other.
 -- Assumes nothing.
-use mathlib.Core.Path.{_≡_, refl, sym, ap, _∙_}
+use mathlib.Core.Path.{_≡_, refl, ap, _∙_}
 use mathlib.Core.List.{List, [], _∷_, _++_}
 use Prim.Native.Nat.{ℕ, zero, suc, _+_, _-_, _*_, _^_, _/_, _%_, _≤_, _<_}
 use native.Mathlib.Nat.{add-zero, sub-zero, mul-le-mul, pow-zero, pow-suc, add-mul, mul-assoc}
@@ -10,13 +10,13 @@ use lib.ListN.{length, getD, set}
 use lib.Seq.{sets}
 use borrow.Author.Tests.{lt-ltb, le-ltb}
 use Rattle.base_laws.proofs.Sets.{sets-append}
-use Rattle.domain_meaning.specs.Terms.{Arg, object, variable, Ref}
+use Rattle.domain_meaning.specs.Terms.{Arg, object, variable}
 use Rattle.domain_rows.specs.Held.{byteAt}
 use Rattle.domain_stored_meaning.specs.Decode.{argOf, argsAt, refAt}
 use Rattle.domain_prepared_meaning.specs.Forms.{folded, formOf}
 use Rattle.domain_prepared_meaning.specs.Rows.{twoBytes, shareBytes, formBytes}
 use Rattle.domain_preparing.specs.Written.{Stored, fixedOf, shareOf}
-use Rattle.domain_preparing.proofs.Storing.{sets-before, stored-none, stored-one, stored-as, Toward, toward-step}
+use Rattle.domain_preparing.proofs.Storing.{sets-before, stored-none, stored-one}
 
 -- ---- arguments, cell by cell
 

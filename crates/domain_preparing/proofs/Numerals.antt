@@ -1,21 +1,19 @@
 -- Numbers from any cells, in their shortest form. Assumes nothing.
-use mathlib.Core.Path.{_≡_, refl, sym, ap, _∙_}
-use mathlib.Core.List.{List, [], _∷_, _++_}
+use mathlib.Core.Path.{_≡_, refl, sym, _∙_}
+use mathlib.Core.List.{List}
 use mathlib.Core.Bool.{Bool, true, false, cond}
 use Prim.Native.Nat.{ℕ, zero, suc, _+_, _-_, _*_, _/_, _%_, _≤_, _<_}
 use native.Mathlib.Omega.{arith}
 use native.Mathlib.Numerals.{add-one}
 use lib.Dec.{eqb}
-use lib.IntN.{ℤ, pos, negsuc, natAbs, _-ℤ_}
-use lib.ListN.{length, set}
+use lib.IntN.{ℤ, pos, natAbs, _-ℤ_}
+use lib.ListN.{set}
 use lib.Seq.{sets}
-use lib.Signed.{ltZ}
 use borrow.Author.Tests.{lt-ltb, le-ltb, ne-eqb}
-use Rattle.domain_literals.specs.Literal.{signBase, sizeOf, bytesOf, literal, numberCells, isNegative, isWhole, valueIn, sizeIn}
+use Rattle.domain_literals.specs.Literal.{signBase, sizeOf, bytesOf, literal, numberCells}
 use Rattle.domain_literals.proofs.Cells.{literal-length, cells-whole, cells-fine}
 use Rattle.domain_stored_meaning.specs.Decode.{littleAt, numberAt}
 use Rattle.domain_preparing.specs.Written.{Stored}
-use Rattle.domain_preparing.proofs.Storing.{stored-as}
 
 pub literal-stored : (l : List ℕ) (u base v : ℕ) {k : ℕ} {l′ l″ : List ℕ} → k ≡ sizeOf v → l′ ≡ set l u (base + k) → l″ ≡ sets l′ (u + 1) (bytesOf k v)
     → Stored l u (literal base v) l″ (u + 1 + k)

@@ -1,16 +1,14 @@
 -- What stands at a place of the code, by its first cell. Assumes nothing.
 use mathlib.Core.Path.{_≡_, refl}
 use mathlib.Core.List.{List}
-use mathlib.Core.Bool.{Bool, true, false, cond}
 use Prim.Native.Nat.{ℕ, zero, suc, _+_, _-_, _≤_, _<_}
 use native.Mathlib.Omega.{arith}
-use lib.Dec.{ltb, eqb}
 use lib.ListN.{length}
 use borrow.Author.Tests.{lt-ltb, le-ltb, ne-eqb}
-use Rattle.domain_meaning.specs.Terms.{Expr, number, value, minus, difference, plus}
+use Rattle.domain_meaning.specs.Terms.{number, value, minus, difference, plus}
 use Rattle.domain_literals.specs.Literal.{sizeIn}
 use Rattle.domain_rows.specs.Held.{byteAt}
-use Rattle.domain_stored_meaning.specs.Decode.{Decoded, decoded, mapped, both, noExpr, refAt, numberAt, leafAt, exprNode, exprAt}
+use Rattle.domain_stored_meaning.specs.Decode.{decoded, mapped, both, noExpr, refAt, numberAt, leafAt, exprNode, exprAt}
 
 module _ (code : List ℕ) (at : ℕ) where
   module _ (tag : ℕ) where

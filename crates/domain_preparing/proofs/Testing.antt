@@ -6,20 +6,19 @@ use Prim.Native.Nat.{ℕ, zero, suc, _+_, _-_, _≤_, _<_}
 use native.Mathlib.Omega.{arith}
 use native.Mathlib.Decide.{decLe}
 use native.Mathlib.Numerals.{add-one}
-use lib.Dec.{ltb, eqb}
-use lib.ListN.{length, set}
+use lib.Dec.{eqb}
+use lib.ListN.{set}
 use lib.Seq.{sets}
-use borrow.Author.Tests.{lt-ltb, le-ltb, eq-eqb, ne-eqb}
-use Rattle.domain_meaning.specs.Terms.{Ref, Expr}
-use Rattle.domain_meaning.specs.Conditions.{Cond, Conds, all, atom, same, compare, none, cons}
+use borrow.Author.Tests.{lt-ltb, le-ltb}
+use Rattle.domain_meaning.specs.Conditions.{Cond, Conds, all, none, cons}
 use Rattle.domain_rows.specs.Held.{byteAt}
 use Rattle.domain_terms.specs.Cells.{cellOf}
 use Rattle.domain_stored_meaning.specs.Cells.{comparisonCell}
-use Rattle.domain_stored_meaning.specs.Decode.{Decoded, decoded, mapped, noCond, argOf, refAt, expressionAt, comparisonOf, atomAt, sameAt, compareAt, singleAt}
+use Rattle.domain_stored_meaning.specs.Decode.{Decoded, mapped, noCond, argOf, refAt, expressionAt, comparisonOf, atomAt, sameAt, compareAt, singleAt}
 use Rattle.domain_prepared_meaning.specs.Preparing.{singles, singlesOf, allSingles}
 use Rattle.domain_prepared_meaning.specs.Rows.{formBytes, exprBytes, testBytes, testsBytes}
 use Rattle.domain_preparing.specs.Written.{Stored, Copies, openTests, allOf}
-use Rattle.domain_preparing.proofs.Storing.{stored-none, stored-one, stored-as, stored-first, stored-then}
+use Rattle.domain_preparing.proofs.Storing.{stored-none, stored-one, stored-as, stored-then}
 use Rattle.domain_preparing.proofs.Expressing.{copies-as}
 use Rattle.domain_preparing.proofs.Groups.{single-compare, single-no-compare}
 

@@ -1,9 +1,9 @@
 -- Lists of trees copied one after the other: what is left of the list, copied behind what was, is the whole. Assumes nothing.
-use mathlib.Core.Path.{_≡_, refl, sym, _∙_}
+use mathlib.Core.Path.{_≡_, refl}
 use mathlib.Core.List.{List, [], _++_}
 use Prim.Native.Nat.{ℕ}
 use Rattle.domain_stored_meaning.specs.Decode.{Decoded, decoded, both}
-use Rattle.domain_preparing.specs.Written.{Stored, Copies}
+use Rattle.domain_preparing.specs.Written.{Copies}
 use Rattle.domain_preparing.proofs.Storing.{Toward, toward-start, toward-as, toward-step, toward-end}
 
 -- from d on, with l and u as they are now, to all from l₀ and u₀

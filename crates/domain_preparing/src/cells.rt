@@ -1,6 +1,6 @@
 // Cells of the code, places and first indexes: read so that no place is out of bounds, whatever they hold.
 ghost use mathlib.Core.Path.{_≡_};
-ghost use Prim.Native.Nat.{_+_, _*_, _^_, _≤_, _<_};
+ghost use Prim.Native.Nat.{_+_, _*_, _≤_, _<_};
 ghost use lib.ListN.{length, getD};
 ghost use Rattle.domain_rows.specs.Held.{byteAt};
 ghost use Rattle.domain_stored_meaning.specs.Decode.{whenOf, littleAt};

@@ -39,8 +39,8 @@ fn put_compare<'a>(
 ) -> Copied
     requires { ⌜ (at < length (now code)) × (tag < 256) × Room (length (now code)) at used ⌝ }
     ensures { λ r. ⌜ Stored (now (rows .entry)) used (tag ∷ (exprIn (now (firsts .entry)) (expressionAt (now (code .entry)) (at + 1) .tree)
-        ++ exprIn (now (firsts .entry)) (expressionAt (now (code .entry)) (expressionAt (now (code .entry)) (at + 1) .next) .tree))) (now (rows .exit)) (r .free)
-        × (r .next ≡ expressionAt (now (code .entry)) (expressionAt (now (code .entry)) (at + 1) .next) .next)
+        ++ exprIn (now (firsts .entry)) (expressionAt (now (code .entry)) (expressionAt (now (code .entry)) (at + 1) .next) .tree))) (now (rows .exit))
+        (r .free) × (r .next ≡ expressionAt (now (code .entry)) (expressionAt (now (code .entry)) (at + 1) .next) .next)
         × Spent 0 (length (now (code .entry))) at used (r .next) (r .free) ⌝ }
 {
     domain_literals::put(rows, used, tag);

@@ -11,7 +11,8 @@ ghost use lib.ListN.{length};
 ghost use Rattle.domain_stored_meaning.specs.Decode.{refAt, expressionAt, begins, effectAt, effectListAt, effectPartsAt, whenOf};
 ghost use Rattle.domain_prepared_meaning.specs.Preparing.{partsAt, allEffects};
 ghost use Rattle.domain_prepared_meaning.specs.Rows.{effectsBytes};
-ghost use Rattle.domain_preparing.specs.Written.{Stored, Copies, Room, Spent, countIn, predicatesIn, functionsIn, formIn, exprIn, effectIn, effectsIn, allOf};
+ghost use Rattle.domain_preparing.specs.Written.{Stored, Copies, Room, Spent, allOf};
+ghost use Rattle.domain_preparing.specs.Written.{countIn, predicatesIn, functionsIn, formIn, exprIn, effectIn, effectsIn};
 
 // A number with k arguments that is assigned, raised or lowered, as the tag says, by the expression behind it.
 fn put_change<'a>(
@@ -43,8 +44,8 @@ fn put_effect<'a>(
     used: usize,
 ) -> Copied
     requires { ⌜ (at < length (now code)) × (4 ≤ tag) × (tag < 21) × Room (length (now code)) at used ⌝ }
-    ensures { λ r. ⌜ Copies (effectIn (now (firsts .entry))) (now (rows .entry)) used (effectAt (now (code .entry)) at tag) (now (rows .exit)) (r .next) (r .free)
-        × Spent 0 (length (now (code .entry))) at used (r .next) (r .free) ⌝ }
+    ensures { λ r. ⌜ Copies (effectIn (now (firsts .entry))) (now (rows .entry)) used (effectAt (now (code .entry)) at tag) (now (rows .exit))
+        (r .next) (r .free) × Spent 0 (length (now (code .entry))) at used (r .next) (r .free) ⌝ }
 {
     if tag < 8 {
         return forms::put_fact(code, firsts, at, 4, tag - 4, rows, used);
@@ -79,8 +80,8 @@ fn put_part<'a>(
     used: usize,
 ) -> Copied
     requires { ⌜ Room (length (now code)) at used ⌝ }
-    ensures { λ r. ⌜ Copies (effectsIn (now (firsts .entry))) (now (rows .entry)) used (effectListAt (now (code .entry)) at) (now (rows .exit)) (r .next) (r .free)
-        × Spent 0 (length (now (code .entry))) at used (r .next) (r .free) ⌝ }
+    ensures { λ r. ⌜ Copies (effectsIn (now (firsts .entry))) (now (rows .entry)) used (effectListAt (now (code .entry)) at) (now (rows .exit))
+        (r .next) (r .free) × Spent 0 (length (now (code .entry))) at used (r .next) (r .free) ⌝ }
 {
     let mut i = at;
     let mut u = used;

@@ -4,7 +4,7 @@ use crate::forms;
 use crate::forms::Copied;
 use crate::numbers;
 ghost use mathlib.Core.Path.{_≡_};
-ghost use Prim.Native.Nat.{_+_, _≤_, _<_};
+ghost use Prim.Native.Nat.{_+_, _<_};
 ghost use lib.ListN.{length};
 ghost use lib.IntN.{pos};
 ghost use Rattle.domain_literals.specs.Literal.{numberCells};

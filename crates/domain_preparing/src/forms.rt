@@ -122,8 +122,8 @@ pub fn put_fact<'a>(
     used: usize,
 ) -> Copied
     requires { ⌜ (at < length (now code)) × (k ≤ 3) × (tag ≤ 252) × (used < 18446744073709551609) ⌝ }
-    ensures { λ r. ⌜ Stored (now (rows .entry)) used (formIn (now (firsts .entry)) tag false (refAt (now (code .entry)) (at + 1) k)) (now (rows .exit)) (r .free)
-        × (r .next ≡ at + 2 + k) × (r .free ≤ used + 3 + k) ⌝ }
+    ensures { λ r. ⌜ Stored (now (rows .entry)) used (formIn (now (firsts .entry)) tag false (refAt (now (code .entry)) (at + 1) k)) (now (rows .exit))
+        (r .free) × (r .next ≡ at + 2 + k) × (r .free ≤ used + 3 + k) ⌝ }
 {
     let free = put_form(code, firsts, false, tag, at + 1, k, rows, used);
     Copied {

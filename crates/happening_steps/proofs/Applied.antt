@@ -93,7 +93,9 @@ module _ (rows ps os : List ℕ) (n j : ℕ) where
     marks-step : allMarks summed (pointsIn rows ps os (n - j) j)
         ≡ marksAt rows (fourAt os j) (p .effects) ++ allMarks summed (pointsIn rows ps os (n - (j + 1)) (j + 1))
     unfolding allMarks
-    marks-step = rw (points-step rows ps os n j h) (ap (λ ms. ms ++ allMarks summed (pointsIn rows ps os (n - (j + 1)) (j + 1))) (sym (marks-here rows ps os j ep)))
+    marks-step =
+        rw (points-step rows ps os n j h)
+        (ap (λ ms. ms ++ allMarks summed (pointsIn rows ps os (n - (j + 1)) (j + 1))) (sym (marks-here rows ps os j ep)))
 
     pub change-turn : (old ns : List ℤ) {o : Outcome} {ms : List ℤ} → made o ms ≡ madeAt rows os j old ns p → o ≡ Done
         → changePoints summed old ms (pointsIn rows ps os (n - (j + 1)) (j + 1)) ≡ changePoints summed old ns (pointsIn rows ps os (n - j) j)

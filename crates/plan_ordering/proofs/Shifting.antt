@@ -121,7 +121,8 @@ window from (suc i) l p =
     (ap (λ (x : ℕ). ltb (timeOf p) (timeOf x)) (sym (getD-drop from l i 0))) (window from i (set l (from + suc i) (getD l (from + i) 0)) p)
   where
     go : (b c : Bool) → b ≡ c
-        → drop from (shiftedAt from i (set l (from + suc i) (getD l (from + i) 0)) p) ≡ shifted timeOf 0 i (drop from (set l (from + suc i) (getD l (from + i) 0))) p
+        → drop from (shiftedAt from i (set l (from + suc i) (getD l (from + i) 0)) p)
+        ≡ shifted timeOf 0 i (drop from (set l (from + suc i) (getD l (from + i) 0))) p
         → drop from (cond b (shiftedAt from i (set l (from + suc i) (getD l (from + i) 0)) p) (set l (from + suc i) p))
         ≡ cond c (shifted timeOf 0 i (set (drop from l) (suc i) (getD (drop from l) i 0)) p) (set (drop from l) (suc i) p)
     go true c e ih =
