@@ -53,7 +53,7 @@ pub fn stay_all<'a>(
     let mut j = 0;
     while j < n {
         let p = happening_placing::point_at(rows, points, j);
-        if numbers::leave_any(rows, fresh, objects, j, p.effects) {
+        if numbers::leaves(rows, fresh, objects, j, p.effects) {
             return Outcome::Range(p.line);
         }
         j += 1;

@@ -24,11 +24,11 @@ loop-holds c = let s = c .before in ap (each (stays summed (now (s .args .fresh)
 point-at-requires : tie.Need-point-at-requires Inv-loop μ-loop
 point-at-requires c κs = (omega arith, omega arith)
 
-leave-any-requires : tie.Need-leave-any-requires Inv-loop μ-loop
-leave-any-requires c κs = omega arith
+leaves-requires : tie.Need-leaves-requires Inv-loop μ-loop
+leaves-requires c κs = omega arith
 
 returns : tie.Need-returns Inv-loop μ-loop
-returns c = let s = c .before .before .before .before .before .before in stay-hit (now (s .args .rows)) (now (s .args .points)) (now (s .args .objects)) (s .args .n) (c .before .before .before .before .loop .j) (c .before .before .before .loop-test .taken) (c .before .before .point-at .ensures) (now (s .args .fresh)) (c .before .leave-any .ensures) (c .if1 .taken) ∙ c .before .before .before .before .loop .inv
+returns c = let s = c .before .before .before .before .before .before in stay-hit (now (s .args .rows)) (now (s .args .points)) (now (s .args .objects)) (s .args .n) (c .before .before .before .before .loop .j) (c .before .before .before .loop-test .taken) (c .before .before .point-at .ensures) (now (s .args .fresh)) (c .before .leaves .ensures) (c .if1 .taken) ∙ c .before .before .before .before .loop .inv
 
 add-j : tie.Need-add-j Inv-loop μ-loop
 add-j c = omega arith
@@ -37,7 +37,7 @@ loop-less : tie.Need-loop-less Inv-loop μ-loop
 loop-less c = omega arith
 
 loop-again : tie.Need-loop-again Inv-loop μ-loop
-loop-again c = let s = c .before .before .before .before .before .before in stay-turn (now (s .args .rows)) (now (s .args .points)) (now (s .args .objects)) (s .args .n) (c .before .before .before .before .loop .j) (c .before .before .before .loop-test .taken) (c .before .before .point-at .ensures) (now (s .args .fresh)) (c .before .leave-any .ensures) (c .if1 .left) ∙ c .before .before .before .before .loop .inv
+loop-again c = let s = c .before .before .before .before .before .before in stay-turn (now (s .args .rows)) (now (s .args .points)) (now (s .args .objects)) (s .args .n) (c .before .before .before .before .loop .j) (c .before .before .before .loop-test .taken) (c .before .before .point-at .ensures) (now (s .args .fresh)) (c .before .leaves .ensures) (c .if1 .left) ∙ c .before .before .before .before .loop .inv
 
 returns-2 : tie.Need-returns-2 Inv-loop μ-loop
 returns-2 c = let s = c .before .before .before in stay-end (now (s .args .rows)) (now (s .args .points)) (now (s .args .objects)) (s .args .n) (c .before .loop .j) (c .loop-test .left) (now (s .args .fresh)) ∙ c .before .loop .inv
@@ -50,7 +50,7 @@ stay-all-spec =
     μ-loop
     loop-holds
     point-at-requires
-    leave-any-requires
+    leaves-requires
     returns
     add-j
     loop-less
