@@ -1,7 +1,6 @@
 -- The ways of a happening: refused, a number that fails, a number that leaves the range, done. A failure leaves the old state. Assumes nothing.
 use mathlib.Core.Path.{_≡_, sym, ap, _∙_}
 use mathlib.Core.List.{List}
-use mathlib.Core.Bool.{true, false}
 use Prim.Native.Nat.{ℕ}
 use lib.IntN.{ℤ}
 use Rattle.happening_meaning.specs.State.{State, Grounds}

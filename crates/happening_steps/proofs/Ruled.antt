@@ -8,7 +8,7 @@ use lib.IntN.{ℤ, pos, negsuc}
 use lib.Signed.{leZ, mag}
 use lib.ListN.{length}
 use borrow.Author.Tests.{lt-ltb, le-ltb, ne-eqb, lt-leb}
-use Rattle.domain_meaning.specs.Actions.{Lasting, moment, rule}
+use Rattle.domain_meaning.specs.Actions.{moment, rule}
 use Rattle.domain_rows.specs.Held.{byteAt}
 use Rattle.domain_prepared_meaning.specs.Decode.{lastsAt, exprAt}
 use Rattle.happening_meaning.specs.Happening.{lasting, lasts, ruleOf}

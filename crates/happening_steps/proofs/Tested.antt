@@ -1,5 +1,5 @@
 -- Steps 1 and 2 for point j, and step 5 for line j. Assumes nothing.
-use mathlib.Core.Path.{_≡_, ap, sym, _∙_}
+use mathlib.Core.Path.{_≡_, _∙_}
 use mathlib.Core.List.{List}
 use mathlib.Core.Bool.{Bool, true, false}
 use Prim.Native.Nat.{ℕ}
@@ -7,7 +7,7 @@ use Rattle.domain_prepared_meaning.specs.Decode.{testsAt}
 use Rattle.happening_meaning.specs.State.{State}
 use Rattle.happening_meaning.specs.Truths.{holdAll}
 use Rattle.happening_meaning.specs.Writes.{itself}
-use Rattle.happening_meaning.specs.Happening.{lasting, ruleOf, unless, tested, judged, lineOf, objectsOf, conditionsOf, apart, spans}
+use Rattle.happening_meaning.specs.Happening.{lasting, ruleOf, tested, judged, apart, spans}
 use Rattle.happening_meaning.specs.declared.Truth.{Truth}
 use Rattle.happening_meaning.specs.declared.Truth.the-variants as T
 use Rattle.happening_meaning.specs.declared.Outcome.{Outcome}

@@ -1,5 +1,5 @@
 -- Step 5 need not be done again: over all conditions that read nothing that a happening wrote have the outcome they had. Assumes nothing.
-use mathlib.Core.Path.{_≡_, sym, ap, subst, _∙_}
+use mathlib.Core.Path.{_≡_, sym, ap, subst}
 use mathlib.Core.List.{List}
 use Prim.Native.Nat.{ℕ}
 use lib.Bits.{bitAnd}

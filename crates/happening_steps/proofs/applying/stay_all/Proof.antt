@@ -8,7 +8,6 @@ use Rattle.happening_forms.specs.Summed.{summed}
 use Rattle.happening_placing.specs.Given.{pointsIn}
 use Rattle.happening_meetings.proofs.Given.{points-all}
 use Rattle.happening_steps.proofs.Applied.{stay-end, stay-turn, stay-hit}
-use borrow.Author.Needs.{needs}
 use Rattle.happening_steps.proofs.applying.stay_all.Statement.{statement}
 use Rattle.happening_steps.proofs.applying.stay_all.Tie as tie
 

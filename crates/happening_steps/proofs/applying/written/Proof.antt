@@ -9,7 +9,6 @@ use Rattle.happening_placing.specs.Given.{pointsIn}
 use Rattle.happening_writes.specs.Masks.{maskFrom}
 use Rattle.happening_meetings.proofs.Given.{points-all}
 use Rattle.happening_steps.proofs.Applied.{mask-end, mask-turn}
-use borrow.Author.Needs.{needs}
 use Rattle.happening_steps.proofs.applying.written.Statement.{statement}
 use Rattle.happening_steps.proofs.applying.written.Tie as tie
 
