@@ -23,8 +23,8 @@ use Rattle.domain_meaning.specs.Effects.{Effect, effect}
 use Rattle.domain_meaning.specs.Indexes.{arity}
 use Rattle.domain_meaning.specs.Actions.{When, start, Timed, Action, partBehind, partAt, partsTo, parts, durationRule, whenField, within}
 use Rattle.domain_meaning.specs.Actions.{simpleBody, durativeBody, action}
-use Rattle.domain_meaning.proofs.Given.{Given, Any, Fits, reads, fits, stops, fits-also, given-then, given-either, given-word, word-gives, close-ahead}
-use Rattle.domain_meaning.proofs.Given.{either-gives}
+use Rattle.domain_meaning.proofs.Given.{Given, Any, Fits, reads, fits, stops, fits-also, given-then, given-also, given-either, given-word, word-gives}
+use Rattle.domain_meaning.proofs.Given.{close-ahead, either-gives}
 use Rattle.domain_meaning.proofs.Steps.{opening-fits, closing-fits, word-due-fits, new-name-fits, fresh-fits, time-ahead, rule-ahead, field-ahead}
 use Rattle.domain_meaning.proofs.Tables.{variables-few}
 use Rattle.domain_terms.specs.Scoped.{AllSigned}
@@ -126,7 +126,7 @@ record Body (c : Scope) (e : Entry) (a : Action) : Type 0 where
 
 module _ (s : List ℕ) (c : Scope) where
   loose-condition : (d n at : ℕ) → d ≤ 16 → Fits (λ x. NamedCond c 16 (x .tree)) (λ x. condSize (x .tree)) at 1 (condition d s c n at)
-  loose-condition d n at h = fits-also (condition-fits s c d n at h) (omega arith) (λ x m k. omega arith)
+  loose-condition d n at h = given-also (condition-fits s c d n at h) (λ x m k. record { good = k .good .named; on = k .on; size = omega arith })
 
   duration-fits : (at : ℕ) → Fits (NamedExpr c 16) (λ x. exprSize x + 2) at 0 (durationRule s c at)
   unfolding durationRule
@@ -134,14 +134,14 @@ module _ (s : List ℕ) (c : Scope) where
       given-then _ (opening-fits s 14 at)
       (λ p a h. rule-ahead s a _
       (λ q b l. given-then _ (expression-fits s c 13 b (omega arith))
-      (λ x i u. given-then _ (closing-fits s 13 i) (λ m n y. fits (u .good) (omega arith) (omega arith)))))
+      (λ x i u. given-then _ (closing-fits s 13 i) (λ m n y. fits (u .good .named) (omega arith) (omega arith)))))
 
   simple-fits : (e : Entry) (at : ℕ) → Fits (Body c e) actionSize at 6 (simpleBody s c e at)
   unfolding simpleBody lastingSize GoodParts NamedLasting
   simple-fits e at =
       given-then _ (field-fits (GoodParts (NamedCond c 16)) condsSize 1 s ":precondition" _ at tt (omega (arith, no-part (NamedCond c 16) condSize))
       (λ n. given-then _ (condition-fits s c 14 32 n (omega arith))
-      (λ x i h. fits (h .good, tt) (omega arith) (omega (arith, one-part (NamedCond c 16) condSize start (x .tree))))))
+      (λ x i h. fits (h .good .named, tt) (omega arith) (omega (arith, one-part (NamedCond c 16) condSize start (x .tree))))))
       (λ cs a h. given-then _ (field-fits (GoodParts (NamedEffects c)) listsSize 2 s ":effect" _ a tt (omega (arith, no-part (NamedEffects c) listSize))
       (λ n. given-then _ (listed-fits s c 14 16 n (omega arith))
       (λ x i l. fits (l .good, tt) (omega arith) (omega (arith, one-part (NamedEffects c) listSize start (x .tree))))))

@@ -76,7 +76,7 @@ module _ (s : List ℕ) (c : Scope) where
       (λ m a h. given-then _ (target-fits d a)
       (λ r b l. given-then _ (expression-fits s c d b deep)
       (λ x e v. given-then _ (closing-fits s d e)
-      (λ q i g. fits ((l .good, v .good), tt) (omega arith) (omega arith)))))
+      (λ q i g. fits ((l .good, v .good .named), tt) (omega arith) (omega arith)))))
 
   deleted-fits : (d n : ℕ) (k : Word) (p e at : ℕ) → Fits (NamedOf c) sizeOf at 2 (deletedWord s d c n k p e at)
   deleted-fits d n W.Name p e at = name-gives (headOf (part s p e)) _ _ _ at stops (becomes-fits d false n p e at) (becomes-fits d false n p e at)

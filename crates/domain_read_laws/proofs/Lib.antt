@@ -2,6 +2,7 @@
 pub mod Sizes
 pub mod Rows
 pub mod Named
+pub mod Widths
 pub mod Tables
 pub mod Terms
 pub mod Conditions

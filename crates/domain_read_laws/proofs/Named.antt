@@ -121,6 +121,11 @@ below-also : (P Q : ℕ → Type 0) (d : ℕ) → ((e : ℕ) → P e → Q e) �
 below-also P Q zero f h = h
 below-also P Q (suc d) f h = f d h
 
+-- what follows at every level
+pub of-below : {Q : Type 0} (P : ℕ → Type 0) (d : ℕ) → ((e : ℕ) → P e → Q) → Below d P → Q
+of-below P zero f h = absurd h
+of-below P (suc d) f h = f d h
+
 -- what is so of each thing that stands in a part
 pub parts-also : {A : Type 0} (P Q : A → Type 0) → ((x : A) → P x → Q x) → (xs : List (Timed A)) → GoodParts P xs → GoodParts Q xs
 unfolding GoodParts

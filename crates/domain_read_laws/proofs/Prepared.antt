@@ -11,20 +11,14 @@ use Rattle.domain_meaning.specs.Actions.{Lasting, moment, rule, Action, within}
 use Rattle.domain_meaning.specs.Domain.{Domain}
 use Rattle.domain_meaning.specs.Problem.{Problem, scopeOf}
 use Rattle.domain_meaning.specs.Indexes.{basesOf, padded}
-use Rattle.domain_stored_meaning.specs.Good.{Below}
 use Rattle.domain_prepared_meaning.specs.Forms.{formOf}
 use Rattle.domain_prepared_meaning.specs.Good.{PreparesArgs, PreparesRef, PreparesExpr, PreparesCond, PreparesConds, PreparesEffect, PreparesEffects}
 use Rattle.domain_prepared_meaning.specs.Good.{PreparesLasting, PreparesAction, PreparesActions}
 use Rattle.domain_read_laws.proofs.Named.{NamedArg, NamedArgs, NamedRef, NamedExpr, NamedCond, NamedConds, NamedEffect, NamedEffects, NamedLasting}
-use Rattle.domain_read_laws.proofs.Named.{NamedTrees, NamedActions, parts-also}
+use Rattle.domain_read_laws.proofs.Named.{NamedTrees, NamedActions, of-below, parts-also}
 use Rattle.domain_read_laws.proofs.Sums.{sums-fit}
 use Rattle.domain_read_laws.proofs.Bases.{Firsts, bases-first, padded-first, base-below}
 use Rattle.domain_read_laws.proofs.Whole.{Fitting}
-
--- what follows at every level
-of-below : {Q : Type 0} (P : ℕ → Type 0) (d : ℕ) → ((e : ℕ) → P e → Q) → Below d P → Q
-of-below P zero f h = absurd h
-of-below P (suc d) f h = f d h
 
 -- ---- trees, in a scope of at most k variables, whose bases have two bytes
 

@@ -24,7 +24,7 @@ share-size (object i ∷ xs) = omega (arith, share-size xs)
 share-size (variable i ∷ xs) = omega (arith, share-size xs)
 
 module _ (n : ℕ) (ps fs : List ℕ) where
-  form-size : (tag : ℕ) (firsts : List ℕ) (r : Ref) → length (formBytes n ps fs tag firsts r) ≤ refSize r
+  pub form-size : (tag : ℕ) (firsts : List ℕ) (r : Ref) → length (formBytes n ps fs tag firsts r) ≤ refSize r
   form-size tag firsts r =
       omega (arith, share-size (r .args), length-append (twoBytes (formOf n firsts r .base)) (shareBytes (r .args)))
 
@@ -38,7 +38,7 @@ module _ (n : ℕ) (ps fs : List ℕ) where
 
   -- ---- lists, without their ends
 
-  tests-join : (xs ys : List Cond) → length (testsBytes n ps fs (xs ++ ys)) + 1 ≡ length (testsBytes n ps fs xs) + length (testsBytes n ps fs ys)
+  pub tests-join : (xs ys : List Cond) → length (testsBytes n ps fs (xs ++ ys)) + 1 ≡ length (testsBytes n ps fs xs) + length (testsBytes n ps fs ys)
   unfolding testsBytes
   tests-join [] ys = omega arith
   tests-join (c ∷ xs) ys =
@@ -60,11 +60,11 @@ module _ (n : ℕ) (ps fs : List ℕ) where
         length-append (effectBytes n ps fs e) (effectsBytes n ps fs xs),
       )
 
-  one-test : (c : Cond) → length (testsBytes n ps fs (c ∷ [])) ≡ length (testBytes n ps fs c) + 1
+  pub one-test : (c : Cond) → length (testsBytes n ps fs (c ∷ [])) ≡ length (testBytes n ps fs c) + 1
   unfolding testsBytes
   one-test c = omega (arith, length-append (testBytes n ps fs c) (0 ∷ []))
 
-  no-test : length (testsBytes n ps fs []) ≡ 1
+  pub no-test : length (testsBytes n ps fs []) ≡ 1
   unfolding testsBytes
   no-test = omega arith
 
@@ -72,7 +72,7 @@ module _ (n : ℕ) (ps fs : List ℕ) where
   mutual
     unfolding singles singlesOf testBytes condSize condsSize
 
-    pub singles-rows : (c : Cond) → length (testsBytes n ps fs (singles c)) ≤ condSize c + 1
+    singles-rows : (c : Cond) → length (testsBytes n ps fs (singles c)) ≤ condSize c + 1
     singles-rows (all cs) = omega (arith, singles-of-rows cs)
     singles-rows (atom yes′ r) = omega (arith, one-test (atom yes′ r), form-size (cond yes′ 4 8) ps r)
     singles-rows (same yes′ a b) = omega (arith, one-test (same yes′ a b))

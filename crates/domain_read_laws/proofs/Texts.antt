@@ -1,5 +1,5 @@
--- What a domain and a problem that were read are: tables that fit their rows, trees whose names are declared, and no more cells, and no longer prepared
--- rows, than a text may have bytes. Assumes nothing.
+-- What a domain and a problem that were read are: tables that fit their rows, trees whose names are declared, no more cells than a text may have bytes,
+-- and no longer prepared rows; those of a goal are shorter. Assumes nothing.
 use mathlib.Core.Path.{_≡_, refl}
 use mathlib.Core.List.{List, []}
 use mathlib.Core.Bool.{Bool, true, false, cond}
@@ -32,7 +32,8 @@ use Rattle.domain_prepared_meaning.specs.Preparing.{singles}
 use Rattle.domain_prepared_meaning.specs.Rows.{testsBytes, actionsBytes}
 use Rattle.domain_read_laws.proofs.Sizes.{condSize, actionsSize, cond-cells, actions-cells}
 use Rattle.domain_read_laws.proofs.Named.{NamedCond, NamedActions, cond-good, actions-good}
-use Rattle.domain_read_laws.proofs.Rows.{singles-rows, actions-rows}
+use Rattle.domain_read_laws.proofs.Rows.{actions-rows}
+use Rattle.domain_read_laws.proofs.Widths.{condWidth, singles-width}
 use Rattle.domain_read_laws.proofs.Tables.{Fit, Declared, names-fit, types-section-fits, constants-fit, declared-section-fits}
 use Rattle.domain_read_laws.proofs.Conditions.{condition-fits}
 use Rattle.domain_read_laws.proofs.Actions.{Acting, heads, action-fits}
@@ -148,7 +149,8 @@ pub record ProblemRead (d : Domain) (p : Problem) : Type 0 where
   pub goal : GoodCond 16 (p .goal)
   pub named : NamedCond (scopeOf d (p .objects)) 16 (p .goal)
   pub cells : length (condCells (p .goal)) ≤ 32768
-  pub rows : (n : ℕ) (ps fs : List ℕ) → length (testsBytes n ps fs (singles (p .goal))) ≤ 32768
+  -- with the end of the list; each of 64 single conditions has at most 113 bytes
+  pub rows : (n : ℕ) (ps fs : List ℕ) → length (testsBytes n ps fs (singles (p .goal))) ≤ 7233
   pub sums : sumsFit (scopeOf d (p .objects)) ≡ true
 
 -- the sums are judged at the first of init and goal
@@ -185,17 +187,19 @@ module _ (s : List ℕ) (d : Domain) (r : DomainRead d) where
 
     -- a goal that ends at n, the sums being judged
     Ends : Problem → ℕ → Type 0
-    Ends p n = Objects d (p .objects) × NamedCond (scopeOf d (p .objects)) 16 (p .goal) × (condSize (p .goal) < n) × (sumsFit (scopeOf d (p .objects)) ≡ true)
+    Ends p n =
+        Objects d (p .objects) × NamedCond (scopeOf d (p .objects)) 16 (p .goal) × (condSize (p .goal) < n) × (sumsFit (scopeOf d (p .objects)) ≡ true)
+        × (condWidth (p .goal) ≤ 7232)
 
     goal-fits : (x : Init) (at : ℕ) → sumsFit c ≡ true → Given Ends Any (andThen (goalTo s c at) (λ g. give (record { objects = os; init = x; goal = g })))
     unfolding Ends
     goal-fits x at h =
-        given-then _ (goal-to-fits at) (λ g n k. reads (f, k .good, let l : condSize g < n = omega arith in l, h))
+        given-then _ (goal-to-fits at) (λ g n k. reads (f, k .good .0, let l : condSize g < n = omega arith in l, h, k .good .1))
       where
-        goal-to-fits : (at : ℕ) → Fits (NamedCond c 16) (λ g. condSize g + 1) at 0 (goalTo s c at)
+        goal-to-fits : (at : ℕ) → Fits (λ g. NamedCond c 16 g × (condWidth g ≤ 7232)) (λ g. condSize g + 1) at 0 (goalTo s c at)
         goal-to-fits at =
             given-then _ (condition-fits s c 14 64 at (omega arith))
-            (λ g n k. given-then _ (closing-fits s 14 n) (λ q i u. fits (k .good) (omega arith) (omega arith)))
+            (λ g n k. given-then _ (closing-fits s 14 n) (λ q i u. fits (k .good .named, omega arith) (omega arith) (omega arith)))
 
     init-goal-fits : (at : ℕ) → Given Ends Any (initAndGoal s c at)
     unfolding initAndGoal
@@ -205,6 +209,9 @@ module _ (s : List ℕ) (d : Domain) (r : DomainRead d) where
           | opened p ↦ given-then _ (init-fits s c p a) (λ x b h. behind (sectionDueOf s (bytes ":goal") b) _ (λ q i. goal-fits x i h))
           | other ↦ behind (sectionDueOf s (bytes ":goal") a) _ (λ q i. given-then _ (sums-fit c q i) (λ y j h. goal-fits nothing j h))
         ])
+
+  goal-good : (p : Problem) → Objects d (p .objects) → NamedCond (scopeOf d (p .objects)) 16 (p .goal) → GoodCond 16 (p .goal)
+  goal-good p o h = cond-good (scopeOf d (p .objects)) (domain-sized d (p .objects) r (o .0 .few)) (p .goal) 16 h
 
   problem-text-fits : (at : ℕ) → Gives (ProblemRead d) (problemText s d at)
   unfolding problemText Ends
@@ -216,10 +223,10 @@ module _ (s : List ℕ) (d : Domain) (r : DomainRead d) where
       (record {
         objects = g .0 .0;
         more = g .0 .1;
-        goal = cond-good (scopeOf d (p .objects)) (domain-sized d (p .objects) r (g .0 .0 .few)) (p .goal) 16 (g .1);
+        goal = goal-good p (g .0) (g .1);
         named = g .1;
         cells = omega (arith, g .2, cond-cells (p .goal));
-        rows = λ n ps fs. omega (arith, g .2, singles-rows n ps fs (p .goal));
+        rows = λ n ps fs. omega (arith, g .4, singles-width n ps fs (p .goal) 16 (goal-good p (g .0) (g .1)));
         sums = g .3;
       }))))
 
