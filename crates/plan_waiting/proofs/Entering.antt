@@ -1,5 +1,5 @@
 -- A point more in a free place: what is kept stays so. And where no point waits. Assumes nothing.
-use Prim.Native.Nat.{ℕ, _+_, _*_, _%_, _<_}
+use Prim.Native.Nat.{ℕ, _+_, _*_, _%_, _≤_, _<_}
 use mathlib.Core.Bool.{Bool, true, false}
 use mathlib.Core.List.{List, [], _∷_, _++_, map, map-append}
 use mathlib.Core.Path.{_≡_, refl, sym, ap, ap₂, _∙_}
@@ -11,6 +11,7 @@ use lib.ListN.{length, take, getD, set, length-set}
 use lib.Seq.{getD-set-same, getD-set-other, drop-set-lt}
 use Rattle.plan_meaning.specs.Plan.{time}
 use Rattle.plan_meaning.specs.Stored.{pointIn}
+use Rattle.plan_meaning.specs.declared.Step.{Step}
 use Rattle.plan_meaning.specs.declared.Slot.{Slot}
 use Rattle.plan_meaning.proofs.Lists.{All}
 use Rattle.plan_ordering.specs.Order.{insert, insertAll, ordered}
@@ -18,7 +19,7 @@ use Rattle.plan_ordering.specs.Keys.{timeOf, keysIn, Inside}
 use Rattle.plan_ordering.proofs.Ordering.{entered}
 use Rattle.plan_ordering.proofs.Mapping.{all-first, insert-map, map-same}
 use Rattle.plan_waiting.specs.Waiting.{used}
-use Rattle.plan_waiting.specs.Lent.{slotIn, slotAt, placesIn, queueIn, beginIn, whenAt, keyAt, keysOf, Kept, Put}
+use Rattle.plan_waiting.specs.Lent.{slotIn, slotAt, placesIn, queueIn, beginIn, whenAt, keyAt, keysOf, placeAt, Kept, Put, Entered}
 use Rattle.plan_waiting.proofs.LentPlaces.{places-long, place-there, places-more, places-same, used-is, slot-same}
 use Rattle.plan_waiting.proofs.Keeping.{key-time, keys-same, drop-same}
 
@@ -47,12 +48,15 @@ module _ (words objects : List ℕ) (n : ℕ) (h : Kept words objects n) (few : 
   new-slot : slotAt words′ o new ≡ s
   new-slot = slot-now new ∙ ap (slotIn w o) (sym ep) ∙ put .there
 
+  old-slot : (i : ℕ) → i < n → slotAt words′ o (getD words (384 + i) 0) ≡ slotAt words objects (getD words (384 + i) 0)
+  old-slot i g =
+      slot-now (getD words (384 + i) 0)
+      ∙ put .other (placeAt words i) (λ e. let z : i ≡ n = h .apart i n (omega arith) few (e ∙ ep) in let y : ⊥ = omega (arith, z, g) in y)
+
   old-slots : All (λ q. slotAt words′ o q ≡ slotAt words objects q) ps
   old-slots =
       all-first (λ q. slotAt words′ o q ≡ slotAt words objects q) 0 n (placesIn words) (omega (arith, places-long words))
-      (λ i g. rw (place-there words i (omega arith)) (slot-now (getD words (384 + i) 0)
-      ∙ put .other (getD words (384 + i) 0 % 64)
-      (λ e. let z : i ≡ n = h .apart i n (omega arith) few (e ∙ ep) in let y : ⊥ = omega (arith, z, g) in y)))
+      (λ i g. rw (place-there words i (omega arith)) (old-slot i g))
 
   places-now : take (n + 1) (placesIn words′) ≡ ps ++ new ∷ []
   places-now = places-same words words′ (n + 1) (omega arith) (λ k g. listed k (omega arith)) ∙ places-more words n few
@@ -97,6 +101,38 @@ module _ (words objects : List ℕ) (n : ℕ) (h : Kept words objects n) (few : 
       ∙ map-append (slotAt words′ o) ps (new ∷ [])
       ∙ ap₂ (λ (x : List Slot) (y : Slot). x ++ y ∷ [])
       (map-same (slotAt words′ o) (slotAt words objects) ps old-slots ∙ sym (used-is words objects n)) new-slot
+
+  place-now : (k : ℕ) → k < 64 → placeAt words′ k ≡ placeAt words k
+  place-now k g = ap (λ (x : ℕ). x % 64) (listed k g)
+
+  pub point-entered : Entered words objects n words′ o (n + 1) (s .step)
+  point-entered =
+      record {
+        was = λ i g. let e = place-now i (omega arith) in (e, ap (slotIn words′ o) e ∙ old-slot i g);
+        new = λ i a b.
+            let z : i ≡ n = omega arith in
+            ap (λ (q : Slot). q .step) (ap (λ (k : ℕ). slotIn words′ o (placeAt words′ k)) z ∙ ap (slotIn words′ o) (place-now n few) ∙ new-slot);
+      }
+
+-- one point of a step after the other
+pub both-entered : {w₀ o₀ w₁ o₁ w₂ o₂ : List ℕ} {n : ℕ} {x : Step} → Entered w₀ o₀ n w₁ o₁ (n + 1) x → Entered w₁ o₁ (n + 1) w₂ o₂ (n + 1 + 1) x
+    → Entered w₀ o₀ n w₂ o₂ (n + 1 + 1) x
+both-entered {w₀} {o₀} {w₁} {o₁} {w₂} {o₂} {n} {x} one two =
+    record {
+      was = λ i g.
+          let a = two .was i (omega arith) in
+          let b = one .was i g in
+          (a .0 ∙ b .0, a .1 ∙ b .1);
+      new = λ i a b. go i a b (eqb i n) refl;
+    }
+  where
+    go : (i : ℕ) → n ≤ i → i < n + 1 + 1 → (c : Bool) → eqb i n ≡ c → slotIn w₂ o₂ (placeAt w₂ i) .step ≡ x
+    go i a b true e =
+        let z : i ≡ n = eqb-true i n e in
+        ap (λ (q : Slot). q .step) (two .was i (omega arith) .1) ∙ one .new i a (omega arith)
+    go i a b false e =
+        let z : i ≡ n → ⊥ = eqb-false i n e in
+        two .new i (omega arith) b
 
 -- the keys stay inside where a point is put to a place
 pub inside-put : (words objects : List ℕ) (n : ℕ) → Kept words objects n → (w o : List ℕ) (p : ℕ) (s : Slot) → Put words objects w o p s

@@ -1,6 +1,7 @@
 -- What is kept of the points that wait: the first key tells the soonest time, those of its time are the happening, and what is kept stays so where a point is
 -- entered and where a happening is taken out. Assumes nothing.
-use Prim.Native.Nat.{ℕ, suc, _+_, _-_, _*_, _%_, _≤_, _<_, min}
+use Prim.Native.Nat.{ℕ, zero, suc, _+_, _-_, _*_, _%_, _≤_, _<_, min}
+use mathlib.Core.Bool.{Bool, true, false, cond}
 use mathlib.Core.List.{List, [], _∷_, map}
 use mathlib.Core.Path.{_≡_, refl, sym, ap, ap₂, _∙_}
 use native.Mathlib.Nat.{mod-lt, zero-lt-suc}
@@ -21,9 +22,9 @@ use Rattle.plan_ordering.proofs.Ordering.{Sorted, NotBelow, ordered-sorted, soo
 use Rattle.plan_ordering.proofs.Ordering.{happening, remaining, length-ordered}
 use Rattle.plan_ordering.proofs.Mapping.{map-take, map-drop, keep-map, drop-take, front-map, front-few, all-ordered, ordered-same, map-same}
 use Rattle.plan_waiting.specs.Waiting.{used, waiting, Sound}
-use Rattle.plan_waiting.specs.Lent.{slotIn, slotAt, placesIn, queueIn, beginIn, whenAt, keyAt, keysOf, Kept, Due, Sifted}
+use Rattle.plan_waiting.specs.Lent.{slotIn, slotAt, placesIn, queueIn, beginIn, whenAt, keyAt, keysOf, placeAt, Kept, Due, Sifted, Left}
 use Rattle.plan_waiting.proofs.Soundness.{sound-keep}
-use Rattle.plan_waiting.proofs.LentPlaces.{places-long, places-same, used-is, slot-same}
+use Rattle.plan_waiting.proofs.LentPlaces.{places-long, places-same, place-there, used-is, slot-same}
 
 -- ---- keys
 
@@ -64,6 +65,24 @@ pub drop-same : (l m : List ℕ) (b : ℕ) → length m ≡ length l → ((k : �
 drop-same l m b e h =
     ext-getD 0 (drop b m) (drop b l) (length-drop b m ∙ ap (λ (n : ℕ). n - b) e ∙ sym (length-drop b l))
     (λ i k. getD-drop b m i 0 ∙ h (b + i) (omega arith) ∙ sym (getD-drop b l i 0))
+
+-- number i of k is in m
+abbrev Found : List ℕ → List ℕ → ℕ → Type 0
+Found k m i = (j : ℕ) × (j < length m) × (getD k i 0 ≡ getD m j 0)
+
+-- what passes a test was in the list
+kept-from : (f : ℕ → Bool) (l : List ℕ) (i : ℕ) → i < length (keep f l) → Found (keep f l) l i
+kept-from f [] i h = absurd (let y : ⊥ = omega arith in y)
+kept-from f (x ∷ l) i h = go (f x) (kept-from f l) i h
+  where
+    further : (i : ℕ) → Found (keep f l) l i → Found (keep f l) (x ∷ l) i
+    further i k = (suc (k .0), omega (arith, k .1), k .2)
+
+    go : (b : Bool) → ((i : ℕ) → i < length (keep f l) → Found (keep f l) l i) → (i : ℕ) → i < length (cond b (x ∷ keep f l) (keep f l))
+        → Found (cond b (x ∷ keep f l) (keep f l)) (x ∷ l) i
+    go true ih zero h = (0, omega arith, refl)
+    go true ih (suc i) h = further i (ih i (omega arith))
+    go false ih i h = further i (ih i h)
 
 -- ---- what is kept
 
@@ -225,3 +244,20 @@ module _ (words objects : List ℕ) (n : ℕ) (h : Kept words objects n) where
           let l : r ≤ n = s .behind in
           let few : n ≤ 64 = h .few in
           (omega arith, rw used-later (sound-keep m (λ (x : Slot). leb (suc t) (time (pointIn x))) (used (queueIn words objects n)) (g .1)))
+
+      pub left-there : Left words objects n words′ r
+      left-there =
+          record {
+            from = λ i g.
+                let l : r ≤ n = s .behind in
+                let few : n ≤ 64 = h .few in
+                let many : length ps ≡ n = length-take-le n (placesIn words) (omega (arith, places-long words)) in
+                let k = kept-from (λ p. leb (suc t) (whenAt slot p)) ps i (omega (arith, counted)) in
+                let j = k .0 in
+                let inside : j < n = omega (arith, many, k .1) in
+                let listed : getD after (384 + i) 0 ≡ getD words (384 + j) 0 =
+                sym (getD-take r (placesIn after) i 0 g ∙ place-there after i (omega arith)) ∙ ap (λ (q : List ℕ). getD q i 0) (s .done)
+                ∙ k .2 ∙ getD-take n (placesIn words) j 0 inside ∙ place-there words j (omega arith) in
+                let e : placeAt words′ i ≡ placeAt words j = ap (λ (x : ℕ). x % 64) (cell (384 + i) (λ z. omega arith) ∙ listed) in
+                (j, inside, e, ap (slotIn words′ objects) e ∙ same-slot (getD words (384 + j) 0));
+          }

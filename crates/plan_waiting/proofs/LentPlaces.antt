@@ -213,13 +213,21 @@ module _ (words : List ℕ) (i : ℕ) where
   word-duration t = sound-duration (t .1 .0) (slotIn words (t .0) i .step) (t .1 .1)
 
   module _ (objects : List ℕ) where
+    pub ends-there : getD words (6 * i + 2) 0 ≡ 3 → slotIn words objects i .ends ≡ true
+    unfolding slotIn
+    ends-there e = eq-eqb (getD words (6 * i + 2) 0) 3 e
+
+    pub begins-there : (getD words (6 * i + 2) 0 ≡ 3 → ⊥) → slotIn words objects i .ends ≡ false
+    unfolding slotIn
+    begins-there e = ne-eqb (getD words (6 * i + 2) 0) 3 e
+
     pub end-there : getD words (6 * i + 2) 0 ≡ 3 → time (pointIn (slotIn words objects i)) ≡ getD words (6 * i + 4) 0 + getD words (6 * i + 3) 0
     unfolding slotIn
-    end-there e = end-time (slotIn words objects i) (eq-eqb (getD words (6 * i + 2) 0) 3 e)
+    end-there e = end-time (slotIn words objects i) (ends-there e)
 
     pub start-there : (getD words (6 * i + 2) 0 ≡ 3 → ⊥) → time (pointIn (slotIn words objects i)) ≡ getD words (6 * i + 4) 0
     unfolding slotIn
-    start-there e = start-time (slotIn words objects i) (ne-eqb (getD words (6 * i + 2) 0) 3 e)
+    start-there e = start-time (slotIn words objects i) (begins-there e)
 
 pub timed-place : (words : List ℕ) (n i : ℕ) → TimedWords words n → i < n → TimedWord words (getD words (384 + i) 0 % 64)
 timed-place words n i t h =

@@ -10,6 +10,7 @@ use lib.ListN.{length, getD, take}
 use Rattle.plan_meaning.specs.Lists.{keep}
 use Rattle.plan_meaning.specs.Plan.{time}
 use Rattle.plan_meaning.specs.Stored.{pointIn}
+use Rattle.plan_meaning.specs.declared.Step.{Step}
 use Rattle.plan_meaning.specs.declared.Slot.{Slot}
 use Rattle.plan_ordering.specs.Order.{ordered}
 use Rattle.plan_ordering.specs.Keys.{keysIn, Inside}
@@ -74,9 +75,13 @@ module _ (slot : ℕ → Slot) where
 abbrev pub placeOf : ℕ → ℕ
 placeOf key = key % 64
 
+-- the place of the point that came as number i
+abbrev pub placeAt : List ℕ → ℕ → ℕ
+placeAt words i = getD words (384 + i) 0 % 64
+
 -- no place is listed twice
 abbrev pub Apart : List ℕ → Type 0
-Apart words = (i j : ℕ) → i < 64 → j < 64 → getD words (384 + i) 0 % 64 ≡ getD words (384 + j) 0 % 64 → i ≡ j
+Apart words = (i j : ℕ) → i < 64 → j < 64 → placeAt words i ≡ placeAt words j → i ≡ j
 
 -- n points wait, and their keys are in order
 pub record Kept (words objects : List ℕ) (n : ℕ) : Type 0 where
@@ -116,6 +121,17 @@ pub record Sifted (f : ℕ → Bool) (words₀ words : List ℕ) (i j : ℕ) : T
   pub above : (k : ℕ) → 448 ≤ k → getD words k 0 ≡ getD words₀ k 0
   pub apart : Apart words
   pub long : length words ≡ 640
+
+-- each of the r points that are left stands where it stood
+pub record Left (words objects : List ℕ) (n : ℕ) (words′ : List ℕ) (r : ℕ) : Type 0 where
+  pub from : (i : ℕ) → i < r
+      → (j : ℕ) × (j < n) × (placeAt words′ i ≡ placeAt words j) × (slotIn words′ objects (placeAt words′ i) ≡ slotIn words objects (placeAt words j))
+
+-- the first n points stand where they stood, and the others are the step's
+pub record Entered (words objects : List ℕ) (n : ℕ) (words′ objects′ : List ℕ) (r : ℕ) (x : Step) : Type 0 where
+  pub was : (i : ℕ) → i < n
+      → (placeAt words′ i ≡ placeAt words i) × (slotIn words′ objects′ (placeAt words′ i) ≡ slotIn words objects (placeAt words i))
+  pub new : (i : ℕ) → n ≤ i → i < r → slotIn words′ objects′ (placeAt words′ i) .step ≡ x
 
 -- ---- what a function asks
 

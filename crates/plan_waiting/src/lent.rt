@@ -4,18 +4,18 @@ use crate::Queue;
 use plan_meaning::Slot;
 use plan_meaning::Step;
 ghost use mathlib.Core.Path.{_≡_};
-ghost use mathlib.Core.Bool.{true};
+ghost use mathlib.Core.Bool.{true, _&&_};
 ghost use mathlib.Core.List.{List, [], _∷_, _++_};
 ghost use Prim.Native.Nat.{ℕ, suc, _+_, _%_, _≤_, _<_};
-ghost use lib.Dec.{leb};
+ghost use lib.Dec.{leb, ltb};
 ghost use lib.ListN.{length, getD};
 ghost use Rattle.plan_meaning.specs.Plan.{time, pointsOf, from, latest};
 ghost use Rattle.plan_meaning.specs.Machine as Machine;
 ghost use Rattle.plan_meaning.specs.Stored.{stepIn, pointIn};
 ghost use Rattle.plan_ordering.specs.Keys.{Inside};
 ghost use Rattle.plan_waiting.specs.Waiting.{used, waiting, queueOf, soundStep, Sound, Timed, TimedStep};
-ghost use Rattle.plan_waiting.specs.Lent.{whenIn, slotIn, slotAt, queueIn, beginIn, whenAt, Apart, Kept, Due, Put, Swapped, Sifted};
-ghost use Rattle.plan_waiting.specs.Lent.{Sized, TimedWords, TimedWord};
+ghost use Rattle.plan_waiting.specs.Lent.{whenIn, slotIn, slotAt, queueIn, beginIn, whenAt, placeAt, Apart, Kept, Due, Put, Swapped, Sifted};
+ghost use Rattle.plan_waiting.specs.Lent.{Left, Entered, Sized, TimedWords, TimedWord};
 
 // When the point at place p happens.
 pub fn time_at(words: &[usize; 640], p: usize) -> usize
@@ -27,6 +27,43 @@ pub fn time_at(words: &[usize; 640], p: usize) -> usize
         return words[at + 4] + words[at + 3];
     }
     words[at + 4]
+}
+
+// The start of the step at place p.
+pub fn start_at(words: &[usize; 640], p: usize) -> usize
+    requires { ⌜ p < 64 ⌝ }
+    ensures { λ r. ⌜ ((o : List ℕ) → r ≡ slotIn (now (words .entry)) o p .step .start) ⌝ }
+{
+    words[6 * p + 4]
+}
+
+// Its line.
+pub fn line_at(words: &[usize; 640], p: usize) -> usize
+    requires { ⌜ p < 64 ⌝ }
+    ensures { λ r. ⌜ ((o : List ℕ) → r ≡ slotIn (now (words .entry)) o p .step .line) ⌝ }
+{
+    words[6 * p]
+}
+
+// Its action.
+pub fn action_at(words: &[usize; 640], p: usize) -> usize
+    requires { ⌜ p < 64 ⌝ }
+    ensures { λ r. ⌜ ((o : List ℕ) → r ≡ slotIn (now (words .entry)) o p .step .action) ⌝ }
+{
+    words[6 * p + 1]
+}
+
+// Whether the point at place p is an end that lies after the time t.
+pub fn is_open(words: &[usize; 640], p: usize, t: usize) -> bool
+    requires { ⌜ (p < 64) × TimedWord (now words) p ⌝ }
+    ensures { λ r. ⌜ ((o : List ℕ)
+        → r ≡ (slotIn (now (words .entry)) o p .ends && ltb t (time (pointIn (slotIn (now (words .entry)) o p))))) ⌝ }
+{
+    let at = 6 * p;
+    if words[at + 2] == 3 {
+        return t < words[at + 4] + words[at + 3];
+    }
+    false
 }
 
 // What stands at place p.
@@ -56,7 +93,7 @@ pub fn slot_at<'a>(words: &'a [usize; 640], objects: &'a [u8; 256], p: usize) ->
 // The place of the point that came as number i.
 pub fn place_at(words: &[usize; 640], i: usize) -> usize
     requires { ⌜ i < 64 ⌝ }
-    ensures { λ r. ⌜ (r ≡ getD (now (words .entry)) (384 + i) 0 % 64) × (r < 64) ⌝ }
+    ensures { λ r. ⌜ (r ≡ placeAt (now (words .entry)) i) × (r < 64) ⌝ }
 {
     words[384 + i] % 64
 }
@@ -175,7 +212,8 @@ pub fn later(words: &mut [usize; 640], n: usize, t: usize) -> usize
     requires { ⌜ TimedWords (now words) n × Apart (now words) × Inside (now words) (beginIn (now words)) n ⌝ }
     ensures { λ r. ⌜ ((o : List ℕ) (b : ℕ) → Kept (now (words .entry)) o n → t ≡ Machine.soonest b (waiting (queueIn (now (words .entry)) o n))
         → Kept (now (words .exit)) o r × (waiting (queueIn (now (words .exit)) o r) ≡ from (suc t) (waiting (queueIn (now (words .entry)) o n)))
-        × ((m : ℕ) → Sound m (queueIn (now (words .entry)) o n) → Sound m (queueIn (now (words .exit)) o r))) ⌝ }
+        × ((m : ℕ) → Sound m (queueIn (now (words .entry)) o n) → Sound m (queueIn (now (words .exit)) o r))
+        × Left (now (words .entry)) o n (now (words .exit)) r) ⌝ }
 {
     let r = sift(words, n, t);
     words[448] = words[448] + (n - r);
@@ -186,7 +224,8 @@ pub fn later(words: &mut [usize; 640], n: usize, t: usize) -> usize
 fn enter_point(words: &mut [usize; 640], objects: &mut [u8; 256], n: usize, s: Slot)
     requires { ⌜ Kept (now words) (now objects) n × (n < 64) × TimedStep (s .step) ⌝ }
     ensures { λ _. ⌜ Kept (now (words .exit)) (now (objects .exit)) (n + 1)
-        × (used (queueIn (now (words .exit)) (now (objects .exit)) (n + 1)) ≡ used (queueIn (now (words .entry)) (now (objects .entry)) n) ++ s ∷ []) ⌝ }
+        × (used (queueIn (now (words .exit)) (now (objects .exit)) (n + 1)) ≡ used (queueIn (now (words .entry)) (now (objects .entry)) n) ++ s ∷ [])
+        × Entered (now (words .entry)) (now (objects .entry)) n (now (words .exit)) (now (objects .exit)) (n + 1) (s .step) ⌝ }
 {
     let p = place_at(words, n);
     put(words, objects, p, s);
@@ -201,7 +240,8 @@ pub fn enter(words: &mut [usize; 640], objects: &mut [u8; 256], n: usize, x: Ste
     ensures { λ r. ⌜ Kept (now (words .exit)) (now (objects .exit)) r
         × (waiting (queueIn (now (words .exit)) (now (objects .exit)) r) ≡ waiting (queueIn (now (words .entry)) (now (objects .entry)) n)
         ++ pointsOf (stepIn x)) × ((m : ℕ) → Sound m (queueIn (now (words .entry)) (now (objects .entry)) n) → soundStep m x ≡ true
-        → Sound m (queueIn (now (words .exit)) (now (objects .exit)) r)) ⌝ }
+        → Sound m (queueIn (now (words .exit)) (now (objects .exit)) r))
+        × Entered (now (words .entry)) (now (objects .entry)) n (now (words .exit)) (now (objects .exit)) r x ⌝ }
 {
     enter_point(
         words,

@@ -10,6 +10,7 @@ use Rattle.plan_waiting.specs.Waiting.{waiting}
 use Rattle.plan_waiting.specs.Lent.{queueIn}
 use Rattle.plan_waiting.proofs.Points.{startOf, endOf, two-points, one-more, two-more}
 use Rattle.plan_waiting.proofs.LentPlaces.{grown-waits, grown-sound}
+use Rattle.plan_waiting.proofs.Entering.{both-entered}
 use Rattle.plan_meaning.specs.Plan.{Point}
 use Rattle.plan_meaning.specs.Promised.{Act}
 use borrow.Author.Needs.{needs}
@@ -32,6 +33,7 @@ returns c =
       u .ensures .0,
       one-more (a .x) (waiting q) (waiting r) (c .if1 .taken) (grown-waits q r s (u .ensures .1)),
       λ m. grown-sound q r s (u .ensures .1) m (u .ensures .0 .few),
+      u .ensures .2,
     )
 
 add-enter-point : tie.Need-add-enter-point
@@ -62,6 +64,7 @@ returns-2 c =
       v .ensures .0,
       two-more (a .x) (waiting q) (waiting r) (c .before .before .before .if1 .left) both,
       λ m h k. grown-sound q′ r (endOf (a .x)) (v .ensures .1) m (v .ensures .0 .few) (grown-sound q q′ (startOf (a .x)) (u .ensures .1) m (u .ensures .0 .few) h k) k,
+      both-entered (u .ensures .2) (v .ensures .2),
     )
 
 pub enter-spec : {M : Type 1} → statement M

@@ -8,7 +8,7 @@ use native.Mathlib.Omega.{arith}
 use denote.Ref.{now}
 use Rattle.plan_meaning.specs.Plan.{time}
 use Rattle.plan_meaning.specs.Stored.{pointIn}
-use Rattle.plan_waiting.proofs.Entering.{kept-enter, used-enter}
+use Rattle.plan_waiting.proofs.Entering.{kept-enter, used-enter, point-entered}
 use borrow.Author.Needs.{needs}
 use Rattle.plan_waiting.proofs.lent.enter_point.Statement.{statement}
 use Rattle.plan_waiting.proofs.lent.enter_point.Tie as tie
@@ -55,6 +55,7 @@ returns c =
     let ek = ap (λ (t : ℕ). t * 64 + p) et in (
       kept-enter w o (a .n) (c .before .before .before .before .before .before .before .before .before .before .pre .0) (c .before .before .before .before .before .before .before .before .before .before .pre .1) (a .s) (u .last .0) (u .last .1 .0) p ep (u .ensures) (e .last .0) (e .result) _ (e .ensures .1) (e .ensures .2) (e .ensures .0) ek,
       used-enter w o (a .n) (c .before .before .before .before .before .before .before .before .before .before .pre .0) (c .before .before .before .before .before .before .before .before .before .before .pre .1) (a .s) (u .last .0) (u .last .1 .0) p ep (u .ensures) (e .last .0) (e .result) _ (e .ensures .1) (e .ensures .2) (e .ensures .0) ek,
+      point-entered w o (a .n) (c .before .before .before .before .before .before .before .before .before .before .pre .0) (c .before .before .before .before .before .before .before .before .before .before .pre .1) (a .s) (u .last .0) (u .last .1 .0) p ep (u .ensures) (e .last .0) (e .result) _ (e .ensures .1) (e .ensures .2) (e .ensures .0) ek,
     )
 
 pub enter-point-spec : {M : Type 1} → statement M

@@ -5,7 +5,7 @@ use native.Mathlib.Omega.{arith}
 use denote.Ref.{now}
 use lib.ListN.{getD}
 use Rattle.plan_waiting.specs.Lent.{beginIn}
-use Rattle.plan_waiting.proofs.Keeping.{kept-later, waits-later, sound-later}
+use Rattle.plan_waiting.proofs.Keeping.{kept-later, waits-later, sound-later, left-there}
 use borrow.Author.Needs.{needs}
 use Rattle.plan_waiting.proofs.lent.later.Statement.{statement}
 use Rattle.plan_waiting.proofs.lent.later.Tie as tie
@@ -37,7 +37,7 @@ returns c =
     λ o b h e.
     let s = c .before .sift .ensures o in
     let begin : getD l 448 0 ≡ beginIn w = s .above 448 (omega arith) in
-    rw begin (kept-later w o (a .n) h (a .t) b e l r s, waits-later w o (a .n) h (a .t) b e l r s, sound-later w o (a .n) h (a .t) b e l r s)
+    rw begin (kept-later w o (a .n) h (a .t) b e l r s, waits-later w o (a .n) h (a .t) b e l r s, sound-later w o (a .n) h (a .t) b e l r s, left-there w o (a .n) h (a .t) b e l r s)
 
 pub later-spec : {M : Type 1} → statement M
 later-spec =
