@@ -18,7 +18,6 @@ use Rattle.text_tokens.specs.Tokens.{planTokenAt}
 use Rattle.text_tokens.specs.declared.tokens.Token.{Token}
 use Rattle.text_tokens.specs.declared.tokens.Token.the-variants as T
 use Rattle.text_tokens.proofs.tokens.Token as token-type
-use Rattle.domain_rows.specs.Held.{byteAt}
 use Rattle.domain_meaning.specs.Indexes.{padded}
 use Rattle.domain_meaning.specs.Read.{Read, Reader, got, refused, andThen}
 use Rattle.domain_meaning.specs.Due.{afterOf}
@@ -28,8 +27,9 @@ use Rattle.domain_due.specs.Answers.{answerOf}
 use Rattle.domain_due.specs.declared.Parsed.{Parsed}
 use Rattle.domain_due.specs.declared.Parsed.the-variants.{Done, Refused}
 use Rattle.domain_due.proofs.Dues.{not-end, answer-done, answer-refused, never-done}
-use Rattle.domain_stored_meaning.specs.Decode.{actionFrom, actionAt, lastingAt}
-use Rattle.domain_stored_meaning.proofs.Actions.{numbered}
+use Rattle.domain_prepared_meaning.specs.Preparing.{actionBy}
+use Rattle.domain_prepared_meaning.specs.Decode.{lastsAt, placeIn, actionAt}
+use Rattle.domain_prepared_meaning.proofs.Actions.{numbered}
 use Rattle.domain_stored_meaning.specs.Entries.{signedIn}
 use Rattle.domain_terms.specs.declared.scope.Counts.{Counts}
 use Rattle.plan_meaning.specs.Plan.{Span, lasting, Step}
@@ -133,23 +133,23 @@ listed-done r out m a u (refused c p) h e = never-done c p a u (sym h ∙ e)
 
 -- ---- the action with a number, of what the model's numbers say
 
-known-many : (tables : List ℕ) (c : Counts) (heads : List ℕ) (acting : ℕ) (code starts : List ℕ)
-    → length (knownIn tables c heads acting code starts .actions) ≡ acting
-known-many tables c heads acting code starts =
-    sym (length-map (knownIn tables c heads acting code starts .actions) (λ (a : Action). a .declared))
-    ∙ ap (λ (t : Table). length t) (known-named tables c heads acting code starts)
+known-many : (tables : List ℕ) (c : Counts) (heads : List ℕ) (acting : ℕ) (rows : List ℕ)
+    → length (knownIn tables c heads acting rows .actions) ≡ acting
+known-many tables c heads acting rows =
+    sym (length-map (knownIn tables c heads acting rows .actions) (λ (a : Action). a .declared))
+    ∙ ap (λ (t : Table). length t) (known-named tables c heads acting rows)
     ∙ signed-length heads acting
 
-module _ (tables : List ℕ) (c : Counts) (heads : List ℕ) (acting : ℕ) (code starts : List ℕ) (i : ℕ) (h : i < acting) where
-  known-declared : actionOf (knownIn tables c heads acting code starts .actions) i .declared ≡ entryAt (signedIn heads acting) i
-  unfolding knownIn actionAt actionFrom
-  known-declared = rw (numbered (signedIn heads acting) code starts 0 i _ (omega (arith, signed-length heads acting)))
+module _ (tables : List ℕ) (c : Counts) (heads : List ℕ) (acting : ℕ) (rows : List ℕ) (i : ℕ) (h : i < acting) where
+  known-declared : actionOf (knownIn tables c heads acting rows .actions) i .declared ≡ entryAt (signedIn heads acting) i
+  unfolding knownIn actionAt actionBy
+  known-declared = rw (numbered (signedIn heads acting) rows 0 i _ (omega (arith, signed-length heads acting)))
 
-  known-lasting : actionOf (knownIn tables c heads acting code starts .actions) i .lasting ≡ lastingAt code (byteAt starts (3 * i)) .tree
-  unfolding knownIn actionAt actionFrom
+  known-lasting : actionOf (knownIn tables c heads acting rows .actions) i .lasting ≡ lastsAt rows (placeIn rows i 0)
+  unfolding knownIn actionAt actionBy
   known-lasting =
       let z : 0 + i ≡ i = omega arith in
-      rw (numbered (signedIn heads acting) code starts 0 i _ (omega (arith, signed-length heads acting)), z)
+      rw (numbered (signedIn heads acting) rows 0 i _ (omega (arith, signed-length heads acting)), z)
 
 -- ---- the ways through an action
 
@@ -201,14 +201,14 @@ stored-lies s k n start d i m os below small short e =
     } in
     ap stepIn q ∙ step-there s k n 0 x y
 
-module _ (s tables : List ℕ) (c : Counts) (heads : List ℕ) (acting : ℕ) (code starts : List ℕ) (n start at a v : ℕ) (m : answerOf (mark s 58 at) ≡ Done a v)
+module _ (s tables : List ℕ) (c : Counts) (heads : List ℕ) (acting : ℕ) (rows : List ℕ) (n start at a v : ℕ) (m : answerOf (mark s 58 at) ≡ Done a v)
     (b w : ℕ) (o : answerOf (opening s a) ≡ Done b w) where
   abbrev known : Known
-  known = knownIn tables c heads acting code starts
+  known = knownIn tables c heads acting rows
 
   act-known : actAt s known n start at ≡ andThen (namedAction s (signedIn heads acting) b) (behindOf s known n start)
   act-known = act-named s known n start at a v m b w o ∙ ap (λ (t : Table). andThen (namedAction s t b) (behindOf s known n start))
-      (known-named tables c heads acting code starts)
+      (known-named tables c heads acting rows)
 
   pub name-refused : (q p : ℕ) → answerOf (namedAction s (signedIn heads acting) b) ≡ Refused q p → actAt s known n start at ≡ refused q p
   name-refused q p e = act-known ∙ rw (answer-refused (namedAction s (signedIn heads acting) b) q p e)
@@ -221,17 +221,17 @@ module _ (s tables : List ℕ) (c : Counts) (heads : List ℕ) (acting : ℕ) (c
     wants = wantedOf (entryAt (signedIn heads acting) i)
 
     abbrev lasts : Bool
-    lasts = lastsOf (lastingAt code (byteAt starts (3 * i)) .tree)
+    lasts = lastsOf (lastsAt rows (placeIn rows i 0))
 
     act-behind : actAt s known n start at ≡ behind s known n start i wants (lastingRead s lasts) e
     act-behind =
         act-known
         ∙ rw (
           answer-done (namedAction s (signedIn heads acting) b) e i f,
-          known-declared tables c heads acting code starts i below,
-          known-lasting tables c heads acting code starts i below,
+          known-declared tables c heads acting rows i below,
+          known-lasting tables c heads acting rows i below,
         )
-        (ap (λ (h : Reader Span). behind s known n start i wants h e) (λ j g. sym (span-lasting s (lastingAt code (byteAt starts (3 * i)) .tree) g) j))
+        (ap (λ (h : Reader Span). behind s known n start i wants h e) (λ j g. sym (span-lasting s (lastsAt rows (placeIn rows i 0)) g) j))
 
     module _ (r : Parsed) (out t : List ℕ) (l : Listed r out t (objectsTo s known wants e)) where
       pub objects-refused : (q p : ℕ) → r ≡ Refused q p → actAt s known n start at ≡ refused q p
@@ -259,7 +259,7 @@ module _ (s tables : List ℕ) (c : Counts) (heads : List ℕ) (acting : ℕ) (c
 
               lies : stepIn (stored n start d i t (length s)) ≡ made n start i s (taken .objects) (spanIn d)
               lies =
-                  stored-lies s known n start d i t (taken .objects) (omega (arith, below, known-many tables c heads acting code starts)) small short
+                  stored-lies s known n start d i t (taken .objects) (omega (arith, below, known-many tables c heads acting rows)) small short
                   (taken .stored ∙ ap (λ (h : List ℕ). sets h 0 (taken .objects)) zeros ∙ four-padded (taken .objects) count)
 
 -- ---- the ways through a line

@@ -20,7 +20,8 @@ use Rattle.domain_rows.proofs.Rows.{byte-is}
 use Rattle.domain_terms.specs.Raw.{keptIn, belowIn}
 use Rattle.domain_terms.proofs.Kept.{raw-past, raw-kept, below-kept}
 use Rattle.domain_meaning.specs.Actions.{moment, rule}
-use Rattle.domain_stored_meaning.specs.Decode.{decoded, mapped, expressionAt, lastingAt, actionFrom, actionAt, actionsAt}
+use Rattle.domain_prepared_meaning.specs.Preparing.{actionBy}
+use Rattle.domain_prepared_meaning.specs.Decode.{expressionAt, lastsAt, placeIn, actionAt, actionsAt}
 use Rattle.plan_meaning.specs.Lines.{declarations}
 use Rattle.plan_lines.specs.Knowing.{lastsOf}
 use Rattle.domain_stored_meaning.specs.Entries.{bytesFrom, nameIn, infoIn, typedRow, signedRow, entriesFrom, typedIn, signedIn}
@@ -173,17 +174,22 @@ module _ (heads : List ℕ) (n i : ℕ) where
 
 -- ---- the model's actions
 
-pub lasting-read : (code : List ℕ) (at : ℕ) → ltb 0 (byteAt code at) ≡ lastsOf (lastingAt code at .tree)
-unfolding lastingAt byteAt
-lasting-read code at = within (ltb at (length code)) (getD code at 0)
+pub lasting-read : (rows : List ℕ) (at : ℕ) → ltb 0 (byteAt rows at) ≡ lastsOf (lastsAt rows at)
+unfolding lastsAt byteAt
+lasting-read rows at = within (ltb at (length rows)) (getD rows at 0)
   where
     within : (t : Bool) (b : ℕ) → ltb 0 (cond t b 0) ≡ lastsOf
-        (cond t (cond (eqb (cond t b 0) 0) (decoded moment (at + 1)) (mapped rule (expressionAt code (at + 1)))) (decoded moment at) .tree)
+        (cond t (cond (eqb (cond t b 0) 0) moment (rule (expressionAt rows (at + 1) .tree))) moment)
     within true zero = refl
     within true (suc b) = rw (lt-ltb 0 (suc b) (omega arith), ne-eqb (suc b) 0 (λ e. let z : ⊥ = omega (arith, e) in z))
     within false b = refl
 
-pub declarations-read : (code starts : List ℕ) (j : ℕ) (es : Table) → declarations (actionsAt code starts j es) ≡ es
-unfolding actionsAt actionAt actionFrom
-declarations-read code starts j [] = refl
-declarations-read code starts j (e ∷ es) = ap (λ (t : Table). e ∷ t) (declarations-read code starts (j + 1) es)
+-- the first of an action's places, of its two bytes
+pub place-read : (rows : List ℕ) (i : ℕ) → byteAt rows (1 + 12 * i) + 256 * byteAt rows (1 + 12 * i + 1) ≡ placeIn rows i 0
+unfolding placeIn
+place-read rows i = let z : 1 + 12 * i + 2 * 0 ≡ 1 + 12 * i = omega arith in rw z
+
+pub declarations-read : (rows : List ℕ) (j : ℕ) (es : Table) → declarations (actionsAt rows j es) ≡ es
+unfolding actionsAt actionAt actionBy
+declarations-read rows j [] = refl
+declarations-read rows j (e ∷ es) = ap (λ (t : Table). e ∷ t) (declarations-read rows (j + 1) es)

@@ -229,18 +229,18 @@ module _ (tables : List ℕ) (c : Counts) where
   pub given-below : (s : List ℕ) (t : Token) (a v : ℕ) → answerOf (namedBy s (objectsIn tables c) t (afterOf t)) ≡ Done a v → v < c .objects
   given-below s t a v h = let e = typed-length (part tables objectsAt predicatesAt) (c .objects) in rw e at (named-below s (objectsIn tables c) t a v h)
 
-  module _ (heads : List ℕ) (acting : ℕ) (code starts : List ℕ) where
+  module _ (heads : List ℕ) (acting : ℕ) (rows : List ℕ) where
     -- the action's name is looked for among those of the heads
-    pub known-named : declarations (knownIn tables c heads acting code starts .actions) ≡ signedIn heads acting
+    pub known-named : declarations (knownIn tables c heads acting rows .actions) ≡ signedIn heads acting
     unfolding knownIn
-    known-named = declarations-read code starts 0 (signedIn heads acting)
+    known-named = declarations-read rows 0 (signedIn heads acting)
 
     pub known-given : (s : List ℕ) (t : Token) (at : ℕ) → t ≡ planTokenAt s at
-        → namedBy s (objectsIn tables c) t (afterOf t) ≡ namedAction s (knownIn tables c heads acting code starts .objects) at
+        → namedBy s (objectsIn tables c) t (afterOf t) ≡ namedAction s (knownIn tables c heads acting rows .objects) at
     unfolding knownIn
     known-given s t at e = named-at s (objectsIn tables c) t at e
 
-    pub known-fits : (k : Known) (i want : ℕ) → k ≡ knownIn tables c heads acting code starts
+    pub known-fits : (k : Known) (i want : ℕ) → k ≡ knownIn tables c heads acting rows
         → isBelow (length (typesIn tables c)) (typesIn tables c) (typeOf (entryAt (objectsIn tables c) i)) want ≡ isBelow (length (k .types))
         (k .types) (typeOf (entryAt (k .objects) i)) want
     unfolding knownIn

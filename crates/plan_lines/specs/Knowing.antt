@@ -6,7 +6,7 @@ use lib.ListN.{length}
 use Rattle.text_tokens.specs.Runs.{part}
 use Rattle.domain_meaning.specs.Tables.{Table}
 use Rattle.domain_meaning.specs.Actions.{Lasting, moment, rule}
-use Rattle.domain_stored_meaning.specs.Decode.{actionsAt}
+use Rattle.domain_prepared_meaning.specs.Decode.{actionsAt}
 use Rattle.domain_stored_meaning.specs.Entries.{typedIn, signedIn}
 use Rattle.domain_terms.specs.declared.scope.Counts.{Counts}
 use Rattle.plan_meaning.specs.Lines.{Known}
@@ -18,12 +18,12 @@ typesIn tables c = typedIn (part tables 0 objectsAt) (c .types)
 abbrev pub objectsIn : List ℕ → Counts → Table
 objectsIn tables c = typedIn (part tables objectsAt predicatesAt) (c .objects)
 
-unfoldable pub knownIn : List ℕ → Counts → List ℕ → ℕ → List ℕ → List ℕ → Known
-knownIn tables c heads acting code starts =
+unfoldable pub knownIn : List ℕ → Counts → List ℕ → ℕ → List ℕ → Known
+knownIn tables c heads acting rows =
     record {
       types = typesIn tables c;
       objects = objectsIn tables c;
-      actions = actionsAt code starts 0 (signedIn heads acting);
+      actions = actionsAt rows 0 (signedIn heads acting);
     }
 
 -- the tables have room for as many names as the counts say

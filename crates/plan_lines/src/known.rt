@@ -9,9 +9,8 @@ ghost use mathlib.Core.Path.{_≡_};
 ghost use Prim.Native.Nat.{_+_, _*_, _≤_, _<_};
 ghost use lib.ListN.{length, getD};
 ghost use Rattle.domain_meaning.specs.Tables.{lookup, isBelow, typeOf, entryAt, wantedOf};
-ghost use Rattle.domain_rows.specs.Held.{byteAt};
 ghost use Rattle.domain_stored_meaning.specs.Entries.{signedIn};
-ghost use Rattle.domain_stored_meaning.specs.Decode.{lastingAt};
+ghost use Rattle.domain_prepared_meaning.specs.Decode.{lastsAt, placeIn};
 ghost use Rattle.plan_lines.specs.Knowing.{Tabled, Headed, typesIn, objectsIn, lastsOf};
 
 // The number of the object w.
@@ -72,15 +71,12 @@ pub fn wanted(heads: &[u8], acting: usize, i: usize, j: usize) -> usize
     0
 }
 
-// Whether action i is a durative one.
-pub fn is_lasting<'a>(code: &'a [u8], starts: &'a [usize], i: usize) -> bool
+// Whether action i is a durative one: the first byte of its duration rule says it, at the first of its six places.
+pub fn is_lasting(rows: &[u8], i: usize) -> bool
     requires { ⌜ i < 32 ⌝ }
-    ensures { λ r. ⌜ r ≡ lastsOf (lastingAt (now (code .entry)) (byteAt (now (starts .entry)) (3 * i)) .tree) ⌝ }
+    ensures { λ r. ⌜ r ≡ lastsOf (lastsAt (now (rows .entry)) (placeIn (now (rows .entry)) i 0)) ⌝ }
 {
-    let k = 3 * i;
-    if k < starts.len() {
-        let at = starts[k];
-        return 0 < domain_rows::byte(code, at);
-    }
-    0 < domain_rows::byte(code, 0)
+    let k = 1 + 12 * i;
+    let at = happening_forms::cell(rows, k) + 256 * happening_forms::cell(rows, k + 1);
+    0 < happening_forms::cell(rows, at)
 }

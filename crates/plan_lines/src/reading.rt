@@ -91,14 +91,13 @@ pub fn objects_at<'a>(
     counts: Counts,
     heads: &'a [u8],
     acting: usize,
-    code: &'a [u8],
-    starts: &'a [usize],
+    rows: &'a [u8],
     i: usize,
     out: &mut [u8],
 ) -> Parsed
     requires { ⌜ Tabled (now tables) counts × Headed (now heads) acting ⌝ }
     ensures { λ r. ⌜ Listed r (now (out .entry)) (now (out .exit))
-        (objectsTo (now (text .entry)) (knownIn (now (tables .entry)) counts (now (heads .entry)) acting (now (code .entry)) (now (starts .entry)))
+        (objectsTo (now (text .entry)) (knownIn (now (tables .entry)) counts (now (heads .entry)) acting (now (rows .entry)))
         (wantedOf (entryAt (signedIn (now (heads .entry)) acting) i)) from) ⌝ }
 {
     let arity = known::arity(heads, acting, i);

@@ -31,14 +31,13 @@ fn act_at<'a>(
     counts: Counts,
     heads: &'a [u8],
     acting: usize,
-    code: &'a [u8],
-    starts: &'a [usize],
+    rows: &'a [u8],
     number: usize,
     start: usize,
 ) -> Line
     requires { ⌜ Tabled (now tables) counts × Headed (now heads) acting × (start < 1000000000000) ⌝ }
     ensures { λ r. ⌜ Stepped acting r (actAt (now (text .entry))
-        (knownIn (now (tables .entry)) counts (now (heads .entry)) acting (now (code .entry)) (now (starts .entry))) number start from) ⌝ }
+        (knownIn (now (tables .entry)) counts (now (heads .entry)) acting (now (rows .entry))) number start from) ⌝ }
 {
     let m = reading::mark_due(text, from, 58);
     let Parsed::Done(colon, _) = m else {
@@ -60,15 +59,14 @@ fn act_at<'a>(
         counts,
         heads,
         acting,
-        code,
-        starts,
+        rows,
         action,
         &mut objects,
     );
     let Parsed::Done(given, _) = g else {
         return refused(g);
     };
-    let s = reading::span_at(text, given, known::is_lasting(code, starts, action));
+    let s = reading::span_at(text, given, known::is_lasting(rows, action));
     let Parsed::Done(_, duration) = s else {
         return refused(s);
     };
@@ -92,14 +90,13 @@ pub fn line_at<'a>(
     counts: Counts,
     heads: &'a [u8],
     acting: usize,
-    code: &'a [u8],
-    starts: &'a [usize],
+    rows: &'a [u8],
     number: usize,
     before: usize,
 ) -> Line
     requires { ⌜ Tabled (now tables) counts × Headed (now heads) acting ⌝ }
     ensures { λ r. ⌜ Lined acting r (lineAt (now (text .entry))
-        (knownIn (now (tables .entry)) counts (now (heads .entry)) acting (now (code .entry)) (now (starts .entry))) number before 0) ⌝ }
+        (knownIn (now (tables .entry)) counts (now (heads .entry)) acting (now (rows .entry))) number before 0) ⌝ }
 {
     let t = tokens::plan_token_at(text, 0);
     if let Token::End(_) = t {
@@ -116,8 +113,7 @@ pub fn line_at<'a>(
         counts,
         heads,
         acting,
-        code,
-        starts,
+        rows,
         number,
         start,
     )

@@ -15,7 +15,7 @@ enum-told : tie.Need-enum-told
 enum-told c = search needs
 
 returns : tie.Need-returns
-returns c = line-blank _ (knownIn _ _ _ _ _ _) _ _ 0 (c .before .before .before .before .before .before .before .before .args .acting) _ (sym (c .before .before .plan-token-at .ensures) ∙ c .enum-told .given .1)
+returns c = line-blank _ (knownIn _ _ _ _ _) _ _ 0 (c .before .before .before .before .before .before .before .args .acting) _ (sym (c .before .before .plan-token-at .ensures) ∙ c .enum-told .given .1)
 
 start-at-requires : tie.Need-start-at-requires
 start-at-requires c κs = rw (c .before .plan-token-at .ensures) (plan-small _ 0)
@@ -30,13 +30,13 @@ refused-requires : tie.Need-refused-requires
 refused-requires c κs = search needs
 
 returns-2 : tie.Need-returns-2
-returns-2 c = let c3 = c .before .before .before in lined-refused _ _ _ _ _ (c .before .enum-told2 .given .1) (c .refused .ensures) _ (start-refused _ (knownIn _ _ _ _ _ _) _ _ 0 (c3 .before .before .before .before .before .before .before .before .args .acting) _ (c3 .before .before .plan-token-at .ensures) (c3 .before .match .keys2) _ _ (sym (c3 .start-at .ensures .0) ∙ c .before .enum-told2 .given .1))
+returns-2 c = let c3 = c .before .before .before in lined-refused _ _ _ _ _ (c .before .enum-told2 .given .1) (c .refused .ensures) _ (start-refused _ (knownIn _ _ _ _ _) _ _ 0 (c3 .before .before .before .before .before .before .before .args .acting) _ (c3 .before .before .plan-token-at .ensures) (c3 .before .match .keys2) _ _ (sym (c3 .start-at .ensures .0) ∙ c .before .enum-told2 .given .1))
 
 act-at-requires : tie.Need-act-at-requires
-act-at-requires c κs = let c3 = c .before .before .before in let c11 = c3 .before .before .before .before .before .before .before .before in (c11 .pre .0, c11 .pre .1, amount-done _ _ _ (c .before .s .given .1) (c3 .start-at .ensures .1))
+act-at-requires c κs = let c3 = c .before .before .before in let c10 = c3 .before .before .before .before .before .before .before in (c10 .pre .0, c10 .pre .1, amount-done _ _ _ (c .before .s .given .1) (c3 .start-at .ensures .1))
 
 returns-3 : tie.Need-returns-3
-returns-3 c = let c2 = c .before .before in let c4 = c2 .before .before in line-stepped _ (knownIn _ _ _ _ _ _) _ _ 0 (c4 .before .before .before .before .before .before .before .before .args .acting) _ (c4 .before .before .plan-token-at .ensures) (c4 .before .match .keys2) _ _ _ (sym (c4 .start-at .ensures .0) ∙ c2 .s .given .1) (c .act-at .ensures)
+returns-3 c = let c2 = c .before .before in let c4 = c2 .before .before in line-stepped _ (knownIn _ _ _ _ _) _ _ 0 (c4 .before .before .before .before .before .before .before .args .acting) _ (c4 .before .before .plan-token-at .ensures) (c4 .before .match .keys2) _ _ _ (sym (c4 .start-at .ensures .0) ∙ c2 .s .given .1) (c .act-at .ensures)
 
 pub line-at-spec : {M : Type 1} → statement M
 line-at-spec =
