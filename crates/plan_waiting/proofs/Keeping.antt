@@ -1,11 +1,12 @@
 -- What is kept of the points that wait: the first key tells the soonest time, those of its time are the happening, and what is kept stays so where a point is
 -- entered and where a happening is taken out. Assumes nothing.
 use Prim.Native.Nat.{ℕ, zero, suc, _+_, _-_, _*_, _%_, _≤_, _<_, min}
-use mathlib.Core.Bool.{Bool, true, false, cond}
+use mathlib.Core.Bool.{Bool, true, false, cond, not}
 use mathlib.Core.List.{List, [], _∷_, map}
 use mathlib.Core.Path.{_≡_, refl, sym, ap, ap₂, _∙_}
 use native.Mathlib.Nat.{mod-lt, zero-lt-suc}
 use native.Mathlib.Omega.{arith}
+use borrow.Author.Tests.{eqb-true, eqb-false, le-leb, lt-leb}
 use lib.Dec.{eqb, leb}
 use lib.ListN.{length, take, drop, getD, set, length-set, length-drop}
 use lib.Seq.{getD-set-same, getD-set-other, getD-take, getD-drop, ext-getD, take-take, drop-drop, length-take-le}
@@ -14,7 +15,7 @@ use Rattle.plan_meaning.specs.Plan.{time, from}
 use Rattle.plan_meaning.specs.Machine as Machine
 use Rattle.plan_meaning.specs.Stored.{pointIn}
 use Rattle.plan_meaning.specs.declared.Slot.{Slot}
-use Rattle.plan_meaning.proofs.Lists.{All}
+use Rattle.plan_meaning.proofs.Lists.{All, keep-same}
 use Rattle.plan_ordering.specs.Order.{soonest, ordered, front}
 use Rattle.plan_ordering.specs.Order as Order
 use Rattle.plan_ordering.specs.Keys.{timeOf, keysIn}
@@ -22,7 +23,7 @@ use Rattle.plan_ordering.proofs.Ordering.{Sorted, NotBelow, ordered-sorted, soo
 use Rattle.plan_ordering.proofs.Ordering.{happening, remaining, length-ordered}
 use Rattle.plan_ordering.proofs.Mapping.{map-take, map-drop, keep-map, drop-take, front-map, front-few, all-ordered, ordered-same, map-same}
 use Rattle.plan_waiting.specs.Waiting.{used, waiting, Sound}
-use Rattle.plan_waiting.specs.Lent.{slotIn, slotAt, placesIn, queueIn, beginIn, whenAt, keyAt, keysOf, placeAt, Kept, Due, Sifted, Left}
+use Rattle.plan_waiting.specs.Lent.{slotIn, slotAt, placesIn, queueIn, beginIn, whenAt, keyAt, keysOf, placeOf, placeAt, Kept, Due, Going, Sifted, Left}
 use Rattle.plan_waiting.proofs.Soundness.{sound-keep}
 use Rattle.plan_waiting.proofs.LentPlaces.{places-long, places-same, place-there, used-is, slot-same}
 
@@ -55,6 +56,11 @@ keys-same f g ps h =
     keys [] a = tt
     keys (q ∷ qs) a = (ap (λ (s : Slot). time (pointIn s) * 64 + q % 64) (a .0), keys qs (a .1))
 
+-- the places of keys
+places-keys : (slot : ℕ → Slot) (ps : List ℕ) → map placeOf (map (keyAt slot) ps) ≡ map placeOf ps
+places-keys slot [] = refl
+places-keys slot (p ∷ ps) = ap₂ _∷_ (key-place slot p) (places-keys slot ps)
+
 -- a key finds what lies at its place
 slots-keys : (words objects : List ℕ) (ps : List ℕ) → map (slotAt words objects) (map (keyAt (slotAt words objects)) ps) ≡ map (slotAt words objects) ps
 slots-keys words objects [] = refl
@@ -65,6 +71,16 @@ pub drop-same : (l m : List ℕ) (b : ℕ) → length m ≡ length l → ((k : �
 drop-same l m b e h =
     ext-getD 0 (drop b m) (drop b l) (length-drop b m ∙ ap (λ (n : ℕ). n - b) e ∙ sym (length-drop b l))
     (λ i k. getD-drop b m i 0 ∙ h (b + i) (omega arith) ∙ sym (getD-drop b l i 0))
+
+-- of points that are not before a time, those that are not after it are at it
+not-later : (when : ℕ → ℕ) (t : ℕ) (ps : List ℕ) → NotBelow when t ps → All (λ p. eqb (when p) t ≡ not (leb (suc t) (when p))) ps
+unfolding NotBelow
+not-later when t [] h = tt
+not-later when t (p ∷ ps) h = (go (eqb (when p) t) refl, not-later when t ps (h .1))
+  where
+    go : (b : Bool) → eqb (when p) t ≡ b → b ≡ not (leb (suc t) (when p))
+    go true e = let z : when p ≡ t = eqb-true (when p) t e in rw (lt-leb (suc t) (when p) (omega arith))
+    go false e = let z : when p ≡ t → ⊥ = eqb-false (when p) t e in rw (le-leb (suc t) (when p) (omega (arith, h .0)))
 
 -- number i of k is in m
 abbrev Found : List ℕ → List ℕ → ℕ → Type 0
@@ -93,10 +109,11 @@ module _ (words objects : List ℕ) (n : ℕ) (h : Kept words objects n) where
   abbrev slot : ℕ → Slot
   slot = slotAt words objects
 
+  waits-listed : (b : ℕ) → Machine.soonest b (waiting (queueIn words objects n)) ≡ soonest (whenAt slot) b ps
+  waits-listed b = ap (λ (l : List Slot). Machine.soonest b (map pointIn l)) (used-is words objects n) ∙ soonest-places slot b ps
+
   waits : (b : ℕ) → Machine.soonest b (waiting (queueIn words objects n)) ≡ soonest (whenAt slot) b (ordered (whenAt slot) ps)
-  waits b =
-      ap (λ (l : List Slot). Machine.soonest b (map pointIn l)) (used-is words objects n)
-      ∙ soonest-places slot b ps ∙ sym (soonest-ordered (whenAt slot) b ps)
+  waits b = waits-listed b ∙ sym (soonest-ordered (whenAt slot) b ps)
 
   first-time : (b : ℕ) (s : List ℕ) → Sorted (whenAt slot) s → keysIn words (beginIn words) n ≡ map (keyAt slot) s → 0 < n
       → soonest (whenAt slot) b s ≡ min (timeOf (getD words (beginIn words) 0)) b
@@ -130,29 +147,37 @@ module _ (words objects : List ℕ) (n : ℕ) (h : Kept words objects n) where
     none-below : NotBelow (whenAt slot) t (ordered (whenAt slot) ps)
     none-below = rw (et, waits b) (soonest-not-below (whenAt slot) b (ordered (whenAt slot) ps))
 
+    none-sooner : NotBelow (whenAt slot) t ps
+    none-sooner = rw (et, waits-listed b) (soonest-not-below (whenAt slot) b ps)
+
     front-keys : front timeOf t (keysIn words (beginIn words) n) ≡ front (whenAt slot) t (ordered (whenAt slot) ps)
     front-keys = ap (front timeOf t) (h .holds) ∙ front-map (keyAt slot) timeOf (whenAt slot) (key-time slot) t (ordered (whenAt slot) ps)
 
-    pub due-keys : (k : ℕ) → k ≡ front timeOf t (keysIn words (beginIn words) n) → k ≤ n → Due words objects n t k
-    due-keys k e l =
-        let first : keysIn words (beginIn words) k ≡ map (keyAt slot) (Order.at (whenAt slot) t ps) =
-        sym (take-take k n (drop (beginIn words) words) l) ∙ ap (take k) (h .holds)
-        ∙ sym (map-take (keyAt slot) k (ordered (whenAt slot) ps))
-        ∙ ap (λ (i : ℕ). map (keyAt slot) (take i (ordered (whenAt slot) ps))) (e ∙ front-keys)
-        ∙ ap (map (keyAt slot)) (happening (whenAt slot) t ps none-below) in
-        record {
-          is =
-              ap (map slot) first ∙ slots-keys words objects (Order.at (whenAt slot) t ps)
-              ∙ sym (keep-map slot (λ s. eqb (time (pointIn s)) t) ps)
-              ∙ ap (keep (λ s. eqb (time (pointIn s)) t)) (sym (used-is words objects n));
-        }
+    module _ (k : ℕ) (e : k ≡ front timeOf t (keysIn words (beginIn words) n)) (l : k ≤ n) where
+      first-keys : keysIn words (beginIn words) k ≡ map (keyAt slot) (Order.at (whenAt slot) t ps)
+      first-keys =
+          sym (take-take k n (drop (beginIn words) words) l) ∙ ap (take k) (h .holds)
+          ∙ sym (map-take (keyAt slot) k (ordered (whenAt slot) ps))
+          ∙ ap (λ (i : ℕ). map (keyAt slot) (take i (ordered (whenAt slot) ps))) (e ∙ front-keys)
+          ∙ ap (map (keyAt slot)) (happening (whenAt slot) t ps none-below)
+
+      pub due-keys : Due words objects n t k
+      due-keys =
+          record {
+            is =
+                ap (map slot) first-keys ∙ slots-keys words objects (Order.at (whenAt slot) t ps)
+                ∙ sym (keep-map slot (λ s. eqb (time (pointIn s)) t) ps)
+                ∙ ap (keep (λ s. eqb (time (pointIn s)) t)) (sym (used-is words objects n));
+          }
+
+      pub due-going : Going (λ p. leb (suc t) (whenAt slot p)) words (beginIn words) n k
+      due-going =
+          ap (map placeOf) first-keys ∙ places-keys slot (Order.at (whenAt slot) t ps)
+          ∙ ap (map placeOf) (keep-same (λ p. eqb (whenAt slot p) t) (λ p. not (leb (suc t) (whenAt slot p))) ps (not-later (whenAt slot) t ps none-sooner))
 
     -- ---- a happening taken out
 
-    module _ (after : List ℕ) (r : ℕ) (s : Sifted (λ p. leb (suc t) (whenAt slot p)) words after n r) where
-      abbrev begin : ℕ
-      begin = beginIn words + (n - r)
-
+    module _ (after : List ℕ) (r : ℕ) (s : Sifted (λ p. leb (suc t) (whenAt slot p)) words after n r) (begin : ℕ) (eb : begin ≡ beginIn words + (n - r)) where
       abbrev words′ : List ℕ
       words′ = set after 448 begin
 
@@ -164,7 +189,7 @@ module _ (words objects : List ℕ) (n : ℕ) (h : Kept words objects n) where
 
       left : take r (placesIn words′) ≡ Order.from (whenAt slot) (suc t) ps
       left =
-          let l : r ≤ n = s .behind in
+          let l : r ≤ n = s .fewer in
           let few : n ≤ 64 = h .few in
           places-same after words′ r (omega arith) (λ k g. cell (384 + k) (λ e. omega arith)) ∙ s .done
 
@@ -173,7 +198,7 @@ module _ (words objects : List ℕ) (n : ℕ) (h : Kept words objects n) where
 
       counted : length (Order.from (whenAt slot) (suc t) ps) ≡ r
       counted =
-          let l : r ≤ n = s .behind in
+          let l : r ≤ n = s .fewer in
           let few : n ≤ 64 = h .few in
           ap length (sym (s .done)) ∙ length-take-le r (placesIn after) (omega (arith, places-long after))
 
@@ -190,12 +215,12 @@ module _ (words objects : List ℕ) (n : ℕ) (h : Kept words objects n) where
 
       keys-left : keysIn words′ begin r ≡ keysOf slot (Order.from (whenAt slot) (suc t) ps)
       keys-left =
-          let l : r ≤ n = s .behind in
+          let l : r ≤ n = s .fewer in
           let low : 449 ≤ beginIn words = h .inside .low in
           let m : n - (n - r) ≡ r = omega arith in
           ap (take r) (drop-same words words′ begin (length-set after 448 begin ∙ s .long ∙ sym (h .inside .sized))
           (λ k g. cell k (λ e. omega arith) ∙ s .above k (omega arith)))
-          ∙ ap (λ (i : ℕ). take i (drop begin words)) (sym m)
+          ∙ ap₂ (λ (i j : ℕ). take i (drop j words)) (sym m) eb
           ∙ ap (take (n - (n - r))) (sym (drop-drop (n - r) (beginIn words) words))
           ∙ sym (drop-take (n - r) n (drop (beginIn words) words) (omega arith))
           ∙ ap (drop (n - r)) (h .holds)
@@ -205,7 +230,7 @@ module _ (words objects : List ℕ) (n : ℕ) (h : Kept words objects n) where
 
       pub kept-later : Kept words′ objects r
       kept-later =
-          let l : r ≤ n = s .behind in
+          let l : r ≤ n = s .fewer in
           let few : n ≤ 64 = h .few in
           let w : beginIn words + n ≤ 640 = h .inside .within in
           let low : 449 ≤ beginIn words = h .inside .low in
@@ -241,7 +266,7 @@ module _ (words objects : List ℕ) (n : ℕ) (h : Kept words objects n) where
 
       pub sound-later : (m : ℕ) → Sound m (queueIn words objects n) → Sound m (queueIn words′ objects r)
       sound-later m g =
-          let l : r ≤ n = s .behind in
+          let l : r ≤ n = s .fewer in
           let few : n ≤ 64 = h .few in
           (omega arith, rw used-later (sound-keep m (λ (x : Slot). leb (suc t) (time (pointIn x))) (used (queueIn words objects n)) (g .1)))
 
@@ -249,7 +274,7 @@ module _ (words objects : List ℕ) (n : ℕ) (h : Kept words objects n) where
       left-there =
           record {
             from = λ i g.
-                let l : r ≤ n = s .behind in
+                let l : r ≤ n = s .fewer in
                 let few : n ≤ 64 = h .few in
                 let many : length ps ≡ n = length-take-le n (placesIn words) (omega (arith, places-long words)) in
                 let k = kept-from (λ p. leb (suc t) (whenAt slot p)) ps i (omega (arith, counted)) in

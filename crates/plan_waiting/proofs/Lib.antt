@@ -4,6 +4,7 @@ pub mod Fitting
 pub mod Points
 pub mod Places
 pub mod LentPlaces
+pub mod Moving
 pub mod Sifting
 pub mod Keeping
 pub mod Entering

@@ -1,168 +1,160 @@
--- The listed places sifted: those that pass a test move to the front, in order, each by a change of places. Assumes nothing.
-use Prim.Native.Nat.{ℕ, _+_, _%_, _≤_, _<_}
-use mathlib.Core.Bool.{Bool, true, false}
-use mathlib.Core.List.{List, [], _∷_, _++_, append-nil}
-use mathlib.Core.Path.{_≡_, refl, sym, ap, _∙_}
-use native.Mathlib.Nat.{mod-lt, zero-lt-suc}
+-- The listed places sifted: those of the first keys are taken out, the last key's first. Assumes nothing.
+use Prim.Native.Nat.{ℕ, _+_, _≤_, _<_}
+use mathlib.Core.Bool.{Bool, true, false, not, cond}
+use mathlib.Core.List.{List, [], _∷_, _++_, map, map-append, append-nil}
+use mathlib.Core.Path.{_≡_, refl, sym, ap, ap₂, _∙_}
+use native.Mathlib.Numerals.{add-one}
 use native.Mathlib.Omega.{arith}
-use borrow.Author.Tests.{eqb-true, eqb-false}
-use lib.Dec.{eqb}
-use lib.ListN.{length, take, getD, set, length-set}
-use lib.Seq.{getD-set-same, getD-set-other}
+use borrow.Author.Tests.{not-true}
+use lib.ListN.{length, take, drop, getD, length-append, length-drop}
+use lib.Seq.{getD-take, getD-drop, getD-append-seam, take-suc, length-take-le}
 use Rattle.plan_meaning.specs.Lists.{keep}
 use Rattle.plan_meaning.proofs.Lists.{keep-append}
-use Rattle.plan_meaning.specs.Plan.{time}
-use Rattle.plan_meaning.specs.Stored.{pointIn}
-use Rattle.plan_meaning.specs.declared.Slot.{Slot}
-use Rattle.plan_waiting.specs.Lent.{slotIn, slotAt, whenAt, placesIn, Apart, Swapped, Sifted, TimedWords, TimedWord}
-use Rattle.plan_waiting.proofs.LentPlaces.{places-same, places-more, slot-same, timed-place}
+use Rattle.plan_ordering.specs.Keys.{keysIn}
+use Rattle.plan_waiting.specs.Lent.{placesIn, placeOf, placeAt, Apart, TakenOut, Going, Sifted}
+use Rattle.plan_waiting.proofs.LentPlaces.{places-long, place-there}
+use Rattle.plan_waiting.proofs.Moving.{moved-apart, closed-up}
 
--- ---- a change of places
+-- ---- the last that goes
 
-pub swap-places : (words : List ℕ) (i j : ℕ) → i < 64 → j < 64 → length words ≡ 640
-    → Swapped words (set (set words (384 + i) (getD words (384 + j) 0)) (384 + j) (getD words (384 + i) 0)) i j
-swap-places words i j h k long =
+no-places : (l : List ℕ) → map placeOf l ≡ [] → l ≡ []
+no-places [] e = refl
+no-places (x ∷ l) e = absurd (let z : _≡_ {A = ℕ} 0 1 = cc in let y : ⊥ = omega arith in y)
+
+-- x goes, its place is p, none that comes after it goes, and the places of those before it are m
+record Last (g : ℕ → Bool) (l m : List ℕ) (p : ℕ) : Type 0 where
+  before : List ℕ
+  x : ℕ
+  after : List ℕ
+  is : l ≡ before ++ x ∷ after
+  place : placeOf x ≡ p
+  goes : g x ≡ true
+  others : map placeOf (keep g before) ≡ m
+  none : keep g after ≡ []
+
+one-before : {g : ℕ → Bool} {l k : List ℕ} {p : ℕ} (y : ℕ) (m : List ℕ) (s : Last g l k p) → map placeOf (keep g (y ∷ s .before)) ≡ m → Last g (y ∷ l) m p
+one-before y m s e =
     record {
-      first = go (eqb i j) refl;
-      second = getD-set-same one (384 + j) (getD words (384 + i) 0) 0 (omega (arith, long′));
-      other = λ m a b.
-          getD-set-other one (384 + j) m (getD words (384 + i) 0) 0 b ∙ getD-set-other words (384 + i) m (getD words (384 + j) 0) 0 a;
-      long = length-set one (384 + j) (getD words (384 + i) 0) ∙ long′;
+      before = y ∷ s .before;
+      x = s .x;
+      after = s .after;
+      is = ap (λ (k : List ℕ). y ∷ k) (s .is);
+      place = s .place;
+      goes = s .goes;
+      others = e;
+      none = s .none;
     }
+
+last-one : (g : ℕ → Bool) (l m : List ℕ) (p : ℕ) → map placeOf (keep g l) ≡ m ++ p ∷ [] → Last g l m p
+last-one g [] m p e = absurd (let z = simp length-append at (ap length e) in let y : ⊥ = omega arith in y)
+last-one g (y ∷ l) m p e = go (g y) refl m e (λ k. last-one g l k p)
   where
-    one : List ℕ
-    one = set words (384 + i) (getD words (384 + j) 0)
-
-    long′ : length one ≡ 640
-    long′ = length-set words (384 + i) (getD words (384 + j) 0) ∙ long
-
-    go : (b : Bool) → eqb i j ≡ b → getD (set one (384 + j) (getD words (384 + i) 0)) (384 + i) 0 ≡ getD words (384 + j) 0
-    go true e =
-        let z : i ≡ j = eqb-true i j e in
-        rw z (getD-set-same (set words (384 + j) (getD words (384 + j) 0)) (384 + j) (getD words (384 + j) 0) 0 (omega (arith, rw z at long′)))
-    go false e =
-        let z : i ≡ j → ⊥ = eqb-false i j e in
-        getD-set-other one (384 + j) (384 + i) (getD words (384 + i) 0) 0 (λ y. z (omega arith))
-        ∙ getD-set-same words (384 + i) (getD words (384 + j) 0) 0 (omega arith)
-
-module _ {words words′ : List ℕ} {i j : ℕ} (h : i < 64) (k : j < 64) (s : Swapped words words′ i j) where
-  -- where a place was listed before
-  from-where : (a : ℕ) → a < 64 → (b : ℕ) × (b < 64) × (getD words′ (384 + a) 0 ≡ getD words (384 + b) 0) × ((a ≡ i → ⊥) → (a ≡ j → ⊥) → b ≡ a)
-      × (a ≡ i → b ≡ j) × (a ≡ j → b ≡ i)
-  from-where a l = go (eqb a i) (eqb a j) refl refl
-    where
-      go : (c d : Bool) → eqb a i ≡ c → eqb a j ≡ d
-          → (b : ℕ) × (b < 64) × (getD words′ (384 + a) 0 ≡ getD words (384 + b) 0) × ((a ≡ i → ⊥) → (a ≡ j → ⊥) → b ≡ a)
-          × (a ≡ i → b ≡ j) × (a ≡ j → b ≡ i)
-      go true d e f =
-          let z : a ≡ i = eqb-true a i e in
-          (j, k, rw z (s .first), λ n m. absurd (n z), λ y. refl, λ y. sym y ∙ z)
-      go false true e f =
-          let z : a ≡ j = eqb-true a j f in
-          let n : a ≡ i → ⊥ = eqb-false a i e in
-          (i, h, rw z (s .second), λ x m. absurd (m z), λ y. absurd (n y), λ y. refl)
-      go false false e f =
-          let n : a ≡ i → ⊥ = eqb-false a i e in
-          let m : a ≡ j → ⊥ = eqb-false a j f in
-          (a, l, s .other (384 + a) (λ y. n (omega arith)) (λ y. m (omega arith)), λ x y. refl, λ y. absurd (n y), λ y. absurd (m y))
-
-  swap-apart : Apart words → Apart words′
-  swap-apart apart a b la lb e =
-      let p = from-where a la in
-      let q = from-where b lb in
-      let same : p .0 ≡ q .0 = apart (p .0) (q .0) (p .1) (q .1) (ap (λ (x : ℕ). x % 64) (sym (p .2)) ∙ e ∙ ap (λ (x : ℕ). x % 64) (q .2)) in
-      go a b (p .0) (q .0) same (p .3) (q .3) (p .4) (q .4) (p .5) (q .5) (eqb a i) (eqb a j) refl refl (eqb b i) (eqb b j) refl refl
-    where
-      go : (a b c d : ℕ) → c ≡ d → ((a ≡ i → ⊥) → (a ≡ j → ⊥) → c ≡ a) → ((b ≡ i → ⊥) → (b ≡ j → ⊥) → d ≡ b)
-          → (a ≡ i → c ≡ j) → (b ≡ i → d ≡ j) → (a ≡ j → c ≡ i) → (b ≡ j → d ≡ i)
-          → (u v : Bool) → eqb a i ≡ u → eqb a j ≡ v → (x y : Bool) → eqb b i ≡ x → eqb b j ≡ y → a ≡ b
-      go a b c d e na nb ia ib ja jb true v eu ev true y ex ey = eqb-true a i eu ∙ sym (eqb-true b i ex)
-      go a b c d e na nb ia ib ja jb true v eu ev false true ex ey =
-          let p : a ≡ i = eqb-true a i eu in
-          let q : b ≡ j = eqb-true b j ey in
-          omega (arith, ia p, jb q)
-      go a b c d e na nb ia ib ja jb true v eu ev false false ex ey =
-          let p : a ≡ i = eqb-true a i eu in
-          let q : b ≡ j → ⊥ = eqb-false b j ey in
-          absurd (q (sym (nb (eqb-false b i ex) q) ∙ sym e ∙ ia p))
-      go a b c d e na nb ia ib ja jb false true eu ev true y ex ey =
-          let p : a ≡ j = eqb-true a j ev in
-          let q : b ≡ i = eqb-true b i ex in
-          omega (arith, ja p, ib q)
-      go a b c d e na nb ia ib ja jb false true eu ev false true ex ey = eqb-true a j ev ∙ sym (eqb-true b j ey)
-      go a b c d e na nb ia ib ja jb false true eu ev false false ex ey =
-          let p : a ≡ j = eqb-true a j ev in
-          let q : b ≡ i → ⊥ = eqb-false b i ex in
-          absurd (q (sym (nb q (eqb-false b j ey)) ∙ sym e ∙ ja p))
-      go a b c d e na nb ia ib ja jb false false eu ev true y ex ey =
-          let q : b ≡ i = eqb-true b i ex in
-          let p : a ≡ j → ⊥ = eqb-false a j ev in
-          absurd (p (sym (na (eqb-false a i eu) p) ∙ e ∙ ib q))
-      go a b c d e na nb ia ib ja jb false false eu ev false true ex ey =
-          let q : b ≡ j = eqb-true b j ey in
-          let p : a ≡ i → ⊥ = eqb-false a i eu in
-          absurd (p (sym (na p (eqb-false a j ev)) ∙ e ∙ jb q))
-      go a b c d e na nb ia ib ja jb false false eu ev false false ex ey =
-          sym (na (eqb-false a i eu) (eqb-false a j ev)) ∙ e ∙ nb (eqb-false b i ex) (eqb-false b j ey)
+    go : (u : Bool) → g y ≡ u → (m : List ℕ) → map placeOf (cond u (y ∷ keep g l) (keep g l)) ≡ m ++ p ∷ []
+        → ((k : List ℕ) → map placeOf (keep g l) ≡ k ++ p ∷ [] → Last g l k p) → Last g (y ∷ l) m p
+    go false h m e ih = one-before y m (ih m e) (rw h (ih m e .others))
+    go true h [] e ih =
+        record { before = []; x = y; after = l; is = refl; place = cc; goes = h; others = refl; none = no-places (keep g l) (cc) }
+    go true h (q ∷ m) e ih =
+        let rest : map placeOf (keep g l) ≡ m ++ p ∷ [] = cc in
+        let first : placeOf y ≡ q = cc in
+        one-before y (q ∷ m) (ih m rest) (rw h (ap₂ _∷_ first (ih m rest .others)))
 
 -- ---- the turns of the loop
 
-pub sift-none : (f : ℕ → Bool) (words : List ℕ) → Apart words → length words ≡ 640 → Sifted f words words 0 0
-sift-none f words a l =
+-- i are listed, and m of them go: those of the first keys
+pub record Sifting (f : ℕ → Bool) (words₀ words : List ℕ) (begin n m i : ℕ) : Type 0 where
+  pub stays : keep f (take i (placesIn words)) ≡ keep f (take n (placesIn words₀))
+  pub goes : map placeOf (keysIn words₀ begin m) ≡ map placeOf (keep (λ x. not (f x)) (take i (placesIn words)))
+  pub below : (k : ℕ) → k < 384 → getD words k 0 ≡ getD words₀ k 0
+  pub above : (k : ℕ) → 448 ≤ k → getD words k 0 ≡ getD words₀ k 0
+  pub apart : Apart words
+
+pub sift-none : (f : ℕ → Bool) (words : List ℕ) (begin n k : ℕ) → Apart words → Going f words begin n k → Sifting f words words begin n k n
+sift-none f words begin n k a h = record { stays = refl; goes = h; below = λ j g. refl; above = λ j g. refl; apart = a }
+
+module _ {f : ℕ → Bool} {words₀ words : List ℕ} {begin n m₁ i₁ : ℕ} (s : Sifting f words₀ words begin n m₁ i₁) (m i : ℕ) (em : m₁ ≡ m + 1)
+    (ei : i₁ ≡ i + 1) (few : i < 64) (low : 449 ≤ begin) (room : begin + m < length words₀) {words′ : List ℕ} {p : ℕ}
+    (ep : p ≡ placeOf (getD words (begin + m) 0)) (out : TakenOut words words′ i p) where
+  abbrev goes : ℕ → Bool
+  goes x = not (f x)
+
+  abbrev places : List ℕ
+  places = take (i + 1) (placesIn words)
+
+  abbrev keys : List ℕ
+  keys = keysIn words₀ begin m
+
+  more-keys : keysIn words₀ begin (m + 1) ≡ keys ++ getD words₀ (begin + m) 0 ∷ []
+  more-keys =
+      rw (add-one, ← getD-drop begin words₀ m 0) (take-suc (drop begin words₀) m 0 (simp length-drop (omega arith)))
+
+  one : Last goes places (map placeOf keys) p
+  one =
+      last-one goes places (map placeOf keys) p
+      (sym (rw (em, ei) at (s .goes)) ∙ ap (map placeOf) more-keys ∙ map-append placeOf keys (getD words₀ (begin + m) 0 ∷ [])
+      ∙ ap (λ (q : ℕ). map placeOf keys ++ q ∷ []) (sym (ep ∙ ap placeOf (s .above (begin + m) (omega arith)))))
+
+  abbrev j : ℕ
+  j = length (one .before)
+
+  inside : j ≤ i
+  inside =
+      let l : length places ≡ i + 1 = length-take-le (i + 1) (placesIn words) (omega (arith, places-long words)) in
+      let e : length places ≡ j + length (one .x ∷ one .after) = ap length (one .is) ∙ length-append (one .before) (one .x ∷ one .after) in
+      omega arith
+
+  there : placeAt words j ≡ p
+  there =
+      ap placeOf
+      (sym (getD-take (i + 1) (placesIn words) j 0 (omega (arith, inside)) ∙ place-there words j (omega (arith, inside)))
+      ∙ ap (λ (l : List ℕ). getD l j 0) (one .is) ∙ getD-append-seam (one .before) (one .x) (one .after) 0)
+      ∙ one .place
+
+  closed : take i (placesIn words′) ≡ one .before ++ one .after
+  closed =
+      let g = out .moved j inside there in
+      let l : g .0 ≤ i = g .2 .inside in
+      closed-up few (g .2) (one .before) (one .x) (one .after) (one .is)
+      (s .apart (g .0) j (omega arith) (omega (arith, inside)) (g .1 ∙ sym there))
+
+  pub sift-on : Sifting f words₀ words′ begin n m i
+  sift-on =
+      let stay : f (one .x) ≡ false = not-true (f (one .x)) (one .goes) in
+      record {
+        stays =
+            ap (keep f) closed ∙ keep-append f (one .before) (one .after)
+            ∙ sym (ap (keep f) (one .is) ∙ keep-append f (one .before) (one .x ∷ one .after)
+            ∙ ap (λ (u : Bool). keep f (one .before) ++ cond u (one .x ∷ keep f (one .after)) (keep f (one .after))) stay)
+            ∙ rw ei at (s .stays);
+        goes =
+            sym (one .others)
+            ∙ ap (map placeOf)
+            (sym (ap (keep goes) closed ∙ keep-append goes (one .before) (one .after) ∙ ap (λ (l : List ℕ). keep goes (one .before) ++ l) (one .none)
+            ∙ append-nil (keep goes (one .before))));
+        below = λ k g. out .below k g ∙ s .below k g;
+        above = λ k g. out .above k (omega arith) ∙ s .above k g;
+        apart = moved-apart few (out .moved j inside there .2) (out .above) (s .apart);
+      }
+
+-- ---- and the end
+
+stay-all : (f : ℕ → Bool) (l : List ℕ) → keep (λ x. not (f x)) l ≡ [] → keep f l ≡ l
+stay-all f [] e = refl
+stay-all f (x ∷ l) e = go (f x) e (stay-all f l)
+  where
+    go : (u : Bool) → cond (not u) (x ∷ keep (λ y. not (f y)) l) (keep (λ y. not (f y)) l) ≡ [] → (keep (λ y. not (f y)) l ≡ [] → keep f l ≡ l)
+        → cond u (x ∷ keep f l) (keep f l) ≡ x ∷ l
+    go true e ih = ap (λ (k : List ℕ). x ∷ k) (ih e)
+    go false e ih = absurd (let z : _≡_ {A = ℕ} 0 1 = cc in let y : ⊥ = omega arith in y)
+
+pub sift-end : {f : ℕ → Bool} {words₀ words : List ℕ} {begin n m i : ℕ} → Sifting f words₀ words begin n m i → m ≡ 0 → i ≤ n → length words ≡ 640
+    → Sifted f words₀ words n i
+sift-end {f} {words₀} {words} {begin} {n} {m} {i} s z h l =
     record {
-      behind = omega arith;
-      done = refl;
-      rest = λ k h. refl;
-      below = λ k h. refl;
-      above = λ k h. refl;
-      apart = a;
+      fewer = h;
+      done = sym (stay-all f (take i (placesIn words)) (no-places (keep (λ x. not (f x)) (take i (placesIn words))) (sym (rw z at (s .goes))))) ∙ s .stays;
+      below = s .below;
+      above = s .above;
+      apart = s .apart;
       long = l;
     }
-
-module _ {f : ℕ → Bool} {words₀ words : List ℕ} {i j : ℕ} (s : Sifted f words₀ words i j) (h : i < 64) where
-  next-kept : keep f (take (i + 1) (placesIn words₀)) ≡ take j (placesIn words) ++ keep f (getD words (384 + i) 0 ∷ [])
-  next-kept = rw (places-more words₀ i h, s .rest i (omega arith), s .done) (keep-append f (take i (placesIn words₀)) (getD words₀ (384 + i) 0 ∷ []))
-
-  pub sift-no : f (getD words (384 + i) 0) ≡ false → Sifted f words₀ words (i + 1) j
-  sift-no t =
-      record {
-        behind = omega (arith, s .behind);
-        done = sym (append-nil (take j (placesIn words))) ∙ sym (rw t at next-kept);
-        rest = λ k g. s .rest k (omega arith);
-        below = s .below;
-        above = s .above;
-        apart = s .apart;
-        long = s .long;
-      }
-
-  pub sift-yes : (words′ : List ℕ) → Swapped words words′ i j → f (getD words (384 + i) 0) ≡ true → Sifted f words₀ words′ (i + 1) (j + 1)
-  sift-yes words′ w t =
-      let b : j ≤ i = s .behind in
-      let few : j < 64 = omega arith in
-      let same = places-same words words′ j (omega arith) (λ k g. w .other (384 + k) (λ e. omega arith) (λ e. omega arith)) in
-      record {
-        behind = omega arith;
-        done =
-            places-more words′ j few ∙ ap (λ (l : List ℕ). l ++ getD words′ (384 + j) 0 ∷ []) same
-            ∙ ap (λ (p : ℕ). take j (placesIn words) ++ p ∷ []) (w .second) ∙ sym (rw t at next-kept);
-        rest = λ k g. w .other (384 + k) (λ e. omega arith) (λ e. omega arith) ∙ s .rest k (omega arith);
-        below = λ k g. w .other k (λ e. omega arith) (λ e. omega arith) ∙ s .below k g;
-        above = λ k g. w .other k (λ e. omega arith) (λ e. omega arith) ∙ s .above k g;
-        apart = swap-apart h few w (s .apart);
-        long = w .long;
-      }
-
--- ---- the place that is next
-
-module _ {f : ℕ → Bool} {words₀ words : List ℕ} {i j p : ℕ} (s : Sifted f words₀ words i j) (ep : p ≡ getD words (384 + i) 0 % 64) where
-  next-slot : (o : List ℕ) → slotIn words o p ≡ slotAt words₀ o (getD words (384 + i) 0)
-  next-slot o =
-      ap (slotIn words o) ep ∙ slot-same words₀ words o (getD words (384 + i) 0 % 64) (mod-lt (getD words (384 + i) 0) (zero-lt-suc 63)) (s .below)
-
-  pub next-timed : (n : ℕ) → TimedWords words₀ n → i < n → TimedWord words p
-  next-timed n t h =
-      let g = timed-place words₀ n i t h in
-      (g .0, rw (next-slot (g .0), s .rest i (omega arith)) (g .1))
-
-  pub next-time : (o : List ℕ) {r : ℕ} → r ≡ time (pointIn (slotIn words o p)) → r ≡ whenAt (slotAt words₀ o) (getD words (384 + i) 0)
-  next-time o e = e ∙ ap (λ (x : Slot). time (pointIn x)) (next-slot o)

@@ -2,7 +2,7 @@
 -- on the places, first those in use as they came, then the free ones, at 448 where the keys begin, and the keys in the order of their times. Four objects
 -- for each place. Any numbers say some points.
 use Prim.Native.Nat.{ℕ, zero, suc, _+_, _*_, _%_, _≤_, _<_}
-use mathlib.Core.Bool.{Bool, cond}
+use mathlib.Core.Bool.{Bool, cond, not}
 use mathlib.Core.List.{List, [], _∷_, map}
 use mathlib.Core.Path.{_≡_}
 use lib.Dec.{eqb}
@@ -105,22 +105,32 @@ pub record Put (words objects words′ objects′ : List ℕ) (p : ℕ) (s : Slo
   pub long : length words′ ≡ 640
   pub wide : length objects′ ≡ 256
 
--- the places listed as numbers i and j change places
-pub record Swapped (words words′ : List ℕ) (i j : ℕ) : Type 0 where
-  pub first : getD words′ (384 + i) 0 ≡ getD words (384 + j) 0
-  pub second : getD words′ (384 + j) 0 ≡ getD words (384 + i) 0
-  pub other : (k : ℕ) → (k ≡ 384 + i → ⊥) → (k ≡ 384 + j → ⊥) → getD words′ k 0 ≡ getD words k 0
-  pub long : length words′ ≡ 640
+-- number i of the first n + 1 listed places goes after the others, which close up
+pub record Moved (words words′ : List ℕ) (n i : ℕ) : Type 0 where
+  pub inside : i ≤ n
+  pub before : (a : ℕ) → a < i → getD words′ (384 + a) 0 ≡ getD words (384 + a) 0
+  pub after : (a : ℕ) → i ≤ a → a < n → getD words′ (384 + a) 0 ≡ getD words (384 + (a + 1)) 0
+  pub last : placeAt words′ n ≡ placeAt words i
 
--- the first i of the listed places are sifted: those that pass are the first j then; those from i on are as they were, and so is all else
-pub record Sifted (f : ℕ → Bool) (words₀ words : List ℕ) (i j : ℕ) : Type 0 where
-  pub behind : j ≤ i
-  pub done : take j (placesIn words) ≡ keep f (take i (placesIn words₀))
-  pub rest : (k : ℕ) → i ≤ k → getD words (384 + k) 0 ≡ getD words₀ (384 + k) 0
-  pub below : (k : ℕ) → k < 384 → getD words k 0 ≡ getD words₀ k 0
-  pub above : (k : ℕ) → 448 ≤ k → getD words k 0 ≡ getD words₀ k 0
-  pub apart : Apart words
-  pub long : length words ≡ 640
+-- so does place p, if it is one of them
+pub record TakenOut (words words′ : List ℕ) (n p : ℕ) : Type 0 where
+  pub below : (k : ℕ) → k < 384 → getD words′ k 0 ≡ getD words k 0
+  pub above : (k : ℕ) → 384 + n < k → getD words′ k 0 ≡ getD words k 0
+  pub long : length words′ ≡ 640
+  pub moved : (j : ℕ) → j ≤ n → placeAt words j ≡ p → (i : ℕ) × (placeAt words i ≡ p) × Moved words words′ n i
+
+-- the first k keys are those of the first n listed places that do not pass
+abbrev pub Going : (ℕ → Bool) → List ℕ → ℕ → ℕ → ℕ → Type 0
+Going f words begin n k = map placeOf (keysIn words begin k) ≡ map placeOf (keep (λ x. not (f x)) (take n (placesIn words)))
+
+-- those of the first n listed places that pass are the first r then, in order; what is not listed is as it was
+pub record Sifted (f : ℕ → Bool) (words words′ : List ℕ) (n r : ℕ) : Type 0 where
+  pub fewer : r ≤ n
+  pub done : take r (placesIn words′) ≡ keep f (take n (placesIn words))
+  pub below : (k : ℕ) → k < 384 → getD words′ k 0 ≡ getD words k 0
+  pub above : (k : ℕ) → 448 ≤ k → getD words′ k 0 ≡ getD words k 0
+  pub apart : Apart words′
+  pub long : length words′ ≡ 640
 
 -- each of the r points that are left stands where it stood
 pub record Left (words objects : List ℕ) (n : ℕ) (words′ : List ℕ) (r : ℕ) : Type 0 where

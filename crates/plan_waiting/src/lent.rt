@@ -4,17 +4,17 @@ use crate::Queue;
 use plan_meaning::Slot;
 use plan_meaning::Step;
 ghost use mathlib.Core.Path.{_≡_};
-ghost use mathlib.Core.Bool.{true, _&&_};
+ghost use mathlib.Core.Bool.{Bool, true, _&&_};
 ghost use mathlib.Core.List.{List, [], _∷_, _++_};
 ghost use Prim.Native.Nat.{ℕ, suc, _+_, _%_, _≤_, _<_};
-ghost use lib.Dec.{leb, ltb};
+ghost use lib.Dec.{ltb};
 ghost use lib.ListN.{length, getD};
 ghost use Rattle.plan_meaning.specs.Plan.{time, pointsOf, from, latest};
 ghost use Rattle.plan_meaning.specs.Machine as Machine;
 ghost use Rattle.plan_meaning.specs.Stored.{stepIn, pointIn};
 ghost use Rattle.plan_ordering.specs.Keys.{Inside};
 ghost use Rattle.plan_waiting.specs.Waiting.{used, waiting, queueOf, soundStep, Sound, Timed, TimedStep};
-ghost use Rattle.plan_waiting.specs.Lent.{whenIn, slotIn, slotAt, queueIn, beginIn, whenAt, placeAt, Apart, Kept, Due, Put, Swapped, Sifted};
+ghost use Rattle.plan_waiting.specs.Lent.{whenIn, slotIn, queueIn, beginIn, placeAt, Apart, Kept, Due, Put, TakenOut, Going, Sifted};
 ghost use Rattle.plan_waiting.specs.Lent.{Left, Entered, Sized, TimedWords, TimedWord};
 
 // When the point at place p happens.
@@ -179,32 +179,35 @@ fn put(words: &mut [usize], objects: &mut [u8], p: usize, s: Slot)
     objects[j + 3] = x.d;
 }
 
-// The places listed as numbers i and j change places.
-fn swap(words: &mut [usize; 640], i: usize, j: usize)
-    requires { ⌜ (i < 64) × (j < 64) × (length (now words) ≡ 640) ⌝ }
-    ensures { λ _. ⌜ Swapped (now (words .entry)) (now (words .exit)) i j ⌝ }
+// Of the first n + 1 in the list place p goes after the others, which close up: each moves down by one, the last first, until p is met.
+fn take_out(words: &mut [usize; 640], n: usize, p: usize)
+    requires { ⌜ (n < 64) × (p < 64) × (length (now words) ≡ 640) ⌝ }
+    ensures { λ _. ⌜ TakenOut (now (words .entry)) (now (words .exit)) n p ⌝ }
 {
-    let p = words[384 + i];
-    words[384 + i] = words[384 + j];
-    words[384 + j] = p;
+    let mut carried = p;
+    let mut i = n + 1;
+    while 0 < i {
+        i -= 1;
+        let x = words[384 + i];
+        words[384 + i] = carried;
+        if x % 64 == p {
+            return;
+        }
+        carried = x;
+    }
 }
 
-// Those of the n points that are after the time t to the front of the list, in order: how many. The places of the others are free.
-fn sift(words: &mut [usize; 640], n: usize, t: usize) -> usize
-    requires { ⌜ TimedWords (now words) n × Apart (now words) × (length (now words) ≡ 640) ⌝ }
-    ensures { λ r. ⌜ ((o : List ℕ)
-        → Sifted (λ p. leb (suc t) (whenAt (slotAt (now (words .entry)) o) p)) (now (words .entry)) (now (words .exit)) n r) ⌝ }
+// The places of the first k keys go after the r others in the list. That of the last key goes first: where all go, each is found at once.
+fn take_due(words: &mut [usize; 640], begin: usize, r: usize, k: usize)
+    requires { ⌜ (r + k ≤ 64) × Apart (now words) × Inside (now words) begin k ⌝ }
+    ensures { λ _. ⌜ ((f : ℕ → Bool) → Going f (now (words .entry)) begin (r + k) k → Sifted f (now (words .entry)) (now (words .exit)) (r + k) r) ⌝ }
 {
-    let mut i = 0;
-    let mut j = 0;
-    while i < n {
-        if t < time_at(words, place_at(words, i)) {
-            swap(words, i, j);
-            j += 1;
-        }
-        i += 1;
+    let mut m = k;
+    while 0 < m {
+        m -= 1;
+        let p = words[begin + m] % 64;
+        take_out(words, r + m, p);
     }
-    j
 }
 
 // The points of the soonest time t are taken out: how many are left.
@@ -215,9 +218,11 @@ pub fn later(words: &mut [usize; 640], n: usize, t: usize) -> usize
         × ((m : ℕ) → Sound m (queueIn (now (words .entry)) o n) → Sound m (queueIn (now (words .exit)) o r))
         × Left (now (words .entry)) o n (now (words .exit)) r) ⌝ }
 {
-    let r = sift(words, n, t);
-    words[448] = words[448] + (n - r);
-    r
+    let begin = words[448];
+    let k = plan_ordering::front_of(words, begin, n, t);
+    take_due(words, begin, n - k, k);
+    words[448] = begin + k;
+    n - k
 }
 
 // A point more, in a free place.
