@@ -23,7 +23,7 @@ use Rattle.happening_meetings.specs.Accesses.{Access, factCell, numberCe
 use Rattle.happening_meetings.specs.Accesses.{ruleAccesses, effectAccesses, effectsAccesses, allAccesses, pointAccesses, somePair}
 use Rattle.happening_meetings.specs.Marks.{noMarks, markAll, hitAny, markEach, scan, wipeEach, Went}
 use Rattle.happening_meetings.specs.Points.{ruleIn, placedAccesses, accessesIn}
-use Rattle.happening_meetings.proofs.Marking.{Inside, InsideAll, or-assoc, or-false, scanned, all-wiped}
+use Rattle.happening_meetings.proofs.Marking.{Inside, InsideAll, or-assoc, or-false, none-hit, scanned, all-wiped}
 use Rattle.happening_meetings.proofs.Going.{went-both, went-same, held, marked, wiped}
 
 -- ---- every access is at a cell
@@ -153,10 +153,6 @@ module _ (rows points objects : List ℕ) (n j : ℕ) where
   over h = ap (map (pointAccesses summed)) (points-end h)
 
   module _ (h : n ≤ j) where
-    pub scan-end : (l : List ℕ) (b : Bool) → b ≡ (b || scan l rest)
-    unfolding scan
-    scan-end l b = rw (over h) (sym (or-false b))
-
     pub mark-end : (l : List ℕ) → l ≡ markEach l rest
     unfolding markEach
     mark-end l = rw (over h)
@@ -171,25 +167,6 @@ module _ (rows points objects : List ℕ) (n j : ℕ) where
     wipe-turn w =
         ap (λ (k : List ℕ). wipeEach k later) (wiped l here (went-same 2 l (placed-point rows points objects j ep) w)) ∙ sym (ap (wipeEach l) (step h))
 
-    module _ {a b : Bool} {k m : List ℕ} (wa : Went 0 l (placedAccesses rows (fourAt objects j) p) a k)
-        (wb : Went 1 k (placedAccesses rows (fourAt objects j) p) b m) where
-      held-here : (a ≡ hitAny l here) × (k ≡ l)
-      held-here = held l here (went-same 0 l (placed-point rows points objects j ep) wa)
-
-      marked-here : m ≡ markAll l here
-      marked-here = marked k here (went-same 1 k (placed-point rows points objects j ep) wb) ∙ ap (λ (i : List ℕ). markAll i here) (held-here .1)
-
-      pub mark-turn : markEach m later ≡ markEach l rest
-      unfolding markEach
-      mark-turn = ap (λ (i : List ℕ). markEach i later) marked-here ∙ sym (ap (markEach l) (step h))
-
-      pub scan-turn : (c : Bool) {d : Bool} → d ≡ (c || a) → (d || scan m later) ≡ (c || scan l rest)
-      unfolding scan
-      scan-turn c {d} q =
-          ap₂ (λ (x : Bool) (i : List ℕ). x || scan i later) (q ∙ ap (λ (x : Bool). c || x) (held-here .0)) marked-here
-          ∙ or-assoc c (hitAny l here) (scan (markAll l here) later)
-          ∙ ap (λ (x : Bool). c || x) (sym (ap (scan l) (step h)))
-
 module _ (rows points objects : List ℕ) (n : ℕ) where
   pub points-all : pointsIn rows points objects (n - 0) 0 ≡ pointsIn rows points objects n 0
   points-all = let e : n - 0 ≡ n = omega arith in rw e
@@ -197,13 +174,53 @@ module _ (rows points objects : List ℕ) (n : ℕ) where
   pub accesses-all : accessesIn rows points objects (n - 0) 0 ≡ accessesIn rows points objects n 0
   accesses-all = ap (map (pointAccesses summed)) points-all
 
--- ---- all points, marked and wiped
+-- ---- all points, held, marked and wiped
 
-pub pairs-scanned : (ps : List Point) {l m n : List ℕ} {b : Bool} → l ≡ noMarks → b ≡ scan l (map (pointAccesses summed) ps)
-    → m ≡ markEach l (map (pointAccesses summed) ps) → n ≡ wipeEach m (map (pointAccesses summed) ps)
-    → (b ≡ somePair (map (pointAccesses summed) ps)) × (n ≡ noMarks)
-pairs-scanned ps z eb em en =
-    let xs = map (pointAccesses summed) ps in (
-      eb ∙ ap (λ (k : List ℕ). scan k xs) z ∙ scanned xs (points-inside summed ps),
-      en ∙ ap (λ (k : List ℕ). wipeEach k xs) (em ∙ ap (λ (k : List ℕ). markEach k xs) z) ∙ all-wiped xs,
+module _ (rows points objects : List ℕ) (last : ℕ) where
+  -- what is left of a scan: point j is held and not marked, those after it are neither
+  abbrev pub ahead : ℕ → List ℕ → Bool
+  ahead j l = scan (markAll l (here rows points objects (last + 1) j)) (later rows points objects (last + 1) j)
+
+  pub scan-start : {l : List ℕ} → l ≡ noMarks → ahead 0 l ≡ scan noMarks (accessesIn rows points objects (last + 1) 0)
+  unfolding scan
+  scan-start z =
+      ap (ahead 0) z
+      ∙ sym (ap (λ (b : Bool). b || ahead 0 noMarks) (none-hit (here rows points objects (last + 1) 0)))
+      ∙ ap (scan noMarks) (sym (step rows points objects (last + 1) 0 (omega arith)) ∙ accesses-all rows points objects (last + 1))
+
+  pub scan-end : (j : ℕ) → last ≤ j → (l : List ℕ) (b : Bool) → b ≡ (b || ahead j l)
+  unfolding scan
+  scan-end j h l b = rw (over rows points objects (last + 1) (j + 1) (omega arith)) (sym (or-false b))
+
+  module _ (j : ℕ) (h : j < last) {p q : Placed} (ep : p ≡ placedIn rows points j) (eq : q ≡ placedIn rows points (j + 1)) {l m k : List ℕ} {a b : Bool}
+      (w : Went 1 l (placedAccesses rows (fourAt objects j) p) b m) (v : Went 0 m (placedAccesses rows (fourAt objects (j + 1)) q) a k) where
+    marked-here : m ≡ markAll l (here rows points objects last j)
+    marked-here = marked l (here rows points objects last j) (went-same 1 l (placed-point rows points objects j ep) w)
+
+    held-next : (a ≡ hitAny m (here rows points objects last (j + 1))) × (k ≡ m)
+    held-next = held m (here rows points objects last (j + 1)) (went-same 0 m (placed-point rows points objects (j + 1) eq) v)
+
+    pub mark-turn : markEach k (later rows points objects last j) ≡ markEach l (rest rows points objects last j)
+    unfolding markEach
+    mark-turn =
+        ap (λ (i : List ℕ). markEach i (later rows points objects last j)) (held-next .1 ∙ marked-here)
+        ∙ sym (ap (markEach l) (step rows points objects last j h))
+
+    pub scan-turn : (c : Bool) {d : Bool} → d ≡ (c || a) → (d || ahead (j + 1) k) ≡ (c || ahead j l)
+    unfolding scan
+    scan-turn c e =
+        ap₂ (λ (x : Bool) (i : List ℕ). x || ahead (j + 1) i) (e ∙ ap (λ (x : Bool). c || x) (held-next .0)) (held-next .1)
+        ∙ or-assoc c (hitAny m (here rows points objects last (j + 1))) (ahead (j + 1) m)
+        ∙ ap₂ (λ (i : List ℕ) (xs : List (List Access)). c || scan i xs) marked-here (sym (step rows points objects (last + 1) (j + 1) (omega arith)))
+
+pub pairs-scanned : (rows points objects : List ℕ) (n : ℕ) → 0 < n → {m k : List ℕ} {b : Bool}
+    → b ≡ scan noMarks (accessesIn rows points objects ((n - 1) + 1) 0) → m ≡ markEach noMarks (accessesIn rows points objects (n - 1) 0)
+    → k ≡ wipeEach m (accessesIn rows points objects (n - 1) 0) → (b ≡ somePair (accessesIn rows points objects n 0)) × (k ≡ noMarks)
+pairs-scanned rows points objects n h eb em ek =
+    let e : (n - 1) + 1 ≡ n = omega arith in
+    let xs = accessesIn rows points objects (n - 1) 0 in (
+      eb
+          ∙ ap (λ (i : ℕ). scan noMarks (accessesIn rows points objects i 0)) e
+          ∙ scanned (accessesIn rows points objects n 0) (points-inside summed (pointsIn rows points objects n 0)),
+      ek ∙ ap (λ (i : List ℕ). wipeEach i xs) em ∙ all-wiped xs,
     )

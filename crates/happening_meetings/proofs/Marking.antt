@@ -202,7 +202,7 @@ nothing-at x =
     (λ h. List·getD-eq-default noMarks 0 {n = x} (rw (length-replicate {A = ℕ} 17408 0) (ltb-false x 17408 h)))
     (decide (ltb x 17408))
 
-none-hit : (p : List Access) → hitAny noMarks p ≡ false
+pub none-hit : (p : List Access) → hitAny noMarks p ≡ false
 unfolding hitAny hitBy
 none-hit [] = refl
 none-hit (a ∷ p) = simp (nothing-at (a .index), none-hit p)

@@ -13,30 +13,32 @@ ghost use Rattle.happening_meetings.specs.Accesses.{somePair};
 ghost use Rattle.happening_meetings.specs.Marks.{noMarks, scan, markEach, wipeEach};
 ghost use Rattle.happening_meetings.specs.Points.{accessesIn};
 
-// Each point against the marks of those before it: whether one meets a mark. All points are marked.
+// Each point but the last is marked, and the one after it held against the marks so far: whether one meets a mark.
 fn scan_all<'a>(
     rows: &'a [u8],
     points: &'a [usize; 256],
     objects: &'a [u8; 256],
-    n: usize,
+    last: usize,
     marks: &mut [u8; 17408],
 ) -> bool
-    requires { ⌜ (n ≤ 64) × (385 ≤ length (now rows)) ⌝ }
-    ensures { λ r. ⌜ (r ≡ scan (now (marks .entry)) (accessesIn (now (rows .entry)) (now (points .entry)) (now (objects .entry)) n 0))
-        × (now (marks .exit) ≡ markEach (now (marks .entry)) (accessesIn (now (rows .entry)) (now (points .entry)) (now (objects .entry)) n 0)) ⌝ }
+    requires { ⌜ (last < 64) × (385 ≤ length (now rows)) × (now marks ≡ noMarks) ⌝ }
+    ensures { λ r. ⌜ (r ≡ scan noMarks (accessesIn (now (rows .entry)) (now (points .entry)) (now (objects .entry)) (last + 1) 0))
+        × (now (marks .exit) ≡ markEach noMarks (accessesIn (now (rows .entry)) (now (points .entry)) (now (objects .entry)) last 0)) ⌝ }
 {
     let mut found = false;
     let mut j = 0;
-    while j < n {
+    while j < last {
         let p = happening_placing::point_at(rows, points, j);
-        let h = points::walk_point(rows, p, objects, j, marks, 0);
         points::walk_point(rows, p, objects, j, marks, 1);
-        found = walks::either(found, h);
         j += 1;
+        let q = happening_placing::point_at(rows, points, j);
+        let h = points::walk_point(rows, q, objects, j, marks, 0);
+        found = walks::either(found, h);
     }
     found
 }
 
+// The marks of the first n points are taken away.
 fn wipe_all<'a>(
     rows: &'a [u8],
     points: &'a [usize; 256],
@@ -63,11 +65,12 @@ fn some_pair<'a>(
     n: usize,
     marks: &mut [u8; 17408],
 ) -> bool
-    requires { ⌜ (n ≤ 64) × (385 ≤ length (now rows)) × (now marks ≡ noMarks) ⌝ }
+    requires { ⌜ (0 < n) × (n ≤ 64) × (385 ≤ length (now rows)) × (now marks ≡ noMarks) ⌝ }
     ensures { λ r. ⌜ (r ≡ somePair (accessesIn (now (rows .entry)) (now (points .entry)) (now (objects .entry)) n 0)) × (now (marks .exit) ≡ noMarks) ⌝ }
 {
-    let r = scan_all(rows, points, objects, n, marks);
-    wipe_all(rows, points, objects, n, marks);
+    let last = n - 1;
+    let r = scan_all(rows, points, objects, last, marks);
+    wipe_all(rows, points, objects, last, marks);
     r
 }
 
