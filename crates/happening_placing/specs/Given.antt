@@ -1,5 +1,5 @@
 -- The points given to a call: four numbers each (line, action, time in the action: 1 for its start, else its end; duration) and four objects. Any numbers
--- give some points. And what an instant does with them.
+-- give some points. And a line under way, by its numbers.
 use Prim.Native.Nat.{ℕ, zero, suc, _+_, _*_, _%_}
 use mathlib.Core.List.{List, [], _∷_}
 use mathlib.Core.Bool.{Bool, true, false, cond}
@@ -8,9 +8,8 @@ use lib.ListN.{length, getD}
 use Rattle.domain_meaning.specs.Tables.{Entry, entry}
 use Rattle.domain_meaning.specs.Actions.{When, start, end}
 use Rattle.domain_prepared_meaning.specs.Decode.{placeIn, actionAt}
-use Rattle.happening_meaning.specs.State.{State, Grounds}
-use Rattle.happening_meaning.specs.Happening.{Step, stepOf, Point, unless, Happened, happened, happening, spanning}
-use Rattle.happening_forms.specs.Summed.{summed, fourAt}
+use Rattle.happening_meaning.specs.Happening.{Step, stepOf, Point}
+use Rattle.happening_forms.specs.Summed.{fourAt}
 use Rattle.happening_placing.specs.declared.Placed.{Placed}
 
 -- no name is needed of an action that happens
@@ -25,7 +24,7 @@ module _ (rows points : List ℕ) where
   abbrev pub starts : ℕ → Bool
   starts j = eqb (getD points (4 * j + 2) 0) 1
 
-  -- where what point j needs stands: its action's duration rule, single conditions and effects for its time, its single conditions over all
+  -- where what point j needs stands: its action's duration rule, single conditions and effects for its time
   unfoldable pub placedIn : ℕ → Placed
   placedIn j =
       record {
@@ -34,7 +33,6 @@ module _ (rows points : List ℕ) where
         duration = getD points (4 * j + 3) 0;
         rule = placeIn rows (actionIn j) 0;
         tests = placeIn rows (actionIn j) (cond (starts j) 1 3);
-        during = placeIn rows (actionIn j) 2;
         effects = placeIn rows (actionIn j) (cond (starts j) 4 5);
       }
 
@@ -50,15 +48,6 @@ module _ (rows points : List ℕ) where
     pointsIn zero j = []
     pointsIn (suc n) j = pointIn j ∷ pointsIn n (j + 1)
 
-    -- the same as lines under way
-    unfoldable pub stepsIn : ℕ → ℕ → List Step
-    stepsIn zero j = []
-    stepsIn (suc n) j = stepIn j ∷ stepsIn n (j + 1)
-
--- ---- an instant: steps 1 to 4, then step 5 "In the new state"; its state is the one to be handed back, whichever step fails
-
-abbrev pub thenSpanning : Grounds → List Step → Happened → Happened
-thenSpanning g xs h = happened (unless (h .outcome) (spanning g (h .state) xs)) (h .state)
-
-unfoldable pub instantOf : Grounds → State → List Point → List Step → Happened
-instantOf g s ps xs = thenSpanning g xs (happening g s ps)
+-- the step of a line, by its action's number, its place among the objects, and how long it lasts
+abbrev pub lineAt : List ℕ → List ℕ → ℕ → ℕ → ℕ → ℕ → Step
+lineAt rows objects k line action d = stepOf line (actionAt rows (action % 32) nameless) (fourAt objects k) d

@@ -1,20 +1,19 @@
-// The points given to a call, and where what each needs stands in the rows.
+// The points given to a call, and where what each needs stands in the rows; and where a line under way finds its conditions.
 ghost use mathlib.Core.Path.{_≡_};
 ghost use mathlib.Core.Bool.{cond};
-ghost use Prim.Native.Nat.{_+_, _*_, _≤_, _<_};
+ghost use Prim.Native.Nat.{_+_, _*_, _%_, _≤_, _<_};
 ghost use lib.ListN.{length};
 ghost use Rattle.domain_prepared_meaning.specs.Decode.{placeIn};
 ghost use Rattle.happening_placing.specs.Given.{placedIn};
 
-// A point: its line, whether it is its step's start, how long the step lasts, and where its action's duration rule, its single conditions and effects for
-// this time, and its single conditions over all stand.
+// A point: its line, whether it is its step's start, how long the step lasts, and where its action's duration rule, and its single conditions and effects
+// for this time stand.
 pub struct Placed {
     pub line: usize,
     pub begins: bool,
     pub duration: usize,
     pub rule: usize,
     pub tests: usize,
-    pub during: usize,
     pub effects: usize,
 }
 
@@ -24,6 +23,14 @@ fn place(rows: &[u8], action: usize, j: usize) -> usize
     ensures { λ r. ⌜ r ≡ placeIn (now (rows .entry)) action j ⌝ }
 {
     happening_forms::word(rows, 1 + 12 * action + 2 * j)
+}
+
+// Where the single conditions over all of one of 32 actions stand.
+pub fn during(rows: &[u8], action: usize) -> usize
+    requires { ⌜ 385 ≤ length (now rows) ⌝ }
+    ensures { λ r. ⌜ r ≡ placeIn (now (rows .entry)) (action % 32) 2 ⌝ }
+{
+    place(rows, action % 32, 2)
 }
 
 // Which list: the one for a start, or the one for an end.
@@ -53,7 +60,6 @@ pub fn point_at<'a>(rows: &'a [u8], points: &'a [usize; 256], j: usize) -> Place
         duration: points[i + 3],
         rule: place(rows, action, 0),
         tests: place(rows, action, tests),
-        during: place(rows, action, 2),
         effects: place(rows, action, effects),
     }
 }

@@ -5,3 +5,4 @@ pub mod Applied
 pub mod Answers
 pub mod Happens
 pub mod Unwatched
+pub mod Promised

@@ -1,9 +1,9 @@
--- Steps 1 and 2 for point j, and step 5 for line j. Assumes nothing.
+-- Steps 1 and 2 for point j, and step 5 for a line under way. Assumes nothing.
 use mathlib.Core.Path.{_≡_, _∙_}
 use mathlib.Core.List.{List}
 use mathlib.Core.Bool.{Bool, true, false}
-use Prim.Native.Nat.{ℕ}
-use Rattle.domain_prepared_meaning.specs.Decode.{testsAt}
+use Prim.Native.Nat.{ℕ, _%_}
+use Rattle.domain_prepared_meaning.specs.Decode.{testsAt, placeIn}
 use Rattle.happening_meaning.specs.State.{State}
 use Rattle.happening_meaning.specs.Truths.{holdAll}
 use Rattle.happening_meaning.specs.Writes.{itself}
@@ -17,7 +17,7 @@ use Rattle.happening_forms.specs.Summed.{summed, fourAt}
 use Rattle.happening_tests.specs.Reading.{maskOf}
 use Rattle.happening_writes.specs.Rows.{marksAt}
 use Rattle.happening_meetings.proofs.Crossing.{marks-here}
-use Rattle.happening_placing.specs.Given.{placedIn, stepIn, pointIn}
+use Rattle.happening_placing.specs.Given.{placedIn, pointIn, lineAt}
 use Rattle.happening_placing.specs.declared.Placed.{Placed}
 use Rattle.happening_placing.proofs.Placing.{line-is, objects-are, conditions-are, during-is}
 use Rattle.happening_steps.specs.Watching.{watching}
@@ -65,14 +65,14 @@ module _ (rows ps os : List ℕ) (j : ℕ) where
     unfolding apart
     apart-so h = rw (← marks-here rows ps os j ep, ← e, h)
 
-  -- ---- step 5
+-- ---- step 5
 
-  module _ {p : Placed} (ep : p ≡ placedIn rows ps j) where
-    pub spans-by : (s : State) {t : Truth} {o : Outcome} → t ≡ holdAll summed s (fourAt os j) (testsAt rows (p .during))
-        → o ≡ judged (Invariant (p .line)) (p .line) t → o ≡ spans summed s (stepIn rows ps os j)
-    unfolding spans pointIn
-    spans-by s et eo = eo ∙ rw (et, ep, ← during-is rows ps os j, ← objects-are rows ps os j, ← line-is rows ps os j)
+module _ (rows os : List ℕ) (k line action d : ℕ) {from : ℕ} (ef : from ≡ placeIn rows (action % 32) 2) where
+  pub spans-by : (s : State) {t : Truth} {o : Outcome} → t ≡ holdAll summed s (fourAt os k) (testsAt rows from)
+      → o ≡ judged (Invariant line) line t → o ≡ spans summed s (lineAt rows os k line action d)
+  unfolding spans
+  spans-by s et eo = eo ∙ rw (et, ef, ← during-is rows os k line action d)
 
-    pub watching-by : {m : ℕ} → m ≡ maskOf summed (fourAt os j) (testsAt rows (p .during)) → m ≡ watching summed (stepIn rows ps os j)
-    unfolding watching pointIn
-    watching-by e = e ∙ rw (ep, ← during-is rows ps os j, ← objects-are rows ps os j)
+  pub watching-by : {m : ℕ} → m ≡ maskOf summed (fourAt os k) (testsAt rows from) → m ≡ watching summed (lineAt rows os k line action d)
+  unfolding watching
+  watching-by e = e ∙ rw (ef, ← during-is rows os k line action d)

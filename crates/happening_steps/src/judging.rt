@@ -10,14 +10,14 @@ use happening_tests::truths;
 use happening_writes::clashes;
 ghost use mathlib.Core.Path.{_≡_};
 ghost use mathlib.Core.Bool.{_&&_};
-ghost use Prim.Native.Nat.{_≤_, _<_};
+ghost use Prim.Native.Nat.{ℕ, _≤_, _<_};
 ghost use lib.IntN.{pos};
 ghost use lib.ListN.{length};
 ghost use lib.Signed.{leZ};
 ghost use Rattle.happening_meaning.specs.Happening.{each, judged, lasts, lasting, ruleOf, tested, apart, allowed, spans};
 ghost use Rattle.happening_forms.specs.Summed.{summed};
 ghost use Rattle.happening_state.specs.States.{stateIn};
-ghost use Rattle.happening_placing.specs.Given.{placedIn, stepIn, pointIn, pointsIn};
+ghost use Rattle.happening_placing.specs.Given.{placedIn, pointIn, pointsIn, lineAt};
 ghost use Rattle.happening_meetings.specs.Marks.{noMarks};
 ghost use Rattle.happening_steps.specs.Watching.{watching};
 
@@ -194,29 +194,30 @@ pub fn allow<'a>(
     clearing::clear_pairs(rows, points, objects, n, marks)
 }
 
-// Step 5 for the line given as number j: its `over all` conditions.
+// Step 5 for a line whose objects are at place k: its `over all` conditions.
 pub fn span<'a>(
     rows: &'a [u8],
     facts: &'a [u8],
     numbers: &'a [i64],
-    lines: &'a [usize; 256],
     objects: &'a [u8; 256],
-    j: usize,
+    k: usize,
+    line: usize,
+    action: usize,
 ) -> Outcome
-    requires { ⌜ (j < 64) × (385 ≤ length (now rows)) ⌝ }
-    ensures { λ r. ⌜ r ≡ spans summed (stateIn (now (facts .entry)) (now (numbers .entry)))
-        (stepIn (now (rows .entry)) (now (lines .entry)) (now (objects .entry)) j) ⌝ }
+    requires { ⌜ (k < 64) × (385 ≤ length (now rows)) ⌝ }
+    ensures { λ r. ⌜ ((d : ℕ) → r ≡ spans summed (stateIn (now (facts .entry)) (now (numbers .entry)))
+        (lineAt (now (rows .entry)) (now (objects .entry)) k line action d)) ⌝ }
 {
-    let p = happening_placing::point_at(rows, lines, j);
-    let t = truths::hold(rows, facts, numbers, objects, j, p.during);
-    judge(Outcome::Invariant(p.line), p.line, t)
+    let from = happening_placing::during(rows, action);
+    let t = truths::hold(rows, facts, numbers, objects, k, from);
+    judge(Outcome::Invariant(line), line, t)
 }
 
-// The bits of all facts and numbers that the `over all` conditions of the line given as number j read.
-pub fn watched<'a>(rows: &'a [u8], lines: &'a [usize; 256], objects: &'a [u8; 256], j: usize) -> u64
-    requires { ⌜ (j < 64) × (385 ≤ length (now rows)) ⌝ }
-    ensures { λ r. ⌜ r ≡ watching summed (stepIn (now (rows .entry)) (now (lines .entry)) (now (objects .entry)) j) ⌝ }
+// The bits of all facts and numbers that the `over all` conditions of such a line read.
+pub fn watched<'a>(rows: &'a [u8], objects: &'a [u8; 256], k: usize, action: usize) -> u64
+    requires { ⌜ (k < 64) × (385 ≤ length (now rows)) ⌝ }
+    ensures { λ r. ⌜ ((line d : ℕ) → r ≡ watching summed (lineAt (now (rows .entry)) (now (objects .entry)) k line action d)) ⌝ }
 {
-    let p = happening_placing::point_at(rows, lines, j);
-    reads::mask_of(rows, objects, j, p.during)
+    let from = happening_placing::during(rows, action);
+    reads::mask_of(rows, objects, k, from)
 }

@@ -55,19 +55,15 @@ place-requires-2 c κs = search needs
 place-requires-3 : tie.Need-place-requires-3
 place-requires-3 c κs = search needs
 
-place-requires-4 : tie.Need-place-requires-4
-place-requires-4 c κs = search needs
-
 returns : tie.Need-returns
 unfolding placedIn
 returns c =
     simp (
-      c .before .before .before .place .ensures,
-      c .before .before .place2 .ensures,
-      c .before .place3 .ensures,
-      c .place4 .ensures,
-      c .before .before .before .before .before .before .list-for2 .ensures .0,
-      c .before .before .before .before .before .before .before .list-for .ensures .0,
+      c .before .before .place .ensures,
+      c .before .place2 .ensures,
+      c .place3 .ensures,
+      c .before .before .before .before .before .list-for2 .ensures .0,
+      c .before .before .before .before .before .before .list-for .ensures .0,
     )
 
 pub point-at-spec : {M : Type 1} → statement M
@@ -91,5 +87,4 @@ point-at-spec =
     place-requires
     place-requires-2
     place-requires-3
-    place-requires-4
     returns)

@@ -6,8 +6,8 @@ use borrow.Author.Needs.{needs}
 use Rattle.happening_steps.proofs.judging.span.Statement.{statement}
 use Rattle.happening_steps.proofs.judging.span.Tie as tie
 
-point-at-requires : tie.Need-point-at-requires
-point-at-requires c κs = search needs
+during-requires : tie.Need-during-requires
+during-requires c κs = search needs
 
 hold-requires : tie.Need-hold-requires
 hold-requires c κs = search needs
@@ -16,13 +16,13 @@ judge-requires : tie.Need-judge-requires
 judge-requires c κs = search needs
 
 returns : tie.Need-returns
-returns c = let s = c .before .before .before .before .before in spans-by (now (s .args .rows)) (now (s .args .lines)) (now (s .args .objects)) (s .args .j) (c .before .before .point-at .ensures) (stateIn (now (s .args .facts)) (now (s .args .numbers))) (c .before .hold .ensures) (c .judge .ensures)
+returns c = let s = c .before .before .before .before .before in λ d. spans-by (now (s .args .rows)) (now (s .args .objects)) (s .args .k) (s .args .line) (s .args .action) d (c .before .before .during .ensures) (stateIn (now (s .args .facts)) (now (s .args .numbers))) (c .before .hold .ensures) (c .judge .ensures)
 
 pub span-spec : {M : Type 1} → statement M
 span-spec =
     tie.close
     (tie.spec
-    point-at-requires
+    during-requires
     hold-requires
     judge-requires
     returns)
