@@ -1,8 +1,8 @@
 -- What a model's numbers say, part by part. Assumes nothing.
 use mathlib.Core.Path.{_≡_, refl}
 use Rattle.text_tokens.specs.Runs.{part}
-use Rattle.domain_stored_meaning.specs.Decode.{conditionAt, actionsAt}
 use Rattle.domain_stored_meaning.specs.Entries.{typedIn, signedIn}
+use Rattle.domain_prepared_meaning.specs.Decode.{actionsAt, goalAt}
 use Rattle.domain_load.specs.Decode.{decode}
 use Rattle.domain_load.specs.declared.Model.{Model}
 use Rattle.domain_rows.specs.Layout.{objectsAt, predicatesAt}
@@ -16,10 +16,10 @@ module _ (m : Model) where
   unfolding decode
   objects-in = refl
 
-  pub actions-in : actionsAt (m .code) (m .starts) 0 (signedIn (m .actions) (m .acting)) ≡ decode m .actions
+  pub actions-in : actionsAt (m .rows) 0 (signedIn (m .actions) (m .acting)) ≡ decode m .actions
   unfolding decode
   actions-in = refl
 
-  pub goal-in : conditionAt (m .goal) 0 .tree ≡ decode m .goal
+  pub goal-in : goalAt (m .goal) ≡ decode m .goal
   unfolding decode
   goal-in = refl

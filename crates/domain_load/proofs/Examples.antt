@@ -1,31 +1,52 @@
--- The bench as numbers: its actions' cells and where they begin, its goal's, its first indexes. (`domain_meaning` computes its texts to these trees.)
+-- The bench as numbers: its actions' rows and where they begin, its goal's, its first indexes. (`domain_meaning` computes its texts to these trees.)
 use mathlib.Core.Path.{_≡_, refl}
-use mathlib.Core.List.{[], _∷_}
+use mathlib.Core.List.{List, [], _∷_}
+use Prim.Native.Nat.{ℕ}
 use Rattle.domain_meaning.proofs.Bench.{bench, two-doses, open-bench}
+use Rattle.domain_meaning.specs.Indexes.{basesFrom, basesOf, padded}
 use Rattle.domain_literals.specs.Literal.{signBase, sizeOf, bytesOf, numberCells}
-use Rattle.domain_expressions.specs.Codes.{cellsOf}
-use Rattle.domain_stored_meaning.specs.Cells.{condCells, condsCells, effectCells, effectsCells, partsCells, lastingCells, actionCells, actionsCells, startsOf}
-use Rattle.domain_meaning.specs.Indexes.{basesFrom, basesOf}
+use Rattle.domain_prepared_meaning.specs.Forms.{folded, formOf}
+use Rattle.domain_prepared_meaning.specs.Preparing.{partsAt, singles, allSingles, allEffects}
+use Rattle.domain_prepared_meaning.specs.Rows.{shareBytes, exprBytes, testBytes, effectBytes, testsBytes, effectsBytes, lastsBytes}
+use Rattle.domain_prepared_meaning.specs.Rows.{actionBytes, actionsBytes, placesFrom, allPlaces, listsAt}
+use Rattle.domain_load.specs.Load.{predicateFirsts, functionFirsts}
 
--- dose, off, note, zero: of each the duration rule, the condition, the effect
-bench-cells : actionsCells (bench .actions)
-    ≡ 1 ∷ 6 ∷ 0 ∷ 64 ∷ 1 ∷ 5 ∷ 0 ∷ 64 ∷ 2 ∷ 5 ∷ 1 ∷ 64 ∷ 0 ∷ 1 ∷ 9 ∷ 0 ∷ 64 ∷ 0 ∷ 3 ∷ 5 ∷ 0 ∷ 64 ∷ 0 ∷ 3 ∷ 16 ∷ 1 ∷ 64 ∷ 33 ∷ 1 ∷ 0 ∷ 0
-    ∷ 0 ∷ 1 ∷ 5 ∷ 1 ∷ 64 ∷ 0 ∷ 1 ∷ 9 ∷ 1 ∷ 64 ∷ 0 ∷ 0
-    ∷ 0 ∷ 0 ∷ 1 ∷ 16 ∷ 1 ∷ 64 ∷ 33 ∷ 1 ∷ 0 ∷ 0
-    ∷ 0 ∷ 0 ∷ 1 ∷ 13 ∷ 1 ∷ 64 ∷ 32 ∷ 0 ∷ 0 ∷ []
-unfolding open-bench signBase sizeOf bytesOf numberCells cellsOf condCells effectCells effectsCells partsCells lastingCells actionCells actionsCells
-bench-cells = refl
-
-bench-starts : startsOf 0 (bench .actions) ≡ 0 ∷ 4 ∷ 13 ∷ 31 ∷ 32 ∷ 37 ∷ 43 ∷ 44 ∷ 45 ∷ 53 ∷ 54 ∷ 55 ∷ []
-unfolding open-bench signBase sizeOf bytesOf numberCells cellsOf condCells effectCells effectsCells partsCells lastingCells actionCells startsOf
-bench-starts = refl
-
--- "Goal: doses of a at least 2"
-bench-goal : condCells (two-doses .goal) ≡ 16 ∷ 6 ∷ 1 ∷ 0 ∷ 33 ∷ 2 ∷ []
-unfolding open-bench signBase sizeOf bytesOf numberCells cellsOf condCells
-bench-goal = refl
+-- what opens the bench and its rows
+unfoldable open-rows : Unit {0}
+unfolding open-bench basesFrom padded signBase sizeOf bytesOf numberCells folded formOf partsAt singles allSingles allEffects shareBytes exprBytes
+    testBytes effectBytes testsBytes effectsBytes lastsBytes actionBytes actionsBytes placesFrom allPlaces
+open-rows = tt
 
 -- with two objects
+abbrev ps : List ℕ
+ps = predicateFirsts 2 (bench .predicates)
+
+abbrev fs : List ℕ
+fs = functionFirsts 2 (bench .functions)
+
+-- dose, off, note, zero: of each the duration rule, the conditions at start, over all and at end, the effects at start and at end
+bench-rows : actionsBytes 2 ps fs (bench .actions)
+    ≡ 1 ∷ 6 ∷ 0 ∷ 0 ∷ 0 ∷ 5 ∷ 0 ∷ 0 ∷ 0 ∷ 0 ∷ 5 ∷ 2 ∷ 0 ∷ 0 ∷ 0 ∷ 0 ∷ 9 ∷ 0 ∷ 0 ∷ 0 ∷ 0 ∷ 5 ∷ 0 ∷ 0 ∷ 0 ∷ 16 ∷ 2 ∷ 0 ∷ 0 ∷ 33 ∷ 1 ∷ 0
+    ∷ 0 ∷ 5 ∷ 2 ∷ 0 ∷ 0 ∷ 0 ∷ 0 ∷ 0 ∷ 9 ∷ 2 ∷ 0 ∷ 0 ∷ 0 ∷ 0
+    ∷ 0 ∷ 0 ∷ 0 ∷ 0 ∷ 16 ∷ 2 ∷ 0 ∷ 0 ∷ 33 ∷ 1 ∷ 0 ∷ 0
+    ∷ 0 ∷ 0 ∷ 0 ∷ 0 ∷ 13 ∷ 2 ∷ 0 ∷ 0 ∷ 32 ∷ 0 ∷ 0 ∷ []
+unfolding open-rows
+bench-rows = refl
+
+-- 385, 390, 395, 400, 401, 406; 417, 418, 423, 424, 425, 430; 431 to 435, 442; 443 to 447, 453
+bench-places : allPlaces 2 ps fs listsAt (bench .actions)
+    ≡ 129 ∷ 1 ∷ 134 ∷ 1 ∷ 139 ∷ 1 ∷ 144 ∷ 1 ∷ 145 ∷ 1 ∷ 150 ∷ 1
+    ∷ 161 ∷ 1 ∷ 162 ∷ 1 ∷ 167 ∷ 1 ∷ 168 ∷ 1 ∷ 169 ∷ 1 ∷ 174 ∷ 1
+    ∷ 175 ∷ 1 ∷ 176 ∷ 1 ∷ 177 ∷ 1 ∷ 178 ∷ 1 ∷ 179 ∷ 1 ∷ 186 ∷ 1
+    ∷ 187 ∷ 1 ∷ 188 ∷ 1 ∷ 189 ∷ 1 ∷ 190 ∷ 1 ∷ 191 ∷ 1 ∷ 197 ∷ 1 ∷ []
+unfolding open-rows
+bench-places = refl
+
+-- "Goal: doses of a at least 2"
+bench-goal : testsBytes 2 ps fs (singles (two-doses .goal)) ≡ 16 ∷ 5 ∷ 2 ∷ 0 ∷ 33 ∷ 2 ∷ 0 ∷ []
+unfolding open-rows
+bench-goal = refl
+
 predicate-firsts : basesOf 2 (bench .predicates) ≡ 0 ∷ 2 ∷ []
 unfolding open-bench basesFrom
 predicate-firsts = refl

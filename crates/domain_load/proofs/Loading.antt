@@ -14,10 +14,9 @@ use Rattle.domain_meaning.specs.Problem.{Problem, readProblem, scopeOf, sumsFit
 use Rattle.domain_rows.specs.Held.{rowsOf}
 use Rattle.domain_terms.specs.Scoped.{Scoped}
 use Rattle.domain_terms.specs.declared.scope.Counts.{Counts}
-use Rattle.domain_stored_meaning.specs.Cells.{condCells, actionsCells, startsOf}
+use Rattle.domain_stored_meaning.specs.Cells.{condCells}
+use Rattle.domain_stored_meaning.specs.Decode.{conditionAt, actionsAt}
 use Rattle.domain_meaning.specs.First.{firstFacts, firstNumbers}
-use Rattle.domain_meaning.specs.Indexes.{sumOf}
-use Rattle.domain_indexes.specs.Firsts.{firstsOf}
 use Rattle.domain_problem_text.specs.Grounded.{withObjects}
 use Rattle.domain_actions.specs.Acted.{declarations}
 use Rattle.domain_domain_text.specs.Knowing.{countsIn, Knows}
@@ -27,32 +26,32 @@ use Rattle.domain_due.specs.declared.Parsed.{Parsed}
 use Rattle.domain_due.specs.declared.Parsed.the-variants as A
 use Rattle.domain_due.proofs.Dues.{never-done}
 use Rattle.domain_problem_text.specs.Posed.{Poses, Posed}
+use Rattle.domain_load.specs.declared.Sizes.{Sizes}
 use Rattle.domain_load.specs.declared.Model.{Model}
 use Rattle.domain_load.specs.declared.LoadAnswer.the-variants as Is
 use Rattle.domain_load.specs.declared.Loaded.{Loaded}
-use Rattle.domain_load.specs.Load.{zeros, tablesOf, modelOf, loadedOf, Models, fixedOf, ofProblem, loadOf}
+use Rattle.domain_load.specs.Load.{zeros, tablesOf, sizesOf, preparedActions, preparedGoal, modelOf, loadedOf, Models, fixedOf, ofProblem, loadOf}
 use Rattle.domain_load.proofs.Joined.{tables-are}
+use Rattle.domain_load.proofs.Kept.{actions-kept, goal-kept}
 use Rattle.domain_rows.specs.Layout.{tablesLength}
 
 -- ---- the domain, by its answer
 
 -- it was read, and what was stored of it is its model
-pub record Understood (s name : List ℕ) (m : Model) : Type 0 where
+pub record Understood (s name code starts : List ℕ) (m : Model) : Type 0 where
   pub domain : Domain
   pub end : ℕ
   pub is : readDomain s ≡ got domain end
-  pub model : Models domain name m
+  pub model : Models domain name code starts m
 
 -- what is stored of a domain alone
-abbrev pub domainModel : List ℕ → List ℕ → List ℕ → List ℕ → Counts → ℕ → Model
-domainModel tables actions code starts c n =
+abbrev pub domainModel : List ℕ → List ℕ → Counts → ℕ → Model
+domainModel tables actions c n =
     record {
       tables = tables;
       actions = actions;
-      starts = starts;
-      code = code;
+      rows = zeros 33153;
       goal = zeros 32768;
-      firsts = zeros 49;
       sizes = record { facts = 0; numbers = 0 };
       counts = c;
       acting = n;
@@ -63,7 +62,7 @@ module _ (s : List ℕ) (r : Known) (tables actions code starts : List ℕ) wher
   Answers x = Knows s (zeros 32768) (zeros 96) r tables actions code starts x
 
   knows-got : (x : Read Domain) (p e : ℕ) (c : Counts) (n : ℕ) → readDomain s ≡ x → Answers x → r ≡ K.Done p e c n
-      → Understood s (part s p e) (domainModel tables actions code starts c n)
+      → Understood s (part s p e) code starts (domainModel tables actions c n)
   unfolding Knows
   knows-got (got d m) p e c n i h q =
       let g : K.Done (h .from) (h .to) (countsIn d) (length (d .actions)) ≡ K.Done p e c n = sym (h .is) ∙ q in
@@ -76,6 +75,9 @@ module _ (s : List ℕ) (r : Known) (tables actions code starts : List ℕ) wher
         end = m;
         is = i;
         model = record {
+          text = s;
+          end = m;
+          is = i;
           named = ap (λ (k : ℕ). part s k e) (sym ep) ∙ ap (λ (k : ℕ). part s (h .from) k) (sym ee) ∙ h .name;
           scope = rw (← ec) (h .scope);
           long = h .long;
@@ -102,7 +104,7 @@ module _ (s : List ℕ) (r : Known) (tables actions code starts : List ℕ) wher
 
   module _ (h : Answers (readDomain s)) where
     pub understood : (p e : ℕ) (c : Counts) (n : ℕ) → r ≡ K.Done p e c n → (name : List ℕ) → name ≡ part s p e
-        → Understood s name (domainModel tables actions code starts c n)
+        → Understood s name code starts (domainModel tables actions c n)
     understood p e c n q name i = rw i (knows-got (readDomain s) p e c n refl h q)
 
     pub no-domain : (t : List ℕ) (k p : ℕ) (x : Loaded) → r ≡ K.Refused k p → x ≡ fixedOf (Is.Domain k p) → x ≡ loadOf s t
@@ -172,50 +174,35 @@ module _ (t : List ℕ) (d : Domain) (c : Counts) (r : Parsed) (tables facts : L
 -- ---- both
 
 -- the arrays of a domain and a problem are those of their model
-same-model : (d : Domain) (p : Problem) (tables actions starts code goal firsts : List ℕ) (i j : ℕ) (facts : List ℕ) (numbers : List ℤ) (c : Counts) (n : ℕ)
-    → tables ≡ tablesOf d (p .objects) → actions ≡ rowsOf 32 (declarations (d .actions)) → starts ≡ sets (zeros 96) 0 (startsOf 0 (d .actions))
-    → code ≡ sets (zeros 32768) 0 (actionsCells (d .actions)) → goal ≡ sets (zeros 32768) 0 (condCells (p .goal))
-    → firsts ≡ firstsOf (length (p .objects)) (d .predicates) (d .functions)
-    → i ≡ sumOf (length (p .objects)) (d .predicates) → j ≡ sumOf (length (p .objects)) (d .functions) → facts ≡ firstFacts (p .init)
-    → numbers ≡ firstNumbers (p .init)
+same-model : (d : Domain) (p : Problem) (tables actions rows goal : List ℕ) (sizes : Sizes) (facts : List ℕ) (numbers : List ℤ) (c : Counts) (n : ℕ)
+    → tables ≡ tablesOf d (p .objects) → actions ≡ rowsOf 32 (declarations (d .actions))
+    → rows ≡ preparedActions (length (p .objects)) (d .predicates) (d .functions) (d .actions)
+    → goal ≡ preparedGoal (length (p .objects)) (d .predicates) (d .functions) (p .goal)
+    → sizes ≡ sizesOf (length (p .objects)) (d .predicates) (d .functions) → facts ≡ firstFacts (p .init) → numbers ≡ firstNumbers (p .init)
     → c ≡ withObjects (countsIn d) (length (p .objects)) → n ≡ length (d .actions)
     → record {
-      model = record {
-        tables = tables;
-        actions = actions;
-        starts = starts;
-        code = code;
-        goal = goal;
-        firsts = firsts;
-        sizes =
-            record { facts = i; numbers = j };
-        counts = c;
-        acting = n;
-      };
+      model = record { tables = tables; actions = actions; rows = rows; goal = goal; sizes = sizes; counts = c; acting = n };
       facts = facts;
       numbers = numbers;
       answer = Is.Loaded;
     } ≡ loadedOf d p
 unfolding loadedOf modelOf
-same-model d p tables actions starts code goal firsts i j facts numbers c n et ea es ec eg ef ei ej es′ ev eo em =
-    rw (et, ea, es, ec, eg, ef, ei, ej, es′, ev, eo, em) refl
+same-model d p tables actions rows goal sizes facts numbers c n et ea er eg es ef ev eo em = rw (et, ea, er, eg, es, ef, ev, eo, em) refl
 
--- the problem's arrays and numbers beside a model of its domain
-pub both-read : (t name : List ℕ) (d : Domain) (m : Model) → Models d name m → (p : Problem) (a : ℕ) → readProblem t d ≡ got p a
-    → (tables goal firsts : List ℕ) (i j : ℕ) (facts : List ℕ) (numbers : List ℤ) (v : ℕ) → v ≡ length (p .objects)
-    → Scoped tables (withObjects (m .counts) v) (scopeOf d (p .objects)) → length tables ≡ tablesLength → goal ≡ sets (zeros 32768) 0 (condCells (p .goal))
-    → firsts ≡ firstsOf (length (p .objects)) (d .predicates) (d .functions) → i ≡ sumOf v (d .predicates) → j ≡ sumOf v (d .functions)
-    → facts ≡ firstFacts (p .init) → numbers ≡ firstNumbers (p .init)
+-- the problem's arrays and numbers beside a model of its domain; rows and goal are prepared from cells
+pub both-read : (t name code starts : List ℕ) (d : Domain) (m : Model) → Models d name code starts m → (p : Problem) (a : ℕ) → readProblem t d ≡ got p a
+    → (tables cells rows goal : List ℕ) (sizes : Sizes) (facts : List ℕ) (numbers : List ℤ) (v : ℕ) → v ≡ length (p .objects)
+    → Scoped tables (withObjects (m .counts) v) (scopeOf d (p .objects)) → length tables ≡ tablesLength → cells ≡ sets (zeros 32768) 0 (condCells (p .goal))
+    → rows ≡ preparedActions (length (p .objects)) (d .predicates) (d .functions) (actionsAt code starts 0 (declarations (d .actions)))
+    → goal ≡ preparedGoal (length (p .objects)) (d .predicates) (d .functions) (conditionAt cells 0 .tree)
+    → sizes ≡ sizesOf (length (p .objects)) (d .predicates) (d .functions) → facts ≡ firstFacts (p .init) → numbers ≡ firstNumbers (p .init)
     → record {
       model = record {
         tables = tables;
         actions = m .actions;
-        starts = m .starts;
-        code = m .code;
+        rows = rows;
         goal = goal;
-        firsts = firsts;
-        sizes =
-            record { facts = i; numbers = j };
+        sizes = sizes;
         counts = withObjects (m .counts) v;
         acting = m .acting;
       };
@@ -223,10 +210,12 @@ pub both-read : (t name : List ℕ) (d : Domain) (m : Model) → Models d name m
       numbers = numbers;
       answer = Is.Loaded;
     } ≡ ofProblem d (readProblem t d)
-both-read t name d m k p a e tables goal firsts i j facts numbers v o sc long eg ef ei ej es ev =
-    same-model d p tables (m .actions) (m .starts) (m .code) goal firsts i j facts numbers (withObjects (m .counts) v) (m .acting)
-    (tables-are tables (withObjects (m .counts) v) d (p .objects) sc long) (k .rows) (k .places) (k .cells) eg ef
-    (ei ∙ ap (λ (n : ℕ). sumOf n (d .predicates)) o) (ej ∙ ap (λ (n : ℕ). sumOf n (d .functions)) o) es ev
+both-read t name code starts d m k p a e tables cells rows goal sizes facts numbers v o sc long ec er eg es ef ev =
+    same-model d p tables (m .actions) rows goal sizes facts numbers (withObjects (m .counts) v) (m .acting)
+    (tables-are tables (withObjects (m .counts) v) d (p .objects) sc long) (k .rows)
+    (er ∙ ap (preparedActions (length (p .objects)) (d .predicates) (d .functions)) (actions-kept d name code starts m k))
+    (eg ∙ ap (preparedGoal (length (p .objects)) (d .predicates) (d .functions)) (goal-kept d name code starts m k t p a e cells ec))
+    es ef ev
     (ap (λ (n : Counts). withObjects n v) (k .counted) ∙ ap (withObjects (countsIn d)) o) (k .acts)
     ∙ rw e refl
 

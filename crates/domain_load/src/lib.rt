@@ -13,7 +13,7 @@ ghost use Rattle.domain_meaning.specs.Domain.{Domain};
 ghost use Rattle.domain_meaning.specs.Problem.{sumsFit, readProblem};
 ghost use Rattle.domain_terms.specs.Scoped.{Scoped};
 ghost use Rattle.domain_indexes.specs.Firsts.{firstsOf};
-ghost use Rattle.domain_load.specs.Load.{Models, fixedOf, ofProblem, loadOf};
+ghost use Rattle.domain_load.specs.Load.{sizesOf, Models, fixedOf, ofProblem, loadOf};
 
 // How many facts and how many numbers there are.
 pub struct Sizes {
@@ -27,13 +27,10 @@ pub struct Model {
     pub tables: [u8; layout::TABLES_LENGTH],
     // 32 rows: the actions' names, how many parameters they have, and their types
     pub actions: [u8; 1216],
-    // of each action, where the cells of its duration rule, its condition and its effect begin
-    pub starts: [usize; 96],
-    pub code: [u8; 32768],
-    // the goal's cells
+    // the prepared actions: the number of objects, where each action's lists begin, the lists
+    pub rows: [u8; 33153],
+    // the goal's prepared list
     pub goal: [u8; 32768],
-    // the first indexes of 32 predicates and of 16 functions, then the number of objects
-    pub firsts: [u16; 49],
     pub sizes: Sizes,
     pub counts: Counts,
     // how many actions there are
@@ -75,10 +72,8 @@ fn fixed(answer: LoadAnswer) -> Loaded
     let model = Model {
         tables: [0u8; layout::TABLES_LENGTH],
         actions: [0u8; 1216],
-        starts: [0usize; 96],
-        code: [0u8; 32768],
+        rows: [0u8; 33153],
         goal: [0u8; 32768],
-        firsts: [0u16; 49],
         sizes,
         counts,
         acting: 0,
@@ -118,16 +113,35 @@ fn firsts_of(tables: &[u8], counts: Counts) -> [u16; 49]
     firsts
 }
 
-// The problem of a domain, whose model and name are given: what it says beside the domain, or its refusal.
-fn load_problem(mut model: Model, name: &[u8], problem: &[u8]) -> Loaded
-    requires { ⌜ ((d : Domain) × Models d (now name) model) ⌝ }
-    ensures { λ r. ⌜ ((d : Domain) → Models d (now (name .entry)) model → r ≡ ofProblem d (readProblem (now (problem .entry)) d)) ⌝ }
+// How many facts and numbers there are.
+fn sizes_of(tables: &[u8], counts: Counts) -> Sizes
+    requires { ⌜ ((c : Scope) × Scoped (now tables) counts c) ⌝ }
+    ensures { λ r. ⌜ ((c : Scope) → Scoped (now (tables .entry)) counts c → r ≡ sizesOf (length (c .objects)) (c .predicates) (c .functions)) ⌝ }
+{
+    let objects = counts.objects;
+    Sizes {
+        facts: domain_indexes::sum_of(tables, layout::PREDICATES_AT, counts.predicates, objects),
+        numbers: domain_indexes::sum_of(tables, layout::FUNCTIONS_AT, counts.functions, objects),
+    }
+}
+
+// The problem of a domain, whose model, cells and name are given: what it says beside the domain, or its refusal.
+fn load_problem<'a>(
+    mut model: Model,
+    code: &'a [u8],
+    starts: &'a [usize],
+    name: &[u8],
+    problem: &[u8],
+) -> Loaded
+    requires { ⌜ ((d : Domain) × Models d (now name) (now code) (now starts) model) ⌝ }
+    ensures { λ r. ⌜ ((d : Domain) → Models d (now (name .entry)) (now (code .entry)) (now (starts .entry)) model
+        → r ≡ ofProblem d (readProblem (now (problem .entry)) d)) ⌝ }
 {
     let mut tables = model.tables;
     let mut counts = model.counts;
     let mut facts = [0u8; 16384];
     let mut numbers = [-1000000000001i64; 1024];
-    let mut goal = [0u8; 32768];
+    let mut cells = [0u8; 32768];
     let p = domain_problem_text::problem_at(
         problem,
         &mut tables,
@@ -135,30 +149,21 @@ fn load_problem(mut model: Model, name: &[u8], problem: &[u8]) -> Loaded
         name,
         &mut facts,
         &mut numbers,
-        &mut goal,
+        &mut cells,
     );
     match p {
         Parsed::Refused(k, at) => fixed(LoadAnswer::Problem(k, at)),
         Parsed::Done(_, objects) => {
             counts.objects = objects;
             let firsts = firsts_of(&tables, counts);
-            let sizes = Sizes {
-                facts: domain_indexes::sum_of(
-                    &tables,
-                    layout::PREDICATES_AT,
-                    counts.predicates,
-                    objects,
-                ),
-                numbers: domain_indexes::sum_of(
-                    &tables,
-                    layout::FUNCTIONS_AT,
-                    counts.functions,
-                    objects,
-                ),
-            };
-            model.firsts = firsts;
+            let sizes = sizes_of(&tables, counts);
+            let mut rows = [0u8; 33153];
+            let mut goal = [0u8; 32768];
+            domain_preparing::prepare(code, starts, &firsts, model.acting, &mut rows);
+            domain_preparing::prepare_goal(&cells, &firsts, &mut goal);
             model.sizes = sizes;
             model.tables = tables;
+            model.rows = rows;
             model.goal = goal;
             model.counts = counts;
             Loaded {
@@ -196,15 +201,14 @@ pub fn load(domain: &[u8], problem: &[u8]) -> Loaded
             let model = Model {
                 tables,
                 actions,
-                starts,
-                code,
+                rows: [0u8; 33153],
                 goal: [0u8; 32768],
-                firsts: [0u16; 49],
                 sizes,
                 counts,
                 acting,
             };
-            load_problem(model, runs::part_of(domain, from, to), problem)
+            let name = runs::part_of(domain, from, to);
+            load_problem(model, &code, &starts, name, problem)
         }
     }
 }

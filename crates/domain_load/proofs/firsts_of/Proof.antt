@@ -1,5 +1,4 @@
 -- `domain_load::firsts_of` meets its contract. Assumes nothing.
--- `domain_load::firsts_of` meets its contract. Assumes nothing.
 use mathlib.Core.Path.{ap, _∙_}
 use mathlib.Core.List.{List}
 use Prim.Native.Nat.{ℕ, _+_, _≤_}

@@ -36,14 +36,20 @@ enum-known-d-2 c = search needs
 part-of-requires : tie.Need-part-of-requires
 part-of-requires c κs = search needs
 
+slice-aggregate-load-problem : tie.Need-slice-aggregate-load-problem
+slice-aggregate-load-problem c = search needs
+
+slice-aggregate-load-problem-2 : tie.Need-slice-aggregate-load-problem-2
+slice-aggregate-load-problem-2 c = search needs
+
 load-problem-requires : tie.Need-load-problem-requires
-load-problem-requires c κs = let u = understood (now (c .before .before .before .before .before .before .before .before .before .before .before .before .before .before .before .args .domain)) (c .before .before .before .before .before .before .before .before .domain-at .result) _ _ _ _ (c .before .before .before .before .before .before .before .before .domain-at .ensures) _ _ _ _ (c .before .before .d2 .given .1) _ (c .part-of .ensures) in (u .domain, u .model)
+load-problem-requires c κs = let u = understood (now (c .before .before .before .before .before .before .before .before .before .before .before .before .before .before .before .before .before .args .domain)) (c .before .before .before .before .before .before .before .before .before .before .domain-at .result) _ _ _ _ (c .before .before .before .before .before .before .before .before .before .before .domain-at .ensures) _ _ _ _ (c .before .before .before .before .d2 .given .1) _ (c .before .before .part-of .ensures) in (u .domain, u .model)
 
 returns : tie.Need-returns
 returns c = no-domain (now (c .before .before .before .before .before .before .before .before .before .before .before .before .before .before .before .args .domain)) (c .before .before .before .before .before .before .before .before .domain-at .result) _ _ _ _ (c .before .before .before .before .before .before .before .before .domain-at .ensures) (now (c .before .before .before .before .before .before .before .before .before .before .before .before .before .before .before .args .problem)) _ _ _ (c .before .before .d .given .1) (c .fixed .ensures)
 
 returns-2 : tie.Need-returns-2
-returns-2 c = let u = understood (now (c .before .before .before .before .before .before .before .before .before .before .before .before .before .before .before .before .args .domain)) (c .before .before .before .before .before .before .before .before .before .domain-at .result) _ _ _ _ (c .before .before .before .before .before .before .before .before .before .domain-at .ensures) _ _ _ _ (c .before .before .before .d2 .given .1) _ (c .before .part-of .ensures) in domain-loaded (now (c .before .before .before .before .before .before .before .before .before .before .before .before .before .before .before .before .args .domain)) (now (c .before .before .before .before .before .before .before .before .before .before .before .before .before .before .before .before .args .problem)) (u .domain) (u .end) (u .is) _ (c .load-problem .ensures (u .domain) (u .model))
+returns-2 c = let u = understood (now (c .before .before .before .before .before .before .before .before .before .before .before .before .before .before .before .before .before .before .args .domain)) (c .before .before .before .before .before .before .before .before .before .before .before .domain-at .result) _ _ _ _ (c .before .before .before .before .before .before .before .before .before .before .before .domain-at .ensures) _ _ _ _ (c .before .before .before .before .before .d2 .given .1) _ (c .before .before .before .part-of .ensures) in domain-loaded (now (c .before .before .before .before .before .before .before .before .before .before .before .before .before .before .before .before .before .before .args .domain)) (now (c .before .before .before .before .before .before .before .before .before .before .before .before .before .before .before .before .before .before .args .problem)) (u .domain) (u .end) (u .is) _ (c .load-problem .ensures (u .domain) (u .model))
 
 pub load-spec : {M : Type 1} → statement M
 load-spec =
@@ -58,6 +64,8 @@ load-spec =
     fixed-requires
     enum-known-d-2
     part-of-requires
+    slice-aggregate-load-problem
+    slice-aggregate-load-problem-2
     load-problem-requires
     returns
     returns-2)
