@@ -78,8 +78,8 @@ module _ (s t : List ℕ) (d : Domain) (p : Problem) (m n : ℕ) (e : readDomain
   goal-read =
       let g = read-fits s t d p m n e f in
       let list = testsBytes o ps fs (singles (p .goal)) in
-      let room : 0 + length list ≤ length (zeros 32768) = omega (arith, g .problem .rows o ps fs, length-replicate {A = ℕ} 32768 0) in
-      goal-back o ps fs _ (p .goal) (g .problem .goal) (padded-prepare d p g .goal) (stored (zeros 32768) 0 list room)
+      let room : 0 + length list ≤ length (zeros 7233) = omega (arith, g .problem .rows o ps fs, length-replicate {A = ℕ} 7233 0) in
+      goal-back o ps fs _ (p .goal) (g .problem .goal) (padded-prepare d p g .goal) (stored (zeros 7233) 0 list room)
 
   pub model-back : decode (modelOf d p) ≡ readingOf d p
   unfolding decode modelOf

@@ -51,7 +51,7 @@ domainModel tables actions c n =
       tables = tables;
       actions = actions;
       rows = zeros 33153;
-      goal = zeros 32768;
+      goal = zeros 7233;
       sizes = record { facts = 0; numbers = 0 };
       counts = c;
       acting = n;

@@ -34,6 +34,6 @@ module _ (n : ℕ) (ps fs : Table) (firsts : List ℕ) (e : firsts ≡ firstsOf 
       (actionsBytes (count-is i) (predicates-are i) (functions-are i) as′))
 
   pub goal-prepared : (goal : List ℕ) (c : Cond)
-      → goal ≡ sets (zeros 32768) 0 (testsBytes (getD firsts 48 0) (take 32 firsts) (take 16 (drop 32 firsts)) (singles c)) → goal ≡ preparedGoal n ps fs c
+      → goal ≡ sets (zeros 7233) 0 (testsBytes (getD firsts 48 0) (take 32 firsts) (take 16 (drop 32 firsts)) (singles c)) → goal ≡ preparedGoal n ps fs c
   unfolding preparedGoal
-  goal-prepared goal c h = h ∙ (λ i. sets (zeros 32768) 0 (testsBytes (count-is i) (predicates-are i) (functions-are i) (singles c)))
+  goal-prepared goal c h = h ∙ (λ i. sets (zeros 7233) 0 (testsBytes (count-is i) (predicates-are i) (functions-are i) (singles c)))

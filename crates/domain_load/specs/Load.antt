@@ -57,7 +57,7 @@ preparedActions n ps fs as′ =
 
 -- the goal: its list
 unfoldable pub preparedGoal : ℕ → Table → Table → Cond → List ℕ
-preparedGoal n ps fs c = sets (zeros 32768) 0 (testsBytes n (predicateFirsts n ps) (functionFirsts n fs) (singles c))
+preparedGoal n ps fs c = sets (zeros 7233) 0 (testsBytes n (predicateFirsts n ps) (functionFirsts n fs) (singles c))
 
 -- ---- the model of a domain and a problem, and the first state
 
@@ -100,7 +100,7 @@ fixedOf answer =
         tables = zeros tablesLength;
         actions = zeros 1216;
         rows = zeros 33153;
-        goal = zeros 32768;
+        goal = zeros 7233;
         sizes = record { facts = 0; numbers = 0 };
         counts = record { types = 0; objects = 0; predicates = 0; functions = 0; variables = 0; in_action = false };
         acting = 0;

@@ -30,7 +30,7 @@ pub struct Model {
     // the prepared actions: the number of objects, where each action's lists begin, the lists
     pub rows: [u8; 33153],
     // the goal's prepared list
-    pub goal: [u8; 32768],
+    pub goal: [u8; 7233],
     pub sizes: Sizes,
     pub counts: Counts,
     // how many actions there are
@@ -73,7 +73,7 @@ fn fixed(answer: LoadAnswer) -> Loaded
         tables: [0u8; layout::TABLES_LENGTH],
         actions: [0u8; 1216],
         rows: [0u8; 33153],
-        goal: [0u8; 32768],
+        goal: [0u8; 7233],
         sizes,
         counts,
         acting: 0,
@@ -158,7 +158,7 @@ fn load_problem<'a>(
             let firsts = firsts_of(&tables, counts);
             let sizes = sizes_of(&tables, counts);
             let mut rows = [0u8; 33153];
-            let mut goal = [0u8; 32768];
+            let mut goal = [0u8; 7233];
             domain_preparing::prepare(code, starts, &firsts, model.acting, &mut rows);
             domain_preparing::prepare_goal(&cells, &firsts, &mut goal);
             model.sizes = sizes;
@@ -202,7 +202,7 @@ pub fn load(domain: &[u8], problem: &[u8]) -> Loaded
                 tables,
                 actions,
                 rows: [0u8; 33153],
-                goal: [0u8; 32768],
+                goal: [0u8; 7233],
                 sizes,
                 counts,
                 acting,
