@@ -13,8 +13,8 @@ use Rattle.happening_meaning.specs.Happening.{isDone, Happened, happened, happe
 use Rattle.happening_meaning.specs.declared.Outcome.{Outcome}
 use Rattle.happening_meaning.specs.declared.Outcome.the-variants.{Done}
 use Rattle.happening_meaning.proofs.Failing.{Fails, fails}
-use Rattle.happening_instants.specs.Given.{instantOf}
-use Rattle.happening_instants.proofs.Promised.{instant-done, instant-failed}
+use Rattle.happening_steps.specs.Instants.{instantOf}
+use Rattle.happening_steps.proofs.Promised.{instant-done, instant-failed}
 use Rattle.plan_meaning.specs.Plan.{Step, Point, Run, Rules, tested, after, instant, judged}
 use Rattle.plan_meaning.specs.Promised.{Act, stepFor, pointFor, failure, outcomeOf, rulesOf}
 use Rattle.plan_running.specs.Running.{runIn}

@@ -1,55 +1,66 @@
--- Slots that pass a test, laid as rows one behind the other. Assumes nothing.
-use Prim.Native.Nat.{ℕ, _+_, _≤_, _<_}
+-- Slots laid as points one after the other, and the points that they give. Assumes nothing.
+use Prim.Native.Nat.{ℕ, suc, _+_, _-_, _<_}
 use mathlib.Core.Bool.{Bool, true, false}
-use mathlib.Core.List.{List, [], _∷_, _++_, map, map-append, append-nil}
-use mathlib.Core.Path.{_≡_, refl, _∙_}
+use mathlib.Core.List.{List, [], _∷_, _++_, map}
+use mathlib.Core.Path.{_≡_, refl, sym, ap, _∙_}
 use native.Mathlib.Numerals.{add-one}
 use native.Mathlib.Omega.{arith}
-use lib.ListN.{length, take, getD, length-append}
-use lib.Seq.{take-suc}
+use lib.ListN.{length, take, getD, length-map}
+use lib.Seq.{take-suc, take-all, length-take-le}
+use Rattle.happening_placing.specs.Given.{stepIn, pointIn, pointsIn}
+use Rattle.happening_placing.proofs.Placing.{step-are, point-start, point-end}
+use Rattle.happening_meetings.proofs.Given.{points-end, points-step}
 use Rattle.plan_meaning.specs.Lists.{keep}
 use Rattle.plan_meaning.specs.declared.Slot.{Slot}
-use Rattle.plan_meaning.proofs.Lists.{keep-append}
 use Rattle.plan_waiting.specs.Waiting.{noSlot}
-use Rattle.plan_running.specs.Laid.{Row, Laid}
+use Rattle.plan_running.specs.Lines.{stepOn, pointOn, isAt, pointsOn}
+use Rattle.plan_running.specs.Laid.{Laid}
 
--- the row of a slot, at the time in its action that w says
-abbrev pub rowAt : (Slot → ℕ) → Slot → Row
-rowAt w s = record { step = s .step; when = w s }
+-- the first i of the slots lie there
+pub record Laying (l : List Slot) (points objects : List ℕ) (i : ℕ) : Type 0 where
+  pub laid : Laid points objects 0 (take i l)
 
--- those of the slots that pass the test f
-abbrev pub rowsFrom : (Slot → Bool) → (Slot → ℕ) → List Slot → List Row
-rowsFrom f w l = map (rowAt w) (keep f l)
-
--- the first i slots of l are gone through, and those that passed lie in the first j rows
-pub record Laying (f : Slot → Bool) (w : Slot → ℕ) (l : List Slot) (rows objects : List ℕ) (i j : ℕ) : Type 0 where
-  pub behind : j ≤ i
-  pub counted : length (rowsFrom f w (take i l)) ≡ j
-  pub laid : Laid rows objects 0 (rowsFrom f w (take i l))
-
-pub lay-none : (f : Slot → Bool) (w : Slot → ℕ) (l : List Slot) (rows objects : List ℕ) → Laying f w l rows objects 0 0
+pub lay-none : (l : List Slot) (points objects : List ℕ) → Laying l points objects 0
 unfolding Laid
-lay-none f w l rows objects = record { behind = omega arith; counted = refl; laid = tt }
+lay-none l points objects = record { laid = tt }
 
--- s is the next slot
-module _ {f : Slot → Bool} {w : Slot → ℕ} {l : List Slot} {rows objects : List ℕ} {i j : ℕ} (k : Laying f w l rows objects i j) (h : i < length l)
-    {s : Slot} (there : getD l i noSlot ≡ s) where
-  more : rowsFrom f w (take (i + 1) l) ≡ rowsFrom f w (take i l) ++ rowsFrom f w (s ∷ [])
-  more =
-      rw (add-one, take-suc l i noSlot h, keep-append f (take i l) (getD l i noSlot ∷ []), there) (map-append (rowAt w) (keep f (take i l)) (keep f (s ∷ [])))
+-- s is the next
+module _ {l : List Slot} {points objects points′ objects′ : List ℕ} {i : ℕ} (k : Laying l points objects i) (h : i < length l) {s : Slot}
+    (there : getD l i noSlot ≡ s) where
+  pub lay-next : ((m : List Slot) → length m ≡ i → Laid points objects 0 m → Laid points′ objects′ 0 (m ++ s ∷ [])) → Laying l points′ objects′ (i + 1)
+  lay-next e = record { laid = rw (add-one, take-suc l i noSlot h, there) (e (take i l) (length-take-le i l (omega arith)) (k .laid)) }
 
-  -- a slot that passes is laid behind
-  pub lay-yes : {rows′ objects′ : List ℕ} → f s ≡ true → ((r : List Row) → length r ≡ j → Laid rows objects 0 r → Laid rows′ objects′ 0 (r ++ rowAt w s ∷ []))
-      → Laying f w l rows′ objects′ (i + 1) (j + 1)
-  lay-yes {rows′} {objects′} t e =
-      let m : rowsFrom f w (take (i + 1) l) ≡ rowsFrom f w (take i l) ++ rowAt w s ∷ [] = rw t at more in
-      record {
-        behind = omega (arith, k .behind);
-        counted = rw m (omega (arith, length-append (rowsFrom f w (take i l)) (rowAt w s ∷ []), k .counted));
-        laid = rw m (e (rowsFrom f w (take i l)) (k .counted) (k .laid));
-      }
+-- ---- the points of the rows
 
-  pub lay-no : f s ≡ false → Laying f w l rows objects (i + 1) j
-  lay-no t =
-      let m : rowsFrom f w (take (i + 1) l) ≡ rowsFrom f w (take i l) = (rw t at more) ∙ append-nil (rowsFrom f w (take i l)) in
-      record { behind = omega (arith, k .behind); counted = rw m (k .counted); laid = rw m (k .laid) }
+module _ (rows points objects : List ℕ) where
+  first-points : (n j : ℕ) → pointsIn rows points objects (suc n) j ≡ pointIn rows points objects j ∷ pointsIn rows points objects n (j + 1)
+  first-points n j =
+      let a : j + suc n - j ≡ suc n = omega arith in
+      let b : j + suc n - (j + 1) ≡ n = omega arith in
+      rw (a, b) at (points-step rows points objects (j + suc n) j (omega arith))
+
+  point-laid : (s : Slot) (ss : List Slot) (j : ℕ) → Laid points objects j (s ∷ ss) → pointIn rows points objects j ≡ pointOn rows s
+  unfolding Laid
+  point-laid s ss j r = go (s .ends) refl
+    where
+      step : stepIn rows points objects j ≡ stepOn rows (s .step)
+      step = step-are rows points objects j (r .0) (r .1) (r .3) (r .4)
+
+      go : (b : Bool) → s .ends ≡ b → pointIn rows points objects j ≡ pointOn rows s
+      go true e = rw e (point-end rows points objects j step (rw e at (r .2)))
+      go false e = rw e (point-start rows points objects j step (rw e at (r .2)))
+
+  all-laid : (ss : List Slot) (j : ℕ) → Laid points objects j ss → pointsIn rows points objects (length ss) j ≡ map (pointOn rows) ss
+  unfolding Laid
+  all-laid [] j r = let z : j - j ≡ 0 = omega arith in rw z at (points-end rows points objects j j (omega arith))
+  all-laid (s ∷ ss) j r = first-points (length ss) j ∙ (λ i. point-laid s ss j r i ∷ all-laid ss (j + 1) (r .5) i)
+
+-- ---- when all slots are gone through: they are those of the time t
+
+module _ (t : ℕ) (l ss : List Slot) {k : ℕ} (n : length ss ≡ k) (e : ss ≡ keep (isAt t) l) where
+  pub points-count : k ≡ length (pointsOn [] t l)
+  points-count = sym n ∙ ap length e ∙ sym (length-map (keep (isAt t) l) (pointOn []))
+
+  pub points-laid : (rows : List ℕ) {points objects : List ℕ} → Laying ss points objects k → pointsIn rows points objects k 0 ≡ pointsOn rows t l
+  points-laid rows {points} {objects} r =
+      rw (← n, ← e) (all-laid rows points objects ss 0 (rw (take-all k ss (omega arith)) at (r .laid)))

@@ -1,15 +1,15 @@
--- A row written behind those that lie there: four numbers and four objects. Assumes nothing.
+-- A point laid after those that lie there: four numbers and four objects. Assumes nothing.
 use Prim.Native.Nat.{ℕ, _+_, _*_, _≤_, _<_}
 use mathlib.Core.List.{List, [], _∷_, _++_}
 use mathlib.Core.Path.{_≡_, refl, sym, _∙_}
 use native.Mathlib.Omega.{arith}
 use lib.ListN.{length, getD, set, length-set}
 use lib.Seq.{getD-set-same, getD-set-other}
-use Rattle.domain_rows.specs.Held.{byteAt}
-use Rattle.domain_rows.proofs.Rows.{byte-is}
-use Rattle.happening_instants.specs.Given.{whoIn}
-use Rattle.happening_instants.proofs.Places.{who-of}
-use Rattle.plan_running.specs.Laid.{Row, Laid}
+use Rattle.happening_forms.specs.Summed.{fourAt}
+use Rattle.happening_placing.proofs.Placing.{four-are}
+use Rattle.plan_meaning.specs.declared.Slot.{Slot}
+use Rattle.plan_waiting.specs.Lent.{whenIn}
+use Rattle.plan_running.specs.Laid.{Laid}
 
 -- ---- four numbers from place n on
 
@@ -57,51 +57,43 @@ module _ (xs : List ℕ) (n p q r s : ℕ) where
 -- ---- objects
 
 module _ (os : List ℕ) (j a b c d : ℕ) where
-  who-there : 4 * j + 4 ≤ length os → whoIn (four os (4 * j) a b c d) j ≡ record { a = a; b = b; c = c; d = d }
-  who-there h =
-      let os′ = four os (4 * j) a b c d in
-      sym
-      (who-of os′ j
-      (sym (byte-is os′ (4 * j) ∙ four-0 os (4 * j) a b c d h))
-      (sym (byte-is os′ (4 * j + 1) ∙ four-1 os (4 * j) a b c d h))
-      (sym (byte-is os′ (4 * j + 2) ∙ four-2 os (4 * j) a b c d h))
-      (sym (byte-is os′ (4 * j + 3) ∙ four-3 os (4 * j) a b c d h)))
+  objects-there : 4 * j + 4 ≤ length os → fourAt (four os (4 * j) a b c d) j ≡ a ∷ b ∷ c ∷ d ∷ []
+  objects-there h =
+      four-are (four os (4 * j) a b c d) j (four-0 os (4 * j) a b c d h) (four-1 os (4 * j) a b c d h) (four-2 os (4 * j) a b c d h)
+      (four-3 os (4 * j) a b c d h)
 
-  byte-below : (k : ℕ) → k < 4 * j → byteAt os k ≡ byteAt (four os (4 * j) a b c d) k
-  byte-below k h = byte-is os k ∙ sym (byte-is (four os (4 * j) a b c d) k ∙ four-below os (4 * j) a b c d k h)
+  objects-below : (k : ℕ) → k < j → fourAt (four os (4 * j) a b c d) k ≡ fourAt os k
+  objects-below k h =
+      four-are (four os (4 * j) a b c d) k (four-below os (4 * j) a b c d (4 * k) (omega arith)) (four-below os (4 * j) a b c d (4 * k + 1) (omega arith))
+      (four-below os (4 * j) a b c d (4 * k + 2) (omega arith)) (four-below os (4 * j) a b c d (4 * k + 3) (omega arith))
+      ∙ sym (four-are os k refl refl refl refl)
 
-  who-below : (k : ℕ) → k < j → whoIn (four os (4 * j) a b c d) k ≡ whoIn os k
-  who-below k h =
-      sym (who-of (four os (4 * j) a b c d) k (byte-below (4 * k) (omega arith)) (byte-below (4 * k + 1) (omega arith))
-      (byte-below (4 * k + 2) (omega arith)) (byte-below (4 * k + 3) (omega arith)))
-      ∙ who-of os k refl refl refl refl
+-- ---- a point, laid as number j
 
--- ---- a row, written as number j
-
-module _ (rows objects : List ℕ) (j : ℕ) (x : Row) where
-  abbrev pub rowsWith : List ℕ
-  rowsWith = four rows (4 * j) (x .step .line) (x .step .action) (x .when) (x .step .duration)
+module _ (points objects : List ℕ) (j : ℕ) (s : Slot) where
+  abbrev pub pointsWith : List ℕ
+  pointsWith = four points (4 * j) (s .step .line) (s .step .action) (whenIn (s .ends)) (s .step .duration)
 
   abbrev pub objectsWith : List ℕ
-  objectsWith = four objects (4 * j) (x .step .a) (x .step .b) (x .step .c) (x .step .d)
+  objectsWith = four objects (4 * j) (s .step .a) (s .step .b) (s .step .c) (s .step .d)
 
-  kept : (i : ℕ) → i < 4 * j → getD rowsWith i 0 ≡ getD rows i 0
-  kept i h = four-below rows (4 * j) (x .step .line) (x .step .action) (x .when) (x .step .duration) i h
+  kept : (i : ℕ) → i < 4 * j → getD pointsWith i 0 ≡ getD points i 0
+  kept i h = four-below points (4 * j) (s .step .line) (s .step .action) (whenIn (s .ends)) (s .step .duration) i h
 
-  module _ (long : 4 * j + 4 ≤ length rows) (wide : 4 * j + 4 ≤ length objects) where
-    laid-there : Laid rowsWith objectsWith j (x ∷ [])
+  module _ (long : 4 * j + 4 ≤ length points) (wide : 4 * j + 4 ≤ length objects) where
+    laid-there : Laid pointsWith objectsWith j (s ∷ [])
     unfolding Laid
     laid-there = (
-      four-0 rows (4 * j) (x .step .line) (x .step .action) (x .when) (x .step .duration) long,
-      four-1 rows (4 * j) (x .step .line) (x .step .action) (x .when) (x .step .duration) long,
-      four-2 rows (4 * j) (x .step .line) (x .step .action) (x .when) (x .step .duration) long,
-      four-3 rows (4 * j) (x .step .line) (x .step .action) (x .when) (x .step .duration) long,
-      who-there objects j (x .step .a) (x .step .b) (x .step .c) (x .step .d) wide,
+      four-0 points (4 * j) (s .step .line) (s .step .action) (whenIn (s .ends)) (s .step .duration) long,
+      four-1 points (4 * j) (s .step .line) (s .step .action) (whenIn (s .ends)) (s .step .duration) long,
+      four-2 points (4 * j) (s .step .line) (s .step .action) (whenIn (s .ends)) (s .step .duration) long,
+      four-3 points (4 * j) (s .step .line) (s .step .action) (whenIn (s .ends)) (s .step .duration) long,
+      objects-there objects j (s .step .a) (s .step .b) (s .step .c) (s .step .d) wide,
       tt,
     )
 
-    -- behind the rows from number k on
-    pub laid-behind : (l : List Row) (k : ℕ) → k + length l ≡ j → Laid rows objects k l → Laid rowsWith objectsWith k (l ++ x ∷ [])
+    -- after those from number k on
+    pub laid-behind : (l : List Slot) (k : ℕ) → k + length l ≡ j → Laid points objects k l → Laid pointsWith objectsWith k (l ++ s ∷ [])
     unfolding Laid
     laid-behind [] k e h = let z : k ≡ j = omega arith in rw z laid-there
     laid-behind (y ∷ l) k e h = (
@@ -109,6 +101,6 @@ module _ (rows objects : List ℕ) (j : ℕ) (x : Row) where
       kept (4 * k + 1) (omega arith) ∙ h .1,
       kept (4 * k + 2) (omega arith) ∙ h .2,
       kept (4 * k + 3) (omega arith) ∙ h .3,
-      who-below objects j (x .step .a) (x .step .b) (x .step .c) (x .step .d) k (omega arith) ∙ h .4,
+      objects-below objects j (s .step .a) (s .step .b) (s .step .c) (s .step .d) k (omega arith) ∙ h .4,
       laid-behind l (k + 1) (omega arith) (h .5),
     )

@@ -8,26 +8,15 @@ use lib.Seq.{getD-take, getD-drop, length-take-le}
 use Rattle.plan_meaning.specs.declared.Slot.{Slot}
 use Rattle.plan_waiting.specs.Waiting.{noSlot, Timed}
 use Rattle.plan_ordering.specs.Keys.{keysIn}
-use Rattle.plan_waiting.specs.Lent.{slotIn, slotAt, queueIn, beginIn, Kept, TimedWord}
-use Rattle.plan_waiting.proofs.LentPlaces.{slots-long, slot-there, timed-place, mapped-at}
+use Rattle.plan_waiting.specs.Lent.{slotIn, slotAt, queueIn, beginIn, placeAt, Kept, TimedWord}
+use Rattle.plan_waiting.proofs.LentPlaces.{timed-place, mapped-at}
 
-module _ (words objects : List ℕ) where
-  abbrev pub slots : List Slot
-  slots = queueIn words objects 0 .slots
+module _ (words objects : List ℕ) (n i : ℕ) (t : Timed (queueIn words objects n)) (h : i < n) where
+  pub place-few : i < 64
+  place-few = let few = t .1 .0 in omega arith
 
-  module _ (n i : ℕ) (t : Timed (queueIn words objects n)) (h : i < n) where
-    pub place-few : i < 64
-    place-few = let few = t .1 .0 in omega arith
-
-    pub place-within : i < length slots
-    place-within = omega (arith, place-few, slots-long words objects)
-
-    module _ {p : ℕ} (ep : p ≡ getD words (384 + i) 0 % 64) where
-      pub place-slot : getD slots i noSlot ≡ slotIn words objects p
-      place-slot = slot-there words objects i place-few ∙ ap (slotIn words objects) (sym ep)
-
-      pub place-timed : TimedWord words p
-      place-timed = rw ep (timed-place words n i (objects, t) h)
+  pub place-timed : {p : ℕ} → p ≡ placeAt words i → TimedWord words p
+  place-timed ep = rw ep (timed-place words n i (objects, t) h)
 
 module _ (words objects : List ℕ) where
   -- the slots of the first k keys

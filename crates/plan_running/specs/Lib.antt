@@ -1,3 +1,4 @@
 -- What the contracts name.
 pub mod Running
+pub mod Lines
 pub mod Laid

@@ -1,15 +1,18 @@
 -- `plan_running::happen_at` meets its contract. Assumes nothing.
+use mathlib.Core.Path.{sym}
 use denote.Ref.{now}
-use Rattle.domain_stored_meaning.specs.Decode.{actionsAt}
-use Rattle.happening_grounds.specs.Grounded.{groundsIn}
-use Rattle.happening_truths.specs.Judged.{stateIn}
+use Rattle.domain_prepared_meaning.specs.Decode.{actionsAt}
+use Rattle.happening_forms.specs.Summed.{summed}
+use Rattle.happening_state.specs.States.{stateIn}
 use Rattle.plan_meaning.specs.Plan.{at}
 use Rattle.plan_meaning.specs.Machine.{underWay}
-use Rattle.plan_waiting.specs.Waiting.{waiting}
+use Rattle.plan_waiting.specs.Waiting.{used, waiting}
 use Rattle.plan_waiting.specs.Lent.{queueIn}
 use Rattle.plan_running.specs.Running.{rulesIn}
 use Rattle.plan_running.proofs.Fuel.{some-at}
 use Rattle.plan_running.proofs.Instant.{instant-past, instant-run}
+use Rattle.plan_running.proofs.Poising.{watched-spanned}
+use Rattle.plan_running.proofs.Underway.{points-are, lines-are}
 use borrow.Author.Needs.{needs}
 use Rattle.plan_running.proofs.happen_at.Statement.{statement}
 use Rattle.plan_running.proofs.happen_at.Tie as tie
@@ -18,19 +21,11 @@ enum-told : tie.Need-enum-told
 enum-told c = search needs
 
 returns : tie.Need-returns
-returns c =
-    let a = c .before .before .before .before .before .args in
-    let waits = waiting (queueIn (now (a .words)) (now (a .objects)) (a .count)) in
-    (λ goal es s sound few. instant-past (rulesIn (now (a .code)) (now (a .starts)) (now (a .firsts)) goal es s) (a .past) (stateIn (now (a .facts)) (now (a .numbers))) (c .match .keys2) (a .t) (at (a .t) waits) (underWay (a .t) waits), c .before .before .before .before .before .pre .3)
+returns c = let a = c .before .before .before .args in let r = now (a .rows) in let q = queueIn (now (a .words)) (now (a .objects)) (a .count) in let st = stateIn (now (a .facts)) (now (a .numbers)) in
+    (λ goal es s sound few. instant-past (rulesIn r goal es s) (a .past) st (c .match .keys2) (a .t) (at (a .t) (waiting q)) (underWay (a .t) (waiting q)), c .before .before .before .pre .4 .same, c .before .before .before .pre .4 .clean, watched-spanned (c .before .before .before .pre .4 .watched) (a .t))
 
-lay-points-requires : tie.Need-lay-points-requires
-lay-points-requires c κs = search needs
-
-lay-lines-requires : tie.Need-lay-lines-requires
-lay-lines-requires c κs = search needs
-
-instant-requires : tie.Need-instant-requires
-instant-requires c κs = search needs
+happen-now-requires : tie.Need-happen-now-requires
+happen-now-requires c κs = search needs
 
 same-length : tie.Need-same-length
 same-length c = search needs
@@ -42,13 +37,11 @@ same-length-3 : tie.Need-same-length-3
 same-length-3 c = search needs
 
 returns-2 : tie.Need-returns-2
-returns-2 c =
-    let entry = c .before .before .before .before .before .before .before .before .before .before .before .before .before .before .before .before .before .before .before .before .before .before .before .before .before .before .before .before in
-    let a = entry .args in
-    let next = entry .pre .1 in
-    let waits = waiting (queueIn (now (a .words)) (now (a .objects)) (a .count)) in
-    let some = some-at (a .t) (next .0) waits (next .1) (next .2) in
-    (λ goal es s sound few. instant-run (groundsIn (now (a .firsts))) goal (actionsAt (now (a .code)) (now (a .starts)) 0 es) s (a .t) (at (a .t) waits) (underWay (a .t) waits) some (a .past) (stateIn (now (a .facts)) (now (a .numbers))) (c .before .before .before .before .before .before .before .before .before .before .before .before .before .before .before .before .before .before .before .before .before .before .enum-told .given .1) (c .before .before .before .before .instant .ensures .0) (c .before .before .before .before .before .before .before .before .before .before .before .before .before .before .before .before .before .before .before .lay-points .ensures .1 (now (a .code)) (now (a .starts)) es (next .0) (next .1) sound few) (c .before .before .before .before .before .before .before .before .before .before .before .before .before .before .before .before .lay-lines .ensures .1 (now (a .code)) (now (a .starts)) es sound few), c .before .before .before .before .instant .ensures .1)
+returns-2 c = let a = c .before .before .before .before .before .before .before .before .before .before .before .before .before .before .before .before .args in let r = now (a .rows) in let q = queueIn (now (a .words)) (now (a .objects)) (a .count) in let st = stateIn (now (a .facts)) (now (a .numbers)) in
+    let next = c .before .before .before .before .before .before .before .before .before .before .before .before .before .before .before .before .pre .1 in
+    let some = some-at (a .t) (next .0) (waiting q) (next .1) (next .2) in
+    let done = c .before .before .before .before .happen-now .ensures in
+    (λ goal es s sound few. instant-run summed goal (actionsAt r 0 es) s (a .t) (at (a .t) (waiting q)) (underWay (a .t) (waiting q)) some (a .past) st (c .before .before .before .before .before .before .before .before .before .before .before .before .enum-told .given .1) (done .0) (sym (points-are r es few (a .t) (used q) (sound .1))) (sym (lines-are r es few (a .t) (used q) (sound .1))), done .1, done .2, done .3)
 
 pub happen-at-spec : {M : Type 1} → statement M
 happen-at-spec =
@@ -56,9 +49,7 @@ happen-at-spec =
     (tie.spec
     enum-told
     returns
-    lay-points-requires
-    lay-lines-requires
-    instant-requires
+    happen-now-requires
     same-length
     same-length-2
     same-length-3

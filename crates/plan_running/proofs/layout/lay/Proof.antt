@@ -11,38 +11,41 @@ use Rattle.plan_running.proofs.layout.lay.Tie as tie
 mul-i : tie.Need-mul-i
 mul-i c = search needs
 
-mul-rows : tie.Need-mul-rows
-mul-rows c = search needs
+mul-points : tie.Need-mul-points
+mul-points c = search needs
 
-slice-write-rows : tie.Need-slice-write-rows
-slice-write-rows c = search needs
+slice-write-points : tie.Need-slice-write-points
+slice-write-points c = search needs
 
-add-rows : tie.Need-add-rows
-add-rows c = search needs
+add-points : tie.Need-add-points
+add-points c = search needs
 
-mul-rows-2 : tie.Need-mul-rows-2
-mul-rows-2 c = search needs
+mul-points-2 : tie.Need-mul-points-2
+mul-points-2 c = search needs
 
-slice-write-rows-2 : tie.Need-slice-write-rows-2
-slice-write-rows-2 c = simp length-set (omega arith)
+slice-write-points-2 : tie.Need-slice-write-points-2
+slice-write-points-2 c = simp length-set (omega arith)
 
-add-rows-2 : tie.Need-add-rows-2
-add-rows-2 c = search needs
+when-of-requires : tie.Need-when-of-requires
+when-of-requires c κs = search needs
 
-mul-rows-3 : tie.Need-mul-rows-3
-mul-rows-3 c = search needs
+add-points-2 : tie.Need-add-points-2
+add-points-2 c = search needs
 
-slice-write-rows-3 : tie.Need-slice-write-rows-3
-slice-write-rows-3 c = simp length-set (omega arith)
+mul-points-3 : tie.Need-mul-points-3
+mul-points-3 c = search needs
 
-add-rows-3 : tie.Need-add-rows-3
-add-rows-3 c = search needs
+slice-write-points-3 : tie.Need-slice-write-points-3
+slice-write-points-3 c = simp length-set (omega arith)
 
-mul-rows-4 : tie.Need-mul-rows-4
-mul-rows-4 c = search needs
+add-points-3 : tie.Need-add-points-3
+add-points-3 c = search needs
 
-slice-write-rows-4 : tie.Need-slice-write-rows-4
-slice-write-rows-4 c = simp length-set (omega arith)
+mul-points-4 : tie.Need-mul-points-4
+mul-points-4 c = search needs
+
+slice-write-points-4 : tie.Need-slice-write-points-4
+slice-write-points-4 c = simp length-set (omega arith)
 
 slice-write-whos : tie.Need-slice-write-whos
 slice-write-whos c = search needs
@@ -72,28 +75,28 @@ same-length-2 : tie.Need-same-length-2
 same-length-2 c = search needs
 
 returns : tie.Need-returns
-returns c =
-    let a = c .args in
-    let e : 4 * a .j + 4 ≤ length (now (a .rows)) = omega arith in
+returns c = let a = c .before .before .before .before .args in
+    let e : 4 * a .j + 4 ≤ length (now (a .points)) = omega arith in
     let d : 4 * a .j + 4 ≤ length (now (a .whos)) = omega arith in
-    λ l h k. laid-behind (now (a .rows)) (now (a .whos)) (a .j) (record { step = a .x; when = a .when }) e d l 0 (omega (arith, h)) k
+    λ l h k. rw (c .when-of .ensures) (laid-behind (now (a .points)) (now (a .whos)) (a .j) (a .s) e d l 0 (omega (arith, h)) k)
 
 pub lay-spec : {M : Type 1} → statement M
 lay-spec =
     tie.close
     (tie.spec
     mul-i
-    mul-rows
-    slice-write-rows
-    add-rows
-    mul-rows-2
-    slice-write-rows-2
-    add-rows-2
-    mul-rows-3
-    slice-write-rows-3
-    add-rows-3
-    mul-rows-4
-    slice-write-rows-4
+    mul-points
+    slice-write-points
+    add-points
+    mul-points-2
+    slice-write-points-2
+    when-of-requires
+    add-points-2
+    mul-points-3
+    slice-write-points-3
+    add-points-3
+    mul-points-4
+    slice-write-points-4
     slice-write-whos
     add-whos
     slice-write-whos-2
