@@ -1,5 +1,5 @@
-// A line that has ended, and the plan's end. The points that wait are `count` in `words` and `objects`; points, whos, lines and others are
-// lent to be written in.
+// A line that has ended, and the plan's end. The points that wait are `count` in `words` and `objects`; points, whos, marks and watches are lent to
+// what executes them.
 use crate::PlanProgress;
 use crate::Went;
 use domain_terms::scope::Counts;
@@ -16,9 +16,9 @@ ghost use Prim.Native.Nat.{ℕ, _≤_, _<_, max};
 ghost use lib.ListN.{length, take};
 ghost use Rattle.domain_meaning.specs.Tables.{Table};
 ghost use Rattle.domain_meaning.specs.Conditions.{Cond};
-ghost use Rattle.domain_stored_meaning.specs.Decode.{conditionAt};
+ghost use Rattle.domain_prepared_meaning.specs.Decode.{goalAt};
 ghost use Rattle.domain_stored_meaning.specs.Entries.{signedIn};
-ghost use Rattle.happening_truths.specs.Judged.{stateIn};
+ghost use Rattle.happening_state.specs.States.{stateIn};
 ghost use Rattle.happening_meaning.specs.State.{State};
 ghost use Rattle.plan_meaning.specs.Machine as M;
 ghost use Rattle.plan_meaning.specs.Machine.{drain, drained, waits, finish};
@@ -27,8 +27,8 @@ ghost use Rattle.plan_meaning.specs.Feed.{reading, close};
 ghost use Rattle.plan_meaning.specs.Stored.{stepIn};
 ghost use Rattle.plan_meaning.specs.Lines.{reader, limits};
 ghost use Rattle.plan_waiting.specs.Waiting.{waiting, soundStep, Sound, Timed, TimedStep};
-ghost use Rattle.plan_waiting.specs.Lent.{queueIn, Kept};
-ghost use Rattle.plan_running.specs.Running.{runIn, rulesIn};
+ghost use Rattle.plan_waiting.specs.Lent.{queueIn};
+ghost use Rattle.plan_running.specs.Running.{runIn, rulesIn, Rowed, Poised};
 ghost use Rattle.plan_lines.specs.Knowing.{Tabled, Headed, knownIn};
 ghost use Rattle.plan_feeding.specs.Feeding.{refusedIn, checkIn, closedIn, refusing, going, Fit};
 
@@ -67,9 +67,7 @@ fn begun(p: PlanProgress, start: usize, past: Past) -> PlanProgress
 
 // A step: what waits below its start happens, then its points wait. "18 too many waiting points: line end"
 fn take_step<'a>(
-    code: &'a [u8],
-    starts: &'a [usize],
-    firsts: &'a [u16],
+    rows: &'a [u8],
     facts: &mut [u8],
     numbers: &mut [i64],
     fresh: &mut [i64],
@@ -80,31 +78,30 @@ fn take_step<'a>(
     x: Step,
     points: &mut [usize; 256],
     whos: &mut [u8; 256],
-    lines: &mut [usize; 256],
-    others: &mut [u8; 256],
+    marks: &mut [u8; 17408],
+    watches: &mut [usize; 65],
 ) -> Went
     requires { ⌜
         Timed (queueIn (now words) (now objects) count) × (p .refused ≡ false) × (x .line ≡ p .number) × (x .start < 1000000000000) × (x .width ≤ 257)
-        × (length (now code) ≤ 32768) × (now fresh ≡ now numbers) × Kept (now words) (now objects) count × TimedStep x
+        × Rowed (now rows) × Poised (now rows) (now words) (now objects) count (now marks) (now watches) (now facts) (now numbers) (now fresh)
+        × TimedStep x
         ⌝ }
     ensures { λ r. ⌜
         ((c : Cond) (es : Table) (s : State) → Sound (length es) (queueIn (now (words .entry)) (now (objects .entry)) count) → length es ≤ 32
         → checkIn (stateIn (now (facts .exit)) (now (numbers .exit))) (queueIn (now (words .exit)) (now (objects .exit)) (r .count)) (r .progress)
-        ≡ drained (rulesIn (now (code .entry)) (now (starts .entry)) (now (firsts .entry)) c es s) limits (stepIn x)
-        (drain (rulesIn (now (code .entry)) (now (starts .entry)) (now (firsts .entry)) c es s)
-        (length (waiting (queueIn (now (words .entry)) (now (objects .entry)) count))) (x .start)
+        ≡ drained (rulesIn (now (rows .entry)) c es s) limits (stepIn x)
+        (drain (rulesIn (now (rows .entry)) c es s) (length (waiting (queueIn (now (words .entry)) (now (objects .entry)) count))) (x .start)
         (runIn (p .past) (stateIn (now (facts .entry)) (now (numbers .entry))))
         (waiting (queueIn (now (words .entry)) (now (objects .entry)) count))))
         × ((n : ℕ) → Sound n (queueIn (now (words .entry)) (now (objects .entry)) count) → soundStep n x ≡ true
         → Sound n (queueIn (now (words .exit)) (now (objects .exit)) (r .count)))
         × (r .progress .used ≡ p .used) × (r .progress .number ≡ p .number) × ((m : ℕ) → p .start < m → x .start < m → r .progress .start < m)
-        × (now (fresh .exit) ≡ now (numbers .exit)) × Kept (now (words .exit)) (now (objects .exit)) (r .count)
+        × Poised (now (rows .entry)) (now (words .exit)) (now (objects .exit)) (r .count) (now (marks .exit)) (now (watches .exit)) (now (facts .exit))
+        (now (numbers .exit)) (now (fresh .exit))
         ⌝ }
 {
     let d = plan_running::drain_below(
-        code,
-        starts,
-        firsts,
+        rows,
         facts,
         numbers,
         fresh,
@@ -115,8 +112,8 @@ fn take_step<'a>(
         p.past,
         points,
         whos,
-        lines,
-        others,
+        marks,
+        watches,
     );
     let n = d.count;
     if 64 < n + plan_waiting::points_of(x) {
@@ -137,9 +134,7 @@ pub fn take_line<'a>(
     counts: Counts,
     heads: &'a [u8],
     acting: usize,
-    code: &'a [u8],
-    starts: &'a [usize],
-    firsts: &'a [u16],
+    rows: &'a [u8],
     facts: &mut [u8],
     numbers: &mut [i64],
     fresh: &mut [i64],
@@ -150,36 +145,28 @@ pub fn take_line<'a>(
     p: PlanProgress,
     points: &mut [usize; 256],
     whos: &mut [u8; 256],
-    lines: &mut [usize; 256],
-    others: &mut [u8; 256],
+    marks: &mut [u8; 17408],
+    watches: &mut [usize; 65],
 ) -> Went
     requires { ⌜
         Tabled (now tables) counts × Headed (now heads) acting × Fit acting (queueIn (now words) (now objects) count) p × (p .refused ≡ false)
-        × (length (now line) ≡ 257) × (length (now code) ≤ 32768) × (now fresh ≡ now numbers) × Kept (now words) (now objects) count
+        × (length (now line) ≡ 257) × Rowed (now rows)
+        × Poised (now rows) (now words) (now objects) count (now marks) (now watches) (now facts) (now numbers) (now fresh)
         ⌝ }
     ensures { λ r. ⌜
         ((c : Cond) (s : State)
         → checkIn (stateIn (now (facts .exit)) (now (numbers .exit))) (queueIn (now (words .exit)) (now (objects .exit)) (r .count)) (r .progress)
-        ≡ M.take (rulesIn (now (code .entry)) (now (starts .entry)) (now (firsts .entry)) c (signedIn (now (heads .entry)) acting) s) limits
+        ≡ M.take (rulesIn (now (rows .entry)) c (signedIn (now (heads .entry)) acting) s) limits
         (checkIn (stateIn (now (facts .entry)) (now (numbers .entry))) (queueIn (now (words .entry)) (now (objects .entry)) count) p)
-        (reader (knownIn (now (tables .entry)) counts (now (heads .entry)) acting (now (code .entry)) (now (starts .entry))) .line (p .number)
+        (reader (knownIn (now (tables .entry)) counts (now (heads .entry)) acting (now (rows .entry))) .line (p .number)
         (p .start) (take (p .used) (now (line .entry)))))
         × Fit acting (queueIn (now (words .exit)) (now (objects .exit)) (r .count)) (r .progress) × (r .progress .number ≡ p .number)
-        × (now (fresh .exit) ≡ now (numbers .exit)) × Kept (now (words .exit)) (now (objects .exit)) (r .count)
+        × Poised (now (rows .entry)) (now (words .exit)) (now (objects .exit)) (r .count) (now (marks .exit)) (now (watches .exit)) (now (facts .exit))
+        (now (numbers .exit)) (now (fresh .exit))
         ⌝ }
 {
     let text = runs::part_of(line, 0, p.used);
-    let l = steps::line_at(
-        text,
-        tables,
-        counts,
-        heads,
-        acting,
-        code,
-        starts,
-        p.number,
-        p.start,
-    );
+    let l = steps::line_at(text, tables, counts, heads, acting, rows, p.number, p.start);
     match l {
         Line::Blank => Went { count, progress: p },
         Line::Refused(k, place) => Went {
@@ -187,9 +174,7 @@ pub fn take_line<'a>(
             progress: refuse(p, k, place + 1),
         },
         Line::Read(x) => take_step(
-            code,
-            starts,
-            firsts,
+            rows,
             facts,
             numbers,
             fresh,
@@ -200,8 +185,8 @@ pub fn take_line<'a>(
             x,
             points,
             whos,
-            lines,
-            others,
+            marks,
+            watches,
         ),
     }
 }
@@ -212,30 +197,18 @@ pub fn refuse_long<'a>(
     counts: Counts,
     heads: &'a [u8],
     acting: usize,
-    code: &'a [u8],
-    starts: &'a [usize],
+    rows: &'a [u8],
     text: &'a [u8],
     p: PlanProgress,
 ) -> PlanProgress
     requires { ⌜ Tabled (now tables) counts × Headed (now heads) acting × (length (now text) ≡ 257) ⌝ }
     ensures { λ r. ⌜
         (refusedIn r
-        ≡ reader (knownIn (now (tables .entry)) counts (now (heads .entry)) acting (now (code .entry)) (now (starts .entry))) .long (p .number)
-        (p .start) (now (text .entry)))
+        ≡ reader (knownIn (now (tables .entry)) counts (now (heads .entry)) acting (now (rows .entry))) .long (p .number) (p .start) (now (text .entry)))
         × (r ≡ refusing p (r .refusal) (r .column))
         ⌝ }
 {
-    let l = steps::line_at(
-        text,
-        tables,
-        counts,
-        heads,
-        acting,
-        code,
-        starts,
-        p.number,
-        p.start,
-    );
+    let l = steps::line_at(text, tables, counts, heads, acting, rows, p.number, p.start);
     match l {
         Line::Blank => refuse(p, 14, 257),
         Line::Read(_) => refuse(p, 14, 257),
@@ -254,10 +227,8 @@ fn higher(a: usize, b: usize) -> usize
 
 // What waits happens, all of it, and the goal is tested.
 fn end_run<'a>(
-    code: &'a [u8],
-    starts: &'a [usize],
+    rows: &'a [u8],
     goal: &'a [u8],
-    firsts: &'a [u16],
     facts: &mut [u8],
     numbers: &mut [i64],
     fresh: &mut [i64],
@@ -267,24 +238,22 @@ fn end_run<'a>(
     p: PlanProgress,
     points: &mut [usize; 256],
     whos: &mut [u8; 256],
-    lines: &mut [usize; 256],
-    others: &mut [u8; 256],
+    marks: &mut [u8; 17408],
+    watches: &mut [usize; 65],
 ) -> Past
-    requires { ⌜ Timed (queueIn (now words) (now objects) count) × (p .start < 1000000000000) × (length (now code) ≤ 32768) × (now fresh ≡ now numbers)
-        × Kept (now words) (now objects) count ⌝ }
+    requires { ⌜ Timed (queueIn (now words) (now objects) count) × (p .start < 1000000000000) × Rowed (now rows)
+        × Poised (now rows) (now words) (now objects) count (now marks) (now watches) (now facts) (now numbers) (now fresh) ⌝ }
     ensures { λ r. ⌜
         ((es : Table) (s : State) → Sound (length es) (queueIn (now (words .entry)) (now (objects .entry)) count) → length es ≤ 32
         → P.ended (runIn r (stateIn (now (facts .exit)) (now (numbers .exit))))
-        ≡ finish (rulesIn (now (code .entry)) (now (starts .entry)) (now (firsts .entry)) (conditionAt (now (goal .entry)) 0 .tree) es s) limits
+        ≡ finish (rulesIn (now (rows .entry)) (goalAt (now (goal .entry))) es s) limits
         (waits (runIn (p .past) (stateIn (now (facts .entry)) (now (numbers .entry)))) (p .start)
         (waiting (queueIn (now (words .entry)) (now (objects .entry)) count))))
         ⌝ }
 {
     let b = 1 + higher(p.start, lent::last(words, count));
     let d = plan_running::drain_below(
-        code,
-        starts,
-        firsts,
+        rows,
         facts,
         numbers,
         fresh,
@@ -295,10 +264,10 @@ fn end_run<'a>(
         p.past,
         points,
         whos,
-        lines,
-        others,
+        marks,
+        watches,
     );
-    plan_running::judge(goal, firsts, facts, numbers, d.past)
+    plan_running::judge(goal, facts, numbers, d.past)
 }
 
 // The plan's end: its last line, what waits, and the goal.
@@ -307,10 +276,8 @@ pub fn end_plan<'a>(
     counts: Counts,
     heads: &'a [u8],
     acting: usize,
-    code: &'a [u8],
-    starts: &'a [usize],
+    rows: &'a [u8],
     goal: &'a [u8],
-    firsts: &'a [u16],
     facts: &mut [u8],
     numbers: &mut [i64],
     fresh: &mut [i64],
@@ -320,15 +287,13 @@ pub fn end_plan<'a>(
 ) -> PlanProgress
     requires { ⌜
         Tabled (now tables) counts × Headed (now heads) acting × Fit acting queue p × (p .refused ≡ false) × (length (now line) ≡ 257)
-        × (length (now code) ≤ 32768) × (now fresh ≡ now numbers)
+        × Rowed (now rows) × (now fresh ≡ now numbers)
         ⌝ }
     ensures { λ r. ⌜
         ((s : State)
         → closedIn (stateIn (now (facts .exit)) (now (numbers .exit))) r
-        ≡ close
-        (rulesIn (now (code .entry)) (now (starts .entry)) (now (firsts .entry)) (conditionAt (now (goal .entry)) 0 .tree)
-        (signedIn (now (heads .entry)) acting) s)
-        limits (reader (knownIn (now (tables .entry)) counts (now (heads .entry)) acting (now (code .entry)) (now (starts .entry))))
+        ≡ close (rulesIn (now (rows .entry)) (goalAt (now (goal .entry))) (signedIn (now (heads .entry)) acting) s) limits
+        (reader (knownIn (now (tables .entry)) counts (now (heads .entry)) acting (now (rows .entry))))
         (reading (checkIn (stateIn (now (facts .entry)) (now (numbers .entry))) queue p) (p .number) (take (p .used) (now (line .entry)))))
         ⌝ }
 {
@@ -336,17 +301,15 @@ pub fn end_plan<'a>(
     let mut objects = [0u8; 256];
     let mut points = [0usize; 256];
     let mut whos = [0u8; 256];
-    let mut lines = [0usize; 256];
-    let mut others = [0u8; 256];
+    let mut marks = [0u8; 17408];
+    let mut watches = [0usize; 65];
     lent::lend(queue, &mut words, &mut objects);
     let t = take_line(
         tables,
         counts,
         heads,
         acting,
-        code,
-        starts,
-        firsts,
+        rows,
         facts,
         numbers,
         fresh,
@@ -357,8 +320,8 @@ pub fn end_plan<'a>(
         p,
         &mut points,
         &mut whos,
-        &mut lines,
-        &mut others,
+        &mut marks,
+        &mut watches,
     );
     let last = t.progress;
     let refused = last.refused;
@@ -366,10 +329,8 @@ pub fn end_plan<'a>(
         return last;
     }
     let past = end_run(
-        code,
-        starts,
+        rows,
         goal,
-        firsts,
         facts,
         numbers,
         fresh,
@@ -379,8 +340,8 @@ pub fn end_plan<'a>(
         last,
         &mut points,
         &mut whos,
-        &mut lines,
-        &mut others,
+        &mut marks,
+        &mut watches,
     );
     begun(last, last.start, past)
 }

@@ -2,11 +2,11 @@
 use mathlib.Core.Path.{_≡_, refl, _∙_}
 use denote.Ref.{now}
 use lib.ListN.{take}
-use Rattle.domain_stored_meaning.specs.Decode.{conditionAt}
+use Rattle.domain_prepared_meaning.specs.Decode.{goalAt}
 use Rattle.domain_stored_meaning.specs.Entries.{signedIn}
 use Rattle.domain_meaning.specs.Conditions.{Cond}
 use Rattle.domain_meaning.specs.Tables.{Table}
-use Rattle.happening_truths.specs.Judged.{stateIn}
+use Rattle.happening_state.specs.States.{stateIn}
 use Rattle.happening_meaning.specs.State.{State}
 use Rattle.happening_meaning.specs.declared.Outcome.{Outcome}
 use Rattle.plan_meaning.specs.Plan.{Rules}
@@ -16,6 +16,7 @@ use Rattle.plan_meaning.specs.Text.{Reader}
 use Rattle.plan_meaning.specs.Lines.{Refused, reader, limits}
 use Rattle.plan_lines.specs.Knowing.{knownIn}
 use Rattle.plan_running.specs.Running.{rulesIn}
+use Rattle.plan_running.proofs.Poising.{poised-none}
 use Rattle.plan_waiting.specs.Lent.{queueIn}
 use Rattle.plan_waiting.specs.declared.Queue.{Queue}
 use Rattle.plan_feeding.specs.Feeding.{checkIn}
@@ -27,33 +28,33 @@ use Rattle.plan_feeding.proofs.stepping.end_plan.Statement.{statement}
 use Rattle.plan_feeding.proofs.stepping.end_plan.Tie as tie
 
 abbrev start : tie.After-take-line → tie.Start
-start c = c .before .before .before .before .before .before .before .before .before .before .before .before .before .before .before .before .before .before .before .before .before
+start c = c .before .before .before .before .before .before .before .before .before .before .before .before .before .before .before .before .before .before .before
 
 abbrev goal : tie.Start → Cond
-goal c = conditionAt (now (c .args .goal)) 0 .tree
+goal c = goalAt (now (c .args .goal))
 
 abbrev heads : tie.Start → Table
 heads c = signedIn (now (c .args .heads)) (c .args .acting)
 
 abbrev rules : tie.Start → State → Rules State Act Outcome
-rules c s = rulesIn (now (c .args .code)) (now (c .args .starts)) (now (c .args .firsts)) (goal c) (heads c) s
+rules c s = rulesIn (now (c .args .rows)) (goal c) (heads c) s
 
 abbrev reads : tie.Start → Reader Act Refused
-reads c = reader (knownIn (now (c .args .tables)) (c .args .counts) (now (c .args .heads)) (c .args .acting) (now (c .args .code)) (now (c .args .starts)))
+reads c = reader (knownIn (now (c .args .tables)) (c .args .counts) (now (c .args .heads)) (c .args .acting) (now (c .args .rows)))
 
 -- the state before the last line, and behind it
 abbrev first : tie.Start → State
 first c = stateIn (now (c .args .facts)) (now (c .args .numbers))
 
 abbrev there : tie.After-take-line → State
-there c = stateIn (c .take-line .last .1 .1 .1 .1 .1 .1 .1 .0) (c .take-line .last .1 .1 .1 .1 .1 .1 .1 .1 .0)
+there c = stateIn (c .take-line .last .1 .1 .1 .1 .1 .0) (c .take-line .last .1 .1 .1 .1 .1 .1 .0)
 
 -- the queue as it is lent, and behind the last line
 abbrev lent : tie.After-lend → Queue
-lent c = queueIn (c .lend .last .1 .0) (c .lend .last .1 .1 .0) (c .before .before .before .before .before .before .before .before .before .before .before .args .queue .count)
+lent c = queueIn (c .lend .last .1 .0) (c .lend .last .1 .1 .0) (c .before .before .before .before .before .before .before .before .before .args .queue .count)
 
 abbrev after : tie.After-take-line → Queue
-after c = let t = c .take-line in queueIn (t .last .1 .1 .1 .1 .1 .1 .1 .1 .1 .1 .1 .0) (t .last .1 .1 .1 .1 .1 .1 .1 .1 .1 .1 .1 .1 .0) (t .result .count)
+after c = let t = c .take-line in queueIn (t .last .1 .1 .1 .1 .1 .1 .1 .1 .1 .0) (t .last .1 .1 .1 .1 .1 .1 .1 .1 .1 .1 .0) (t .result .count)
 
 taken : (c : tie.After-take-line) (s : State) → (let a = start c .args in
     checkIn (there c) (after c) (c .take-line .result .progress)
@@ -64,14 +65,14 @@ taken c s =
     rw (← check-alike (a .queue) (lent l) (l .lend .ensures .1) (first (start c)) (a .p)) (c .take-line .ensures .0 (goal (start c)) s)
 
 lend-requires : tie.Need-lend-requires
-lend-requires c κs = let s = c .before .before .before .before .before .before .before .before .before .before in (s .args .acting, s .pre .2 .0)
+lend-requires c κs = let s = c .before .before .before .before .before .before .before .before in (s .args .acting, s .pre .2 .0)
 
 take-line-requires : tie.Need-take-line-requires
 take-line-requires c κs =
     let l = c .before .before .before .before .before .before .before .before .before in
-    let s = l .before .before .before .before .before .before .before .before .before .before .before in
+    let s = l .before .before .before .before .before .before .before .before .before in
     let a = s .args in
-    (s .pre .0, s .pre .1, fit-alike (a .queue) (lent l) (l .lend .ensures .1) (a .acting) (a .p) refl (s .pre .2), s .pre .3, s .pre .4, s .pre .5, s .pre .6, l .lend .ensures .0)
+    (s .pre .0, s .pre .1, fit-alike (a .queue) (lent l) (l .lend .ensures .1) (a .acting) (a .p) refl (s .pre .2), s .pre .3, s .pre .4, s .pre .5, poised-none _ _ _ _ _ _ _ (l .lend .ensures .0) (s .pre .6))
 
 same-length : tie.Need-same-length
 same-length c = search needs
@@ -94,7 +95,7 @@ end-run-requires : tie.Need-end-run-requires
 end-run-requires c κs =
     let v = c .before .before .before .before .before .before .before .before .before .before .before .before .before .before .before in
     let t = v .take-line .ensures in
-    ((start v .args .acting, t .1 .0), t .1 .1, start v .pre .5, t .3, t .4)
+    ((start v .args .acting, t .1 .0), t .1 .1, start v .pre .5, t .3)
 
 begun-requires : tie.Need-begun-requires
 begun-requires c κs = search needs
@@ -115,7 +116,7 @@ returns-2 c =
     let t = v .take-line in
     let r = c .before .before .before .before .before .end-run in
     let n = signed-length (now (a .heads)) (a .acting) in
-    let last = stateIn (r .last .1 .1 .1 .1 .0) (r .last .1 .1 .1 .1 .1 .0) in
+    let last = stateIn (r .last .1 .1 .0) (r .last .1 .1 .1 .0) in
     λ s. closed-run (rules (start v) s) (first (start v)) (there v) (a .queue) (a .p) (reads (start v)) (start v .pre .3)
     (take (a .p .used) (now (a .line))) (after v) (t .result .progress) (taken v s) last (r .result)
     (c .begun .result) (c .before .before .before .before .before .before .before .before .before .before .before .before .before .before .before .if1 .left) (c .begun .ensures)

@@ -14,10 +14,10 @@ use Rattle.plan_feeding.proofs.stepping.refuse_long.Statement.{statemen
 use Rattle.plan_feeding.proofs.stepping.refuse_long.Tie as tie
 
 abbrev start : tie.After-line-at → tie.Start
-start c = c .before .before .before .before .before .before
+start c = c .before .before .before .before .before
 
 abbrev known : tie.Start → Known
-known c = knownIn (now (c .args .tables)) (c .args .counts) (now (c .args .heads)) (c .args .acting) (now (c .args .code)) (now (c .args .starts))
+known c = knownIn (now (c .args .tables)) (c .args .counts) (now (c .args .heads)) (c .args .acting) (now (c .args .rows))
 
 -- what the definition reads, and the refusal of the line by it
 abbrev found : tie.Start → Read (Option (Step Act))

@@ -13,7 +13,7 @@ use Rattle.domain_meaning.specs.Read.{Read}
 use Rattle.domain_meaning.specs.Tables.{Table}
 use Rattle.happening_meaning.specs.State.{State}
 use Rattle.happening_meaning.specs.declared.Outcome.{Outcome}
-use Rattle.happening_truths.specs.Judged.{stateIn}
+use Rattle.happening_state.specs.States.{stateIn}
 use Rattle.plan_meaning.specs.Plan.{Step, Rules}
 use Rattle.plan_meaning.specs.Promised.{Act}
 use Rattle.plan_meaning.specs.Lines.{Known, lineAt}
@@ -33,16 +33,16 @@ use Rattle.plan_feeding.proofs.stepping.take_line.Statement.{statement}
 use Rattle.plan_feeding.proofs.stepping.take_line.Tie as tie
 
 abbrev start : tie.After-line-at → tie.Start
-start c = c .before .before .before .before .before .before .before .before .before
+start c = c .before .before .before .before .before .before .before
 
 abbrev known : tie.Start → Known
-known c = knownIn (now (c .args .tables)) (c .args .counts) (now (c .args .heads)) (c .args .acting) (now (c .args .code)) (now (c .args .starts))
+known c = knownIn (now (c .args .tables)) (c .args .counts) (now (c .args .heads)) (c .args .acting) (now (c .args .rows))
 
 abbrev heads : tie.Start → Table
 heads c = signedIn (now (c .args .heads)) (c .args .acting)
 
 abbrev rules : tie.Start → Cond → State → Rules State Act Outcome
-rules c g s = rulesIn (now (c .args .code)) (now (c .args .starts)) (now (c .args .firsts)) g (heads c) s
+rules c g s = rulesIn (now (c .args .rows)) g (heads c) s
 
 abbrev first : tie.Start → State
 first c = stateIn (now (c .args .facts)) (now (c .args .numbers))
@@ -105,7 +105,7 @@ take-step-requires c κs =
     let g = lined-read (a .acting) (v .line-at .result) y (found (start v)) (l .1) (lined v) in
     let n = read-line (text (start v)) (known (start v)) (a .p .number) (a .p .start) (a .acting) y g in
     let w = read-width (text (start v)) (known (start v)) (a .p .number) (a .p .start) (a .acting) y g in
-    ((a .acting, pre .2 .0), pre .3, n, g .within .1, omega (arith, width (start v), w), pre .5, pre .6, pre .7, (a .acting, sound-step-of (a .acting) y (g .within .0) (g .within .1) (g .within .2)))
+    ((a .acting, pre .2 .0), pre .3, n, g .within .1, omega (arith, width (start v), w), pre .5, pre .6, (a .acting, sound-step-of (a .acting) y (g .within .0) (g .within .1) (g .within .2)))
 
 returns : tie.Need-returns
 returns c =
@@ -117,7 +117,6 @@ returns c =
       pre .2,
       refl,
       pre .6,
-      pre .7,
     )
 
 returns-2 : tie.Need-returns-2
@@ -132,7 +131,6 @@ returns-2 c =
       rw (r .ensures) (pre .2),
       ap (λ (w : PlanProgress). w .number) (r .ensures),
       pre .6,
-      pre .7,
     )
 
 same-length : tie.Need-same-length
@@ -154,8 +152,8 @@ returns-3 c =
     let t = c .before .before .before .before .take-step in
     let i = lined-read (a .acting) (v .line-at .result) y (found (start v)) (l .1) (lined v) .within in
     let n = signed-length (now (a .heads)) (a .acting) in
-    let left = queueIn (t .last .1 .1 .1 .1 .1 .1 .0) (t .last .1 .1 .1 .1 .1 .1 .1 .0) (t .result .count) in
-    let new = checkIn (stateIn (t .last .1 .1 .1 .0) (t .last .1 .1 .1 .1 .0)) left (t .result .progress) in (
+    let left = queueIn (t .last .1 .1 .1 .1 .0) (t .last .1 .1 .1 .1 .1 .0) (t .result .count) in
+    let new = checkIn (stateIn (t .last .1 .0) (t .last .1 .1 .0)) left (t .result .progress) in (
       λ g s. taken-step (rules (start v) g s) (first (start v)) (before (start v)) (a .p) (pre .3) (a .acting) (v .line-at .result)
           (found (start v)) (lined v) new y (l .1)
           (t .ensures .0 g (heads (start v)) s (rw n (pre .2 .0)) (rw n (pre .1 .1))),
@@ -168,7 +166,6 @@ returns-3 c =
       ),
       t .ensures .3,
       t .ensures .5,
-      t .ensures .6,
     )
 
 pub take-line-spec : {M : Type 1} → statement M

@@ -6,12 +6,13 @@ use denote.Ref.{now}
 use lib.ListN.{length}
 use Rattle.domain_meaning.specs.Conditions.{Cond}
 use Rattle.domain_meaning.specs.Tables.{Table}
-use Rattle.happening_truths.specs.Judged.{stateIn}
+use Rattle.happening_state.specs.States.{stateIn}
 use Rattle.happening_meaning.specs.State.{State}
 use Rattle.happening_meaning.specs.declared.Outcome.{Outcome}
 use Rattle.plan_meaning.specs.Plan.{Rules}
 use Rattle.plan_meaning.specs.Promised.{Act}
 use Rattle.plan_running.specs.Running.{rulesIn}
+use Rattle.plan_running.proofs.Poising.{poised-enter}
 use Rattle.plan_waiting.specs.Lent.{queueIn}
 use Rattle.plan_waiting.specs.declared.Queue.{Queue}
 use Rattle.plan_waiting.proofs.LentPlaces.{slots-long}
@@ -22,14 +23,14 @@ use Rattle.plan_feeding.proofs.stepping.take_step.Statement.{statement}
 use Rattle.plan_feeding.proofs.stepping.take_step.Tie as tie
 
 abbrev start : tie.After-drain-below → tie.Start
-start c = c .before .before .before .before .before .before .before .before .before .before .before .before .before .before
+start c = c .before .before .before .before .before .before .before .before .before .before .before .before
 
 abbrev rules : tie.Start → Cond → Table → State → Rules State Act Outcome
-rules c g es s = rulesIn (now (c .args .code)) (now (c .args .starts)) (now (c .args .firsts)) g es s
+rules c g es s = rulesIn (now (c .args .rows)) g es s
 
 -- the state at the step's start, and before
 abbrev there : tie.After-drain-below → State
-there c = stateIn (c .drain-below .last .1 .1 .1 .0) (c .drain-below .last .1 .1 .1 .1 .0)
+there c = stateIn (c .drain-below .last .1 .0) (c .drain-below .last .1 .1 .0)
 
 abbrev first : tie.Start → State
 first c = stateIn (now (c .args .facts)) (now (c .args .numbers))
@@ -39,19 +40,19 @@ abbrev before : tie.Start → Queue
 before c = queueIn (now (c .args .words)) (now (c .args .objects)) (c .args .count)
 
 abbrev left : tie.After-drain-below → Queue
-left c = let d = c .drain-below in queueIn (d .last .1 .1 .1 .1 .1 .1 .0) (now (start c .args .objects)) (d .result .count)
+left c = let d = c .drain-below in queueIn (d .last .1 .1 .1 .1 .0) (now (start c .args .objects)) (d .result .count)
 
 -- they have all their places, and are no more than places
 long : (c : tie.After-drain-below) → length (left c .slots) ≡ 64
-long c = let d = c .drain-below in slots-long (d .last .1 .1 .1 .1 .1 .1 .0) (now (start c .args .objects))
+long c = let d = c .drain-below in slots-long (d .last .1 .1 .1 .1 .0) (now (start c .args .objects))
 
 few : (c : tie.After-drain-below) → c .drain-below .result .count ≤ 64
 few c = let t = start c .pre .0 in c .drain-below .ensures .1 (t .0) (t .1) .0
 
 drain-below-requires : tie.Need-drain-below-requires
 drain-below-requires c κs =
-    let s = c .before .before .before .before .before .before .before .before .before .before .before .before .before in
-    (s .pre .0, s .pre .5, s .pre .6, s .pre .7)
+    let s = c .before .before .before .before .before .before .before .before .before .before .before in
+    (s .pre .0, s .pre .5, s .pre .6)
 
 points-of-requires : tie.Need-points-of-requires
 points-of-requires c κs = search needs
@@ -92,13 +93,12 @@ returns c =
       ap (λ (w : PlanProgress). w .number) (r .ensures),
       λ m h k. rw (r .ensures) h,
       d .ensures .2,
-      d .ensures .3,
     )
 
 enter-requires : tie.Need-enter-requires
 enter-requires c κs =
     let v = c .before .before .before .before .before .before .before .before in
-    (v .drain-below .ensures .3, omega (arith, c .before .before .if1 .left, c .before .before .before .points-of .ensures), start v .pre .8)
+    (v .drain-below .ensures .2 .kept, omega (arith, c .before .before .if1 .left, c .before .before .before .points-of .ensures), start v .pre .7)
 
 begun-requires : tie.Need-begun-requires
 begun-requires c κs = search needs
@@ -126,8 +126,7 @@ returns-2 c =
       ap (λ (w : PlanProgress). w .used) (r .ensures),
       ap (λ (w : PlanProgress). w .number) (r .ensures),
       λ m h k. rw (r .ensures) k,
-      d .ensures .2,
-      e .ensures .0,
+      poised-enter _ _ _ _ _ _ _ _ _ _ _ _ _ (d .ensures .2) (e .ensures .0) (e .ensures .3) (d .ensures .3),
     )
 
 pub take-step-spec : {M : Type 1} → statement M
