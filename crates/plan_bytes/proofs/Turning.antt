@@ -10,7 +10,7 @@ use lib.IntN.{ℤ}
 use lib.ListN.{length, take, drop, getD, set, length-set, drop-of-length-le}
 use lib.Seq.{take-suc-set, take-all, take-at, length-take-le, drop-cons}
 use Rattle.domain_meaning.specs.Conditions.{Cond}
-use Rattle.happening_truths.specs.Judged.{stateIn}
+use Rattle.happening_state.specs.States.{stateIn}
 use Rattle.happening_meaning.specs.State.{State}
 use Rattle.happening_meaning.specs.declared.Outcome.{Outcome}
 use Rattle.plan_meaning.specs.Plan.{Rules, Limits}
@@ -116,7 +116,6 @@ held m = heldIn (stateIn (m .facts) (m .numbers)) (m .line) (m .queue) (m .progr
 pub record Ready (n : ℕ) (m : Memory) : Type 0 where
   pub fit : Fit n (m .queue) (m .progress)
   pub long : length (m .line) ≡ 257
-  pub same : m .fresh ≡ m .numbers
 
 -- the lists are as long as they were
 pub record Sized (m₀ m : Memory) : Type 0 where
@@ -152,7 +151,7 @@ module _ {n : ℕ} {rules : Cond → State → Rules State Act Outcome} {k : Kno
         → Turn n rules k m b (memory (m .facts) (m .numbers) (m .fresh) (m .line) (m .queue) (refusing (m .progress) 15 1))
     turn-beyond h =
         record {
-          ready = record { fit = ready .fit; long = ready .long; same = ready .same };
+          ready = record { fit = ready .fit; long = ready .long };
           sized = record { facts = refl; numbers = refl; fresh = refl; line = refl };
           turns = λ c s. byte-beyond (rules c s) k (stateIn (m .facts) (m .numbers)) (m .line) (m .queue) (m .progress) b unrefused h;
         }
@@ -165,7 +164,6 @@ module _ {n : ℕ} {rules : Cond → State → Rules State Act Outcome} {k : Kno
           ready = record {
             fit = (ready .fit .0, ready .fit .1, omega arith, ready .fit .3, ready .fit .4);
             long = length-set (m .line) (m .progress .used) b ∙ ready .long;
-            same = ready .same;
           };
           sized = record { facts = refl; numbers = refl; fresh = refl; line = length-set (m .line) (m .progress .used) b };
           turns = λ c s. byte-more (rules c s) k (stateIn (m .facts) (m .numbers)) (m .line) (m .queue) (m .progress) b unrefused h e u (ready .long);
@@ -176,7 +174,7 @@ module _ {n : ℕ} {rules : Cond → State → Rules State Act Outcome} {k : Kno
         → Turn n rules k m b (memory (m .facts) (m .numbers) (m .fresh) (set (m .line) 256 b) (m .queue) r)
     turn-full r h e u refused same =
         record {
-          ready = record { fit = rw same (ready .fit); long = length-set (m .line) 256 b ∙ ready .long; same = ready .same };
+          ready = record { fit = rw same (ready .fit); long = length-set (m .line) 256 b ∙ ready .long };
           sized = record { facts = refl; numbers = refl; fresh = refl; line = length-set (m .line) 256 b };
           turns = λ c s. byte-full (rules c s) k (stateIn (m .facts) (m .numbers)) (m .line) (m .queue) (m .progress)
               b unrefused r h e u (ready .fit .2) (ready .long) refused same;
@@ -187,11 +185,11 @@ module _ {n : ℕ} {rules : Cond → State → Rules State Act Outcome} {k : Kno
         → ((c : Cond) (s : State) → checkIn (stateIn facts numbers) q p
         ≡ M.take (rules c s) limits (checkIn (stateIn (m .facts) (m .numbers)) (m .queue) (m .progress))
         (reader k .line (m .progress .number) (m .progress .start) (take (m .progress .used) (m .line))))
-        → Fit n q p → p .number ≡ m .progress .number → fresh ≡ numbers
+        → Fit n q p → p .number ≡ m .progress .number
         → Turn n rules k m b (memory facts numbers fresh (m .line) q (counted p (p .number + 1) 0))
-    turn-lf facts numbers fresh q p h e f g l checked fit number same =
+    turn-lf facts numbers fresh q p h e f g l checked fit number =
         record {
-          ready = record { fit = (fit .0, fit .1, omega arith, omega arith, omega arith); long = ready .long; same = same };
+          ready = record { fit = (fit .0, fit .1, omega arith, omega arith, omega arith); long = ready .long };
           sized = record { facts = f; numbers = g; fresh = l; line = refl };
           turns = λ c s. byte-lf (rules c s) k (stateIn (m .facts) (m .numbers)) (m .line) (m .queue) (m .progress)
               b unrefused (stateIn facts numbers) q p h e (checked c s) number;

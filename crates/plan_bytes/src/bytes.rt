@@ -12,12 +12,12 @@ ghost use Prim.Native.Nat.{_≤_};
 ghost use lib.ListN.{length};
 ghost use Rattle.domain_meaning.specs.Conditions.{Cond};
 ghost use Rattle.domain_stored_meaning.specs.Entries.{signedIn};
-ghost use Rattle.happening_truths.specs.Judged.{stateIn};
+ghost use Rattle.happening_state.specs.States.{stateIn};
 ghost use Rattle.happening_meaning.specs.State.{State};
 ghost use Rattle.plan_meaning.specs.Feed.{feed};
 ghost use Rattle.plan_meaning.specs.Lines.{reader, limits};
-ghost use Rattle.plan_waiting.specs.Lent.{queueIn, Kept};
-ghost use Rattle.plan_running.specs.Running.{rulesIn};
+ghost use Rattle.plan_waiting.specs.Lent.{queueIn};
+ghost use Rattle.plan_running.specs.Running.{rulesIn, Rowed, Poised};
 ghost use Rattle.plan_lines.specs.Knowing.{Tabled, Headed, knownIn};
 ghost use Rattle.plan_feeding.specs.Feeding.{heldIn, counted, Fit};
 
@@ -44,9 +44,7 @@ fn take_bytes<'a>(
     counts: Counts,
     heads: &'a [u8],
     acting: usize,
-    code: &'a [u8],
-    starts: &'a [usize],
-    firsts: &'a [u16],
+    rows: &'a [u8],
     facts: &mut [u8],
     numbers: &mut [i64],
     fresh: &mut [i64],
@@ -58,20 +56,20 @@ fn take_bytes<'a>(
     part: &'a [u8],
     points: &mut [usize; 256],
     whos: &mut [u8; 256],
-    lines: &mut [usize; 256],
-    others: &mut [u8; 256],
+    marks: &mut [u8; 17408],
+    watches: &mut [usize; 65],
 ) -> Went
     requires { ⌜
         Tabled (now tables) counts × Headed (now heads) acting × Fit acting (queueIn (now words) (now objects) count) progress
-        × (progress .refused ≡ false) × (length (now line) ≡ 257) × (length (now code) ≤ 32768) × (now fresh ≡ now numbers)
-        × Kept (now words) (now objects) count
+        × (progress .refused ≡ false) × (length (now line) ≡ 257) × Rowed (now rows)
+        × Poised (now rows) (now words) (now objects) count (now marks) (now watches) (now facts) (now numbers) (now fresh)
         ⌝ }
     ensures { λ r. ⌜
         ((c : Cond) (s : State)
         → heldIn (stateIn (now (facts .exit)) (now (numbers .exit))) (now (line .exit)) (queueIn (now (words .exit)) (now (objects .exit)) (r .count))
         (r .progress)
-        ≡ feed (rulesIn (now (code .entry)) (now (starts .entry)) (now (firsts .entry)) c (signedIn (now (heads .entry)) acting) s) limits
-        (reader (knownIn (now (tables .entry)) counts (now (heads .entry)) acting (now (code .entry)) (now (starts .entry))))
+        ≡ feed (rulesIn (now (rows .entry)) c (signedIn (now (heads .entry)) acting) s) limits
+        (reader (knownIn (now (tables .entry)) counts (now (heads .entry)) acting (now (rows .entry))))
         (heldIn (stateIn (now (facts .entry)) (now (numbers .entry))) (now (line .entry))
         (queueIn (now (words .entry)) (now (objects .entry)) count) progress)
         (now (part .entry)))
@@ -98,9 +96,7 @@ fn take_bytes<'a>(
                 counts,
                 heads,
                 acting,
-                code,
-                starts,
-                firsts,
+                rows,
                 facts,
                 numbers,
                 fresh,
@@ -111,8 +107,8 @@ fn take_bytes<'a>(
                 p,
                 points,
                 whos,
-                lines,
-                others,
+                marks,
+                watches,
             );
             n = t.count;
             let next = t.progress;
@@ -123,7 +119,7 @@ fn take_bytes<'a>(
             p = counting(p, p.number, at + 1);
         } else {
             line[256] = b;
-            p = stepping::refuse_long(tables, counts, heads, acting, code, starts, line, p);
+            p = stepping::refuse_long(tables, counts, heads, acting, rows, line, p);
         }
         i += 1;
     }
@@ -139,9 +135,7 @@ pub fn take_part<'a>(
     counts: Counts,
     heads: &'a [u8],
     acting: usize,
-    code: &'a [u8],
-    starts: &'a [usize],
-    firsts: &'a [u16],
+    rows: &'a [u8],
     facts: &mut [u8],
     numbers: &mut [i64],
     fresh: &mut [i64],
@@ -152,13 +146,13 @@ pub fn take_part<'a>(
 ) -> Taken
     requires { ⌜
         Tabled (now tables) counts × Headed (now heads) acting × Fit acting queue progress × (progress .refused ≡ false) × (length (now line) ≡ 257)
-        × (length (now code) ≤ 32768) × (now fresh ≡ now numbers)
+        × Rowed (now rows) × (now fresh ≡ now numbers)
         ⌝ }
     ensures { λ r. ⌜
         ((c : Cond) (s : State)
         → heldIn (stateIn (now (facts .exit)) (now (numbers .exit))) (now (line .exit)) (r .queue) (r .progress)
-        ≡ feed (rulesIn (now (code .entry)) (now (starts .entry)) (now (firsts .entry)) c (signedIn (now (heads .entry)) acting) s) limits
-        (reader (knownIn (now (tables .entry)) counts (now (heads .entry)) acting (now (code .entry)) (now (starts .entry))))
+        ≡ feed (rulesIn (now (rows .entry)) c (signedIn (now (heads .entry)) acting) s) limits
+        (reader (knownIn (now (tables .entry)) counts (now (heads .entry)) acting (now (rows .entry))))
         (heldIn (stateIn (now (facts .entry)) (now (numbers .entry))) (now (line .entry)) queue progress) (now (part .entry)))
         × Fit acting (r .queue) (r .progress) × (length (now (line .exit)) ≡ 257)
         ⌝ }
@@ -167,17 +161,15 @@ pub fn take_part<'a>(
     let mut objects = [0u8; 256];
     let mut points = [0usize; 256];
     let mut whos = [0u8; 256];
-    let mut lines = [0usize; 256];
-    let mut others = [0u8; 256];
+    let mut marks = [0u8; 17408];
+    let mut watches = [0usize; 65];
     lent::lend(queue, &mut words, &mut objects);
     let w = take_bytes(
         tables,
         counts,
         heads,
         acting,
-        code,
-        starts,
-        firsts,
+        rows,
         facts,
         numbers,
         fresh,
@@ -189,8 +181,8 @@ pub fn take_part<'a>(
         part,
         &mut points,
         &mut whos,
-        &mut lines,
-        &mut others,
+        &mut marks,
+        &mut watches,
     );
     let next = w.progress;
     Taken {

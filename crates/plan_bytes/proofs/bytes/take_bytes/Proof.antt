@@ -14,47 +14,47 @@ use Rattle.plan_meaning.specs.Plan.{Rules}
 use Rattle.plan_meaning.specs.Promised.{Act}
 use Rattle.plan_meaning.specs.Feed.{feed}
 use Rattle.plan_meaning.specs.Lines.{Known, reader, limits}
-use Rattle.plan_waiting.specs.Lent.{queueIn, Kept}
-use Rattle.plan_running.specs.Running.{rulesIn}
+use Rattle.plan_waiting.specs.Lent.{queueIn}
+use Rattle.plan_running.specs.Running.{rulesIn, Poised}
 use Rattle.plan_lines.specs.Knowing.{knownIn}
 use Rattle.plan_bytes.proofs.Turning.{Memory, memory, held, Ready, Sized, sized-same, sized-on, Turn, turn-same, turn-beyond, turn-more, turn-full, turn-lf, turned, feed-end, held-refused}
 use Rattle.plan_bytes.proofs.bytes.take_bytes.Statement.{statement}
 use Rattle.plan_bytes.proofs.bytes.take_bytes.Tie as tie
 
 abbrev Inv-loop : tie.InvT-loop
-Inv-loop tables counts heads acting code starts firsts facts₀ numbers₀ fresh₀ line₀ words₀ objects₀ count part points₀ whos₀ lines₀ others₀ n₀ p₀ i₀ facts numbers fresh line words objects points whos lines others n p i =
+Inv-loop tables counts heads acting rows facts₀ numbers₀ fresh₀ line₀ words₀ objects₀ count part points₀ whos₀ marks₀ watches₀ n₀ p₀ i₀ facts numbers fresh line words objects points whos marks watches n p i =
     (i ≤ length part)
     × Ready acting (memory facts numbers fresh line (queueIn words objects n) p)
     × Sized (memory facts₀ numbers₀ fresh₀ line₀ (queueIn words₀ objects₀ n₀) p₀) (memory facts numbers fresh line (queueIn words objects n) p)
     × ((c : Cond) (s : State)
-    → feed (rulesIn code starts firsts c (signedIn heads acting) s) limits (reader (knownIn tables counts heads acting code starts)) (held (memory facts numbers fresh line (queueIn words objects n) p)) (drop i part)
-    ≡ feed (rulesIn code starts firsts c (signedIn heads acting) s) limits (reader (knownIn tables counts heads acting code starts)) (held (memory facts₀ numbers₀ fresh₀ line₀ (queueIn words₀ objects₀ n₀) p₀)) part)
-    × Kept words objects n
+    → feed (rulesIn rows c (signedIn heads acting) s) limits (reader (knownIn tables counts heads acting rows)) (held (memory facts numbers fresh line (queueIn words objects n) p)) (drop i part)
+    ≡ feed (rulesIn rows c (signedIn heads acting) s) limits (reader (knownIn tables counts heads acting rows)) (held (memory facts₀ numbers₀ fresh₀ line₀ (queueIn words₀ objects₀ n₀) p₀)) part)
+    × Poised rows words objects n marks watches facts numbers fresh
 
 abbrev μ-loop : tie.MeasureT-loop
-μ-loop tables counts heads acting code starts firsts facts₀ numbers₀ fresh₀ line₀ words₀ objects₀ count part points₀ whos₀ lines₀ others₀ n₀ p₀ i₀ facts numbers fresh line words objects points whos lines others n p i = length part - i
+μ-loop tables counts heads acting rows facts₀ numbers₀ fresh₀ line₀ words₀ objects₀ count part points₀ whos₀ marks₀ watches₀ n₀ p₀ i₀ facts numbers fresh line words objects points whos marks watches n p i = length part - i
 
 -- the function's start, and what stood before a byte
 abbrev start : tie.At-loop Inv-loop μ-loop → tie.Start Inv-loop μ-loop
-start k = k .before .before .before .before .before .before .before .before .before
+start k = k .before .before .before .before .before .before .before
 
 abbrev rules : tie.At-loop Inv-loop μ-loop → Cond → State → Rules State Act Outcome
 rules k goal s =
     let a = start k .args in
-    rulesIn (now (a .code)) (now (a .starts)) (now (a .firsts)) goal (signedIn (now (a .heads)) (a .acting)) s
+    rulesIn (now (a .rows)) goal (signedIn (now (a .heads)) (a .acting)) s
 
 abbrev known : tie.At-loop Inv-loop μ-loop → Known
 known k =
     let a = start k .args in
-    knownIn (now (a .tables)) (a .counts) (now (a .heads)) (a .acting) (now (a .code)) (now (a .starts))
+    knownIn (now (a .tables)) (a .counts) (now (a .heads)) (a .acting) (now (a .rows))
 
 abbrev before-byte : tie.At-loop Inv-loop μ-loop → Memory
 before-byte k = memory (k .loop .facts) (k .loop .numbers) (k .loop .fresh) (k .loop .line) (queueIn (k .loop .words) (k .loop .objects) (k .loop .n)) (k .loop .p)
 
 loop-holds : tie.Need-loop-holds Inv-loop μ-loop
 loop-holds c =
-    let asked = c .before .before .before .before .before .before .before .before .pre in
-    (omega arith, record { fit = asked .2; long = asked .4; same = asked .6 }, sized-same _, λ _ _. refl, asked .7)
+    let asked = c .before .before .before .before .before .before .pre in
+    (omega arith, record { fit = asked .2; long = asked .4 }, sized-same _, λ _ _. refl, asked .6)
 
 shared-slice-read-b : tie.Need-shared-slice-read-b Inv-loop μ-loop
 shared-slice-read-b c = c .before .loop-test .taken
@@ -84,7 +84,7 @@ take-line-requires : tie.Need-take-line-requires Inv-loop μ-loop
 take-line-requires c κs =
     let k = c .before .before .before .before .before .before .before .before .before .before .before .before .before .before .before .before in
     let v = k .loop .inv .1 in
-    (start k .pre .0, start k .pre .1, v .fit, c .before .before .before .before .before .before .before .before .before .before .before .before .before .if1 .left, v .long, start k .pre .5, v .same, k .loop .inv .4)
+    (start k .pre .0, start k .pre .1, v .fit, c .before .before .before .before .before .before .before .before .before .before .before .before .before .if1 .left, v .long, start k .pre .5, k .loop .inv .4)
 
 add-counting : tie.Need-add-counting Inv-loop μ-loop
 add-counting c = omega (arith, c .before .before .before .before .before .before .take-line .ensures .1 .4)
@@ -110,7 +110,7 @@ refuse-long-requires c κs =
     (start k .pre .0, start k .pre .1, length-set (k .loop .line) 256 (getD (now (start k .args .part)) (k .loop .i) 0) ∙ k .loop .inv .1 .long)
 
 add-i : tie.Need-add-i Inv-loop μ-loop
-add-i c = omega (arith, c .before .before .before .before .loop-test .taken, start (c .before .before .before .before .before) .good .1 .1 .1 .1 .1 .1 .1 .1 .1 .1 .1 .1 .1 .1 .1 .0 .0)
+add-i c = omega (arith, c .before .before .before .before .loop-test .taken, start (c .before .before .before .before .before) .good .1 .1 .1 .1 .1 .1 .1 .1 .1 .1 .1 .1 .1 .0 .0)
 
 loop-less : tie.Need-loop-less Inv-loop μ-loop
 loop-less c = omega (arith, c .before .before .before .before .loop-test .taken)
@@ -129,7 +129,7 @@ turn c =
     (λ w. turn-same m b (w .2) (w .3) (w .4) (w .5) (w .6) (w .7) (w .12) (w .13 ∙ w .1 .ensures) (turn-beyond m b ready unrefused (w .0 .taken)))
     (⊎-elim
     (λ w. turn-same m b (w .20) (w .21) (w .22) (w .23) (w .24) (w .25) (w .30) (w .31 ∙ w .19 .ensures)
-    (turn-lf m b ready unrefused _ _ _ _ _ (w .0 .left) (w .1 .taken) (w .13 .given) (w .15 .given) (w .16 .given) (w .12 .ensures .0) (w .12 .ensures .1) (w .12 .ensures .2) (w .12 .ensures .3)))
+    (turn-lf m b ready unrefused _ _ _ _ _ (w .0 .left) (w .1 .taken) (w .13 .given) (w .15 .given) (w .16 .given) (w .12 .ensures .0) (w .12 .ensures .1) (w .12 .ensures .2)))
     (⊎-elim
     (λ w. turn-same m b (w .5) (w .6) (w .7) (w .8) (w .9) (w .10) (w .15) (w .16 ∙ w .4 .ensures)
     (turn-more m b ready unrefused (w .0 .left) (w .1 .left) (w .3 .taken)))
@@ -137,17 +137,18 @@ turn c =
     (turn-full m b ready unrefused (w .5 .result) (w .0 .left) (w .1 .left) (w .3 .left) (w .5 .ensures .0) (w .5 .ensures .1)))))
     (c .if2 .came)
 
--- what is kept of the points that wait
-kept : (c : tie.Joined2 Inv-loop μ-loop) → Kept (c .if2 .words) (c .if2 .objects) (c .if2 .n)
-kept c =
+-- all is ready for the next happening
+poised : (c : tie.Joined2 Inv-loop μ-loop)
+    → Poised (now (start (c .before .before .before .before .before) .args .rows)) (c .if2 .words) (c .if2 .objects) (c .if2 .n) (c .if2 .marks) (c .if2 .watches) (c .if2 .facts) (c .if2 .numbers) (c .if2 .fresh)
+poised c =
     let before = c .before .before .before .before .before .loop .inv .4 in
     ⊎-elim
-    (λ w. rw (w .6, w .7, w .12) before)
+    (λ w. rw (w .2, w .3, w .4, w .6, w .7, w .10, w .11, w .12) before)
     (⊎-elim
-    (λ w. rw (w .24, w .25, w .30) (w .12 .ensures .4))
+    (λ w. rw (w .20, w .21, w .22, w .24, w .25, w .28, w .29, w .30) (w .12 .ensures .3))
     (⊎-elim
-    (λ w. rw (w .9, w .10, w .15) before)
-    (λ w. rw (w .10, w .11, w .16) before)))
+    (λ w. rw (w .5, w .6, w .7, w .9, w .10, w .13, w .14, w .15) before)
+    (λ w. rw (w .6, w .7, w .8, w .10, w .11, w .14, w .15, w .16) before)))
     (c .if2 .came)
 
 loop-again : tie.Need-loop-again Inv-loop μ-loop
@@ -159,7 +160,7 @@ loop-again c =
       t .ready,
       sized-on _ _ _ (k .loop .inv .2) (t .sized),
       λ goal s. turned (before-byte k) (now (start k .args .part)) (k .loop .i) _ less t goal s _ (k .loop .inv .3 goal s),
-      kept c,
+      poised c,
     )
 
 same-length-5 : tie.Need-same-length-5 Inv-loop μ-loop

@@ -2,7 +2,8 @@
 use denote.Ref.{now}
 use mathlib.Core.Path.{refl}
 use borrow.Author.Needs.{needs}
-use Rattle.happening_truths.specs.Judged.{stateIn}
+use Rattle.happening_state.specs.States.{stateIn}
+use Rattle.plan_running.proofs.Poising.{poised-none}
 use Rattle.plan_waiting.specs.Lent.{queueIn}
 use Rattle.plan_waiting.specs.declared.Queue.{Queue}
 use Rattle.plan_feeding.proofs.Alike.{check-alike, fit-alike, made-alike, made-fit}
@@ -10,24 +11,24 @@ use Rattle.plan_bytes.proofs.bytes.take_part.Statement.{statement}
 use Rattle.plan_bytes.proofs.bytes.take_part.Tie as tie
 
 abbrev start : tie.After-lend → tie.Start
-start c = c .before .before .before .before .before .before .before .before .before .before .before
+start c = c .before .before .before .before .before .before .before .before .before
 
 -- the points that wait, as they are lent, and behind the part
 abbrev lent : tie.After-lend → Queue
 lent c = queueIn (c .lend .last .1 .0) (c .lend .last .1 .1 .0) (start c .args .queue .count)
 
 abbrev after : tie.After-take-bytes → Queue
-after c = let b = c .take-bytes in queueIn (b .last .1 .1 .1 .1 .1 .1 .1 .1 .1 .1 .1 .0) (b .last .1 .1 .1 .1 .1 .1 .1 .1 .1 .1 .1 .1 .0) (b .result .count)
+after c = let b = c .take-bytes in queueIn (b .last .1 .1 .1 .1 .1 .1 .1 .1 .1 .0) (b .last .1 .1 .1 .1 .1 .1 .1 .1 .1 .1 .0) (b .result .count)
 
 lend-requires : tie.Need-lend-requires
-lend-requires c κs = let s = c .before .before .before .before .before .before .before .before .before .before in (s .args .acting, s .pre .2 .0)
+lend-requires c κs = let s = c .before .before .before .before .before .before .before .before in (s .args .acting, s .pre .2 .0)
 
 take-bytes-requires : tie.Need-take-bytes-requires
 take-bytes-requires c κs =
     let l = c .before .before .before .before .before .before .before .before .before .before in
     let pre = start l .pre in
     let a = start l .args in
-    (pre .0, pre .1, fit-alike (a .queue) (lent l) (l .lend .ensures .1) (a .acting) (a .progress) refl (pre .2), pre .3, pre .4, pre .5, pre .6, l .lend .ensures .0)
+    (pre .0, pre .1, fit-alike (a .queue) (lent l) (l .lend .ensures .1) (a .acting) (a .progress) refl (pre .2), pre .3, pre .4, pre .5, poised-none _ _ _ _ _ _ _ (l .lend .ensures .0) (pre .6))
 
 back-requires : tie.Need-back-requires
 back-requires c κs = c .before .before .before .before .before .before .before .before .before .take-bytes .ensures .1 .0 .0
@@ -50,7 +51,7 @@ returns c =
     let l = v .before .before .before .before .before .before .before .before .before .before .before in
     let a = start l .args in
     let b = v .take-bytes in
-    let there = stateIn (b .last .1 .1 .1 .1 .1 .1 .1 .0) (b .last .1 .1 .1 .1 .1 .1 .1 .1 .0) in
+    let there = stateIn (b .last .1 .1 .1 .1 .1 .0) (b .last .1 .1 .1 .1 .1 .1 .0) in
     let made = c .back in
     let fit = b .ensures .1 in
     let same = made-alike (after v) (made .result) (fit .0 .0) (made .ensures) in (
