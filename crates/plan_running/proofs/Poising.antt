@@ -1,19 +1,18 @@
 -- What is known between two happenings: at first, when a line is entered, through a happening, and when its points are taken out. Assumes nothing.
-use Prim.Native.Nat.{ℕ, zero, suc, _+_, _%_, _≤_, _<_}
+use Prim.Native.Nat.{ℕ, zero, suc, _+_, _≤_, _<_}
 use mathlib.Core.Bool.{Bool, true, false, true≢false, _&&_}
 use mathlib.Core.List.{List, [], _∷_, map}
 use mathlib.Core.Path.{_≡_, refl, sym, ap, _∙_}
 use native.Mathlib.Nat.{mod-lt, zero-lt-suc}
 use native.Mathlib.Omega.{arith}
 use borrow.Author.Tests.{leb-true, lt-ltb, le-ltb, ltb-true, ltb-false, eqb-true}
-use lib.Bits.{bitAnd}
 use lib.Dec.{leb, ltb}
 use lib.IntN.{ℤ}
 use lib.ListN.{length, getD, set, replicate, length-map, length-set, length-replicate}
 use lib.Seq.{getD-take, getD-set-same, getD-set-other, length-take-le}
-use Rattle.base_laws.proofs.Splits.{and-left, and-right}
+use Rattle.base_laws.proofs.Splits.{and-left}
 use Rattle.happening_meaning.specs.State.{State}
-use Rattle.happening_meaning.specs.Happening.{Point, spans, allMarks, happened, happening}
+use Rattle.happening_meaning.specs.Happening.{Point, allMarks, happened, happening}
 use Rattle.happening_meaning.specs.declared.Outcome.{Outcome}
 use Rattle.happening_forms.specs.Summed.{summed}
 use Rattle.happening_state.specs.States.{stateIn}
@@ -27,10 +26,10 @@ use Rattle.plan_meaning.specs.declared.Step.{Step}
 use Rattle.plan_meaning.specs.declared.Slot.{Slot}
 use Rattle.plan_meaning.proofs.Lists.{All, all-map, all-keep, keep-none, keep-shorter}
 use Rattle.plan_waiting.specs.Waiting.{used, waiting, noSlot}
-use Rattle.plan_waiting.specs.Lent.{slotIn, queueIn, placeAt, Kept, Left, Entered}
+use Rattle.plan_waiting.specs.Lent.{queueIn, placeAt, Kept, Left, Entered}
 use Rattle.plan_waiting.proofs.LentPlaces.{slots-long, slot-there}
 use Rattle.plan_running.specs.Running.{Watched, Poised}
-use Rattle.plan_running.specs.Lines.{stepOn, pointOn, isAt, isOpen, pointsOn, linesOn, slotOn, Holds, Spares, Spared, Spanned, Claimed}
+use Rattle.plan_running.specs.Lines.{stepOn, pointOn, isAt, isOpen, pointsOn, linesOn, slotOn, Holds, Spared, Spanned, Claimed}
 
 -- ---- at first nothing is claimed
 

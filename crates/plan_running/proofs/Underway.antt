@@ -19,7 +19,7 @@ use Rattle.plan_meaning.specs.declared.Slot.{Slot}
 use Rattle.plan_meaning.proofs.Stored.{duration-back}
 use Rattle.plan_waiting.specs.Waiting.{soundStep, soundAll}
 use Rattle.plan_waiting.proofs.Soundness.{sound-action}
-use Rattle.plan_running.specs.Lines.{stepOn, pointOn, isAt, isOpen, pointsOn, linesOn}
+use Rattle.plan_running.specs.Lines.{stepOn, pointOn, isAt, pointsOn, linesOn}
 
 module _ (rows : List ℕ) (es : Table) (few : length es ≤ 32) where
   abbrev actions : List Action
