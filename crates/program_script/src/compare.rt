@@ -43,29 +43,7 @@ fn same_bytes<'a>(a: &'a [u8], b: &'a [u8]) -> bool {
     a.len() == b.len()
 }
 
-fn same_indexes<'a>(a: &'a [usize], b: &'a [usize]) -> bool {
-    let mut i = 0;
-    while i < a.len() && i < b.len() {
-        if a[i] != b[i] {
-            return false;
-        }
-        i += 1;
-    }
-    a.len() == b.len()
-}
-
 fn same_numbers<'a>(a: &'a [i64], b: &'a [i64]) -> bool {
-    let mut i = 0;
-    while i < a.len() && i < b.len() {
-        if a[i] != b[i] {
-            return false;
-        }
-        i += 1;
-    }
-    a.len() == b.len()
-}
-
-fn same_firsts<'a>(a: &'a [u16], b: &'a [u16]) -> bool {
     let mut i = 0;
     while i < a.len() && i < b.len() {
         if a[i] != b[i] {
@@ -92,10 +70,8 @@ fn same_sizes(a: Sizes, b: Sizes) -> bool {
 fn same_model(a: Model, b: Model) -> bool {
     same_bytes(&a.tables, &b.tables)
         && same_bytes(&a.actions, &b.actions)
-        && same_indexes(&a.starts, &b.starts)
-        && same_bytes(&a.code, &b.code)
+        && same_bytes(&a.rows, &b.rows)
         && same_bytes(&a.goal, &b.goal)
-        && same_firsts(&a.firsts, &b.firsts)
         && same_sizes(a.sizes, b.sizes)
         && same_counts(a.counts, b.counts)
         && a.acting == b.acting
