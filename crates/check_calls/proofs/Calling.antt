@@ -1,25 +1,25 @@
 -- What each way through feed and finish gives is what the contracts say. Assumes nothing.
 use mathlib.Core.Path.{_≡_, refl, sym, ap, _∙_}
 use mathlib.Core.List.{List, []}
-use mathlib.Core.Bool.{Bool, true, false}
+use mathlib.Core.Bool.{Bool, true, false, not, _&&_, false≢true}
 use Prim.Native.Nat.{ℕ, _≤_}
 use native.Mathlib.Omega.{arith}
 use lib.ListN.{length, take}
 use Rattle.domain_meaning.specs.Indexes.{padded}
 use Rattle.domain_stored_meaning.specs.Entries.{signedIn}
-use Rattle.domain_stored_meaning.specs.Decode.{conditionAt}
+use Rattle.domain_prepared_meaning.specs.Decode.{goalAt}
 use Rattle.domain_load.proofs.Decoded.{types-in, objects-in, actions-in, goal-in}
 use Rattle.happening_meaning.specs.State.{State}
 use Rattle.happening_meaning.specs.Happening.{promises}
 use Rattle.happening_meaning.specs.declared.Outcome.{Outcome}
-use Rattle.happening_grounds.specs.Grounded.{groundsIn}
+use Rattle.happening_forms.specs.Summed.{summed}
 use Rattle.plan_meaning.specs.Plan.{Rules, Result}
 use Rattle.plan_meaning.specs.Feed.{Feed, feed, close}
 use Rattle.plan_meaning.specs.Promised.{Act, rulesOf}
 use Rattle.plan_meaning.specs.Lines.{Known, Refused, reader, limits}
 use Rattle.plan_waiting.specs.Waiting.{used, queueOf}
 use Rattle.plan_waiting.specs.declared.Queue.{Queue}
-use Rattle.plan_running.specs.Running.{rulesIn}
+use Rattle.plan_running.specs.Running.{rulesIn, Rowed}
 use Rattle.plan_lines.specs.Knowing.{Tabled, Headed, knownIn}
 use Rattle.plan_lines.proofs.Knowing.{known-in}
 use Rattle.plan_feeding.specs.Feeding.{refusedIn, heldIn, closedIn, Fit}
@@ -43,13 +43,20 @@ module _ (c : Check) (next : Reply) where
   pub late : wellFormed c ≡ true → c .finished ≡ true → fed c A.Late ≡ whileOpen c next
   late h k = rw (h, k)
 
+-- a part only makes the line longer
+pub plain-parts : (good done all : Bool) → (good && not done && all) ≡ true → (good ≡ true) × (done ≡ false) × (all ≡ true)
+plain-parts true false true h = (refl, refl, refl)
+plain-parts true false false h = absurd (false≢true h)
+plain-parts true true all h = absurd (false≢true h)
+plain-parts false done all h = absurd (false≢true h)
+
 -- ---- what taking a part and ending a plan ask
 
 -- the arrays are as long as their types say
 pub record Long (c : Check) : Type 0 where
   pub tables : length (c .model .tables) ≡ tablesLength
   pub heads : length (c .model .actions) ≡ 1216
-  pub code : length (c .model .code) ≡ 32768
+  pub rows : length (c .model .rows) ≡ 33153
   pub line : length (c .line) ≡ 257
 
 pub ready-for : (c : Check) → wellFormed c ≡ true → Long c → c .progress .refused ≡ false
@@ -58,7 +65,7 @@ pub ready-for : (c : Check) → wellFormed c ≡ true → Long c → c .progress
     × Fit (c .model .acting) (c .queue) (c .progress)
     × (c .progress .refused ≡ false)
     × (length (c .line) ≡ 257)
-    × (length (c .model .code) ≤ 32768)
+    × Rowed (c .model .rows)
     × (c .numbers ≡ c .numbers)
 ready-for c good h free =
     let g = formed-parts (c .progress) (c .model .counts) (c .model .acting) (c .model .sizes .facts) (c .model .sizes .numbers) (c .queue) good in (
@@ -67,7 +74,7 @@ ready-for c good h free =
       (formed-sound g, g .counters .timely, g .counters .short, g .counters .first, g .counters .lines),
       free,
       h .line,
-      omega (arith, h .code),
+      (omega (arith, h .rows), omega (arith, h .rows)),
       refl,
     )
 
@@ -75,20 +82,19 @@ ready-for c good h free =
 
 abbrev pub rulesBy : Check → Rules State Act Outcome
 rulesBy c =
-    rulesIn (c .model .code) (c .model .starts) (c .model .firsts) (conditionAt (c .model .goal) 0 .tree)
-    (signedIn (c .model .actions) (c .model .acting)) anyState
+    rulesIn (c .model .rows) (goalAt (c .model .goal)) (signedIn (c .model .actions) (c .model .acting)) anyState
 
 abbrev pub knownBy : Check → Known
-knownBy c = knownIn (c .model .tables) (c .model .counts) (c .model .actions) (c .model .acting) (c .model .code) (c .model .starts)
+knownBy c = knownIn (c .model .tables) (c .model .counts) (c .model .actions) (c .model .acting) (c .model .rows)
 
 pub rules-on : (c : Check) → rulesBy c ≡ rulesOn c
 unfolding rulesOn
-rules-on c = λ i. rulesOf (promises (groundsIn (c .model .firsts)) (goal-in (c .model) i)) (actions-in (c .model) i) anyState
+rules-on c = λ i. rulesOf (promises summed (goal-in (c .model) i)) (actions-in (c .model) i) anyState
 
 pub known-on : (c : Check) → knownBy c ≡ knownOn c
 unfolding knownOn
 known-on c =
-    known-in (c .model .tables) (c .model .counts) (c .model .actions) (c .model .acting) (c .model .code) (c .model .starts)
+    known-in (c .model .tables) (c .model .counts) (c .model .actions) (c .model .acting) (c .model .rows)
     ∙ (λ i. record { types = types-in (c .model) i; objects = objects-in (c .model) i; actions = actions-in (c .model) i })
 
 -- ---- a refusal that stood before the call

@@ -6,6 +6,7 @@ pub mod Written
 pub mod Shown
 pub mod Refusals
 pub mod Storing
+pub mod Longer
 pub mod Calling
 pub mod Results
 pub mod Loading

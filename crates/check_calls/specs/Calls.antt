@@ -17,7 +17,7 @@ use Rattle.domain_load.specs.declared.Model.{Model}
 use Rattle.domain_load.specs.declared.LoadAnswer.{LoadAnswer}
 use Rattle.domain_load.specs.declared.LoadAnswer.the-variants as Is
 use Rattle.domain_terms.specs.declared.scope.Counts.{Counts}
-use Rattle.happening_grounds.specs.Grounded.{groundsIn}
+use Rattle.happening_forms.specs.Summed.{summed}
 use Rattle.happening_meaning.specs.State.{State}
 use Rattle.happening_meaning.specs.Happening.{promises}
 use Rattle.happening_meaning.specs.declared.Outcome.{Outcome}
@@ -76,7 +76,7 @@ abbrev pub anyState : State
 anyState = record { facts = []; numbers = [] }
 
 unfoldable pub rulesOn : Check → Rules State Act Outcome
-rulesOn c = rulesOf (promises (groundsIn (c .model .firsts)) (decode (c .model) .goal)) (decode (c .model) .actions) anyState
+rulesOn c = rulesOf (promises summed (decode (c .model) .goal)) (decode (c .model) .actions) anyState
 
 unfoldable pub knownOn : Check → Known
 knownOn c = record { types = decode (c .model) .types; objects = decode (c .model) .objects; actions = decode (c .model) .actions }

@@ -1,3 +1,4 @@
 -- What the calls do.
+pub mod Adding
 pub mod Calls
 pub mod Numbers

@@ -10,12 +10,12 @@ use plan_feeding::PlanProgress;
 use plan_running::Past;
 use plan_waiting::Queue;
 ghost use mathlib.Core.Path.{_≡_};
-ghost use mathlib.Core.Bool.{cond};
+ghost use mathlib.Core.Bool.{cond, not, _&&_};
 ghost use Prim.Native.Nat.{_≤_};
 ghost use lib.Dec.{eqb};
 ghost use lib.ListN.{length, take};
 ghost use Rattle.domain_meaning.specs.Indexes.{padded};
-ghost use Rattle.plan_feeding.specs.Feeding.{refusedIn};
+ghost use Rattle.plan_feeding.specs.Feeding.{refusedIn, counted};
 ghost use Rattle.check_calls.specs.Calls.{countersFit, sizesFit, formed, ready, settled, checkFor, refusedFrom, endedFrom};
 
 // The last line that can have so many bytes.
@@ -106,6 +106,35 @@ pub fn settle(p: PlanProgress) -> PlanProgress
         at: 0,
         column: 0,
     }
+}
+
+// A line of another length.
+pub fn lengthen(p: PlanProgress, used: usize) -> PlanProgress
+    ensures { λ r. ⌜ r ≡ settled (counted p (p .number) used) ⌝ }
+{
+    let past = p.past;
+    PlanProgress {
+        used,
+        number: p.number,
+        start: p.start,
+        past,
+        refused: false,
+        refusal: 0,
+        at: 0,
+        column: 0,
+    }
+}
+
+// Whether a part only makes the line longer: the check can be fed, and all of the part was added.
+pub fn is_plain(formed: bool, finished: bool, whole: bool) -> bool
+    ensures { λ r. ⌜ r ≡ (formed && not finished && whole) ⌝ }
+{
+    if formed {
+        if !finished {
+            return whole;
+        }
+    }
+    false
 }
 
 // The bytes of the line in use, and zeros.

@@ -1,4 +1,5 @@
 // The check of a plan: what the caller holds, and the calls on it. No call asks anything of what it is handed.
+mod adding;
 mod forming;
 mod listing;
 mod outputs;
@@ -115,9 +116,7 @@ impl Check {
             counts,
             &self.model.actions,
             acting,
-            &self.model.code,
-            &self.model.starts,
-            &self.model.firsts,
+            &self.model.rows,
             &mut facts,
             &mut numbers,
             &mut fresh,
@@ -140,8 +139,8 @@ impl Check {
         self.answered(Answer::Done(0))
     }
 
-    // A part of the plan, of any size.
-    pub fn feed(self, part: &[u8]) -> Reply
+    // A part that may end lines: the run is laid out for the time of the call.
+    fn feed_lines(self, part: &[u8]) -> Reply
         ensures { λ r. ⌜ r ≡ feedOf self (now (part .entry)) ⌝ }
     {
         if !self.is_formed() {
@@ -156,6 +155,35 @@ impl Check {
             return self.answered(outputs::standing_answer(self.progress));
         }
         self.take(part)
+    }
+
+    // A part of the plan, of any size. One that ends no line only makes the line longer; with one exit for both, the check is copied as
+    // seldom as can be.
+    pub fn feed(mut self, part: &[u8]) -> Reply
+        ensures { λ r. ⌜ r ≡ feedOf self (now (part .entry)) ⌝ }
+    {
+        let p = self.progress;
+        let counts = self.model.counts;
+        let sizes = self.model.sizes;
+        let queue = self.queue;
+        let mut line = self.line;
+        let mut answer = Answer::Done(0);
+        let added = adding::add_part(&mut line, p, part);
+        let used = added.used;
+        let formed = forming::is_formed(p, counts, self.model.acting, sizes, queue);
+        if forming::is_plain(formed, self.finished, added.whole) {
+            self.queue = plan_waiting::tidy(queue);
+            let longer = forming::tidy_line(&line, used);
+            self.line = longer;
+            self.progress = forming::lengthen(p, used);
+        } else {
+            let before = self;
+            let fed = before.feed_lines(part);
+            let check = fed.check;
+            self = check;
+            answer = fed.answer;
+        }
+        self.answered(answer)
     }
 
     // The end of a plan that goes on.
@@ -173,10 +201,8 @@ impl Check {
             counts,
             &self.model.actions,
             acting,
-            &self.model.code,
-            &self.model.starts,
+            &self.model.rows,
             &self.model.goal,
-            &self.model.firsts,
             &mut facts,
             &mut numbers,
             &mut fresh,
