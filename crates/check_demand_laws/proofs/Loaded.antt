@@ -1,26 +1,26 @@
 -- The check of two texts that are read: it can be fed, its rules and names are those of the trees, and nothing has happened yet. Assumes nothing.
 use Prim.Native.Nat.{ℕ}
 use mathlib.Core.Bool.{false≢true}
-use mathlib.Core.List.{List, [], _∷_, _++_, append-assoc}
-use mathlib.Core.Path.{_≡_, refl, sym, ap, _∙_}
+use mathlib.Core.List.{List, []}
+use mathlib.Core.Path.{_≡_, refl, _∙_}
 use native.Mathlib.Omega.{arith}
-use lib.ListN.{length, getD, take, drop, length-append, length-map}
-use lib.Seq.{take-at, drop-at, getD-at}
+use lib.ListN.{length, length-map}
 use Rattle.domain_meaning.specs.Read.{got}
 use Rattle.domain_meaning.specs.Domain.{Domain, readDomain}
 use Rattle.domain_meaning.specs.Problem.{Problem, readProblem, scopeOf}
-use Rattle.domain_meaning.specs.Indexes.{sumOf, basesOf, padded}
-use Rattle.domain_rows.proofs.Rows.{length-padded}
+use Rattle.domain_meaning.specs.Indexes.{sumOf}
 use Rattle.happening_meaning.specs.Happening.{promises}
 use Rattle.plan_meaning.specs.Feed.{new}
 use Rattle.plan_meaning.specs.Promised.{rulesOf}
 use Rattle.plan_meaning.specs.Lines.{reader, limits}
 use Rattle.domain_load.specs.Decode.{decode, readingOf}
-use Rattle.domain_load.specs.Load.{modelOf, loadedOf}
+use Rattle.domain_load.specs.Load.{predicateFirsts, functionFirsts, modelOf, loadedOf}
 use Rattle.domain_load.proofs.Back.{model-back}
 use Rattle.domain_read_laws.proofs.Whole.{read-fits}
 use Rattle.domain_read_laws.proofs.Sums.{sums-fit}
-use Rattle.happening_grounds.specs.Grounded.{firstsIn, groundsIn}
+use Rattle.happening_forms.specs.Summed.{summed}
+use Rattle.plan_prepared_laws.proofs.Rules.{rules-same}
+use Rattle.plan_prepared_laws.proofs.Reading.{reader-same}
 use Rattle.plan_waiting.specs.Waiting.{queueOf}
 use Rattle.plan_feeding.specs.Feeding.{checkIn}
 use Rattle.check_meaning.specs.Answer.{groundsOf, rulesFor, knownFor}
@@ -30,28 +30,6 @@ use Rattle.check_calls.proofs.Formed.{Sizes, formed-of}
 use Rattle.check_demand_laws.proofs.Naming.{done-listed}
 use Rattle.check_demand_laws.proofs.Storing.{none-fits, fresh-counters}
 use Rattle.check_demand_laws.proofs.Session.{Open}
-
--- ---- first indexes as the model holds them, and as a state wants them
-
--- 32, 16 and one: told apart
-firsts-apart : (fs ns : List ℕ) (n : ℕ) → length fs ≡ 32 → length ns ≡ 16 → groundsIn (fs ++ (ns ++ n ∷ [])) ≡ record { objects = n; facts = fs; numbers = ns }
-unfolding firstsIn
-firsts-apart fs ns n h k = λ i. record { objects = last i; facts = take-at fs (ns ++ n ∷ []) 32 h i; numbers = middle i }
-  where
-    middle : take 16 (drop 32 (fs ++ (ns ++ n ∷ []))) ≡ ns
-    middle = ap (λ (l : List ℕ). take 16 l) (drop-at fs (ns ++ n ∷ []) 32 h) ∙ take-at ns (n ∷ []) 16 k
-
-    last : getD (fs ++ (ns ++ n ∷ [])) 48 0 ≡ n
-    last =
-        ap (λ (l : List ℕ). getD l 48 0) (sym (append-assoc fs ns (n ∷ [])))
-        ∙ getD-at (fs ++ ns) n [] 0 48 (let z : length (fs ++ ns) ≡ 48 = omega (arith, length-append fs ns) in z)
-
-pub grounds-loaded : (d : Domain) (p : Problem) → groundsIn (modelOf d p .firsts) ≡ groundsOf d p
-unfolding modelOf groundsOf
-grounds-loaded d p =
-    let o = length (p .objects) in
-    firsts-apart (padded 32 (basesOf o (d .predicates))) (padded 16 (basesOf o (d .functions))) o
-    (length-padded 32 (basesOf o (d .predicates))) (length-padded 16 (basesOf o (d .functions)))
 
 -- ---- the check
 
@@ -89,22 +67,32 @@ module _ (s t : List ℕ) (d : Domain) (p : Problem) (m n : ℕ) (e : readDomain
         unrefused = refl;
       }
 
-  -- what its numbers say is what the trees say
-  firsts-is : groundsIn (loaded .model .firsts) ≡ groundsOf d p
-  unfolding loadedOf
-  firsts-is = grounds-loaded d p
+  -- the number of objects, and the first indexes of predicates and of functions
+  abbrev objects : ℕ
+  objects = length (p .objects)
 
+  abbrev predicates : List ℕ
+  predicates = predicateFirsts objects (d .predicates)
+
+  abbrev functions : List ℕ
+  functions = functionFirsts objects (d .functions)
+
+  -- what its numbers say is what the trees say, prepared
   model-is : decode (loaded .model) ≡ readingOf d p
   unfolding loadedOf
   model-is = model-back s t d p m n e f
 
   pub rules-loaded : rulesOn loaded ≡ rulesOf (promises (groundsOf d p) (p .goal)) (d .actions) anyState
-  unfolding rulesOn
-  rules-loaded = λ i. rulesOf (promises (firsts-is i) (model-is i .goal)) (model-is i .actions) anyState
+  unfolding rulesOn groundsOf
+  rules-loaded =
+      (λ i. rulesOf (promises summed (model-is i .goal)) (model-is i .actions) anyState)
+      ∙ rules-same objects predicates functions (d .actions) (p .goal) anyState
 
-  pub known-loaded : knownOn loaded ≡ knownFor d p
+  pub reader-loaded : reader (knownOn loaded) ≡ reader (knownFor d p)
   unfolding knownOn
-  known-loaded = λ i. record { types = model-is i .types; objects = model-is i .objects; actions = model-is i .actions }
+  reader-loaded =
+      (λ i. reader (record { types = model-is i .types; objects = model-is i .objects; actions = model-is i .actions }))
+      ∙ reader-same objects predicates functions (d .types) (p .objects) (d .actions)
 
   -- nothing has happened and nothing waits
   pub held-loaded : heldBy loaded ≡ new (rulesFor d p) limits (reader (knownFor d p))

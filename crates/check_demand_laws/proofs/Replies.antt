@@ -119,7 +119,7 @@ module _ (s t : List ℕ) (d : Domain) (p : Problem) (m n : ℕ) (e : readDomain
   loaded-replies =
       ap (λ (o : LoadReply). replies ours (o .check) ps) (opened s t d p m n e f ps)
       ∙ check-replies ps loaded (L.loaded-open s t d p m n e f)
-      ∙ (λ i. answersTo (L.rules-loaded s t d p m n e f i) (reader (L.known-loaded s t d p m n e f i)) (L.held-loaded s t d p m n e f i) ps)
+      ∙ (λ i. answersTo (L.rules-loaded s t d p m n e f i) (L.reader-loaded s t d p m n e f i) (L.held-loaded s t d p m n e f i) ps)
       ∙ answers-from d p ps []
 
 -- ---- finish

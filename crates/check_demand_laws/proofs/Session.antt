@@ -6,7 +6,7 @@ use mathlib.Core.Path.{_≡_, refl, sym, ap, subst, _∙_}
 use lib.ListN.{length}
 use Rattle.happening_meaning.specs.State.{State}
 use Rattle.happening_meaning.specs.Happening.{promises}
-use Rattle.happening_grounds.specs.Grounded.{groundsIn}
+use Rattle.happening_forms.specs.Summed.{summed}
 use Rattle.happening_meaning.specs.declared.Outcome as Why
 use Rattle.plan_meaning.specs.Plan.{Point, Run, Rules, Result, refused, ended}
 use Rattle.plan_meaning.specs.Machine.{waits, halted}
@@ -51,21 +51,19 @@ open-kept c o = subst (λ (n : ℕ). KeptFeed n (heldBy c)) (sym (acting-known c
 pub fed-kept : (c : Check) (p : List ℕ) → Open c → KeptFeed (c .model .acting) (fedBy c p)
 unfolding rulesOn
 fed-kept c p o =
-    let g = groundsIn (c .model .firsts) in
     let goal = decode (c .model) .goal in
     subst (λ (n : ℕ). KeptFeed n (fedBy c p)) (acting-known c)
-    (feed-kept (promises g goal) (named g goal) (decode (c .model) .actions) anyState (knownOn c) p (heldBy c) (open-kept c o))
+    (feed-kept (promises summed goal) (named summed goal) (decode (c .model) .actions) anyState (knownOn c) p (heldBy c) (open-kept c o))
 
 -- what comes of more parts and the end is listed
 pub closed-kept : (c : Check) (ps : List (List ℕ)) → Open c
     → KeptResult (close (rulesOn c) limits (reader (knownOn c)) (feeds (rulesOn c) limits (reader (knownOn c)) (heldBy c) ps))
 unfolding rulesOn
 closed-kept c ps o =
-    let g = groundsIn (c .model .firsts) in
     let goal = decode (c .model) .goal in
-    let P = promises g goal in
-    close-kept P (named g goal) (decode (c .model) .actions) anyState (knownOn c) (feeds (rulesOn c) limits (reader (knownOn c)) (heldBy c) ps)
-    (feeds-kept P (named g goal) (decode (c .model) .actions) anyState (knownOn c) ps (heldBy c) (open-kept c o))
+    let P = promises summed goal in
+    close-kept P (named summed goal) (decode (c .model) .actions) anyState (knownOn c) (feeds (rulesOn c) limits (reader (knownOn c)) (heldBy c) ps)
+    (feeds-kept P (named summed goal) (decode (c .model) .actions) anyState (knownOn c) ps (heldBy c) (open-kept c o))
 
 -- ---- a check whose plan is refused
 

@@ -8,7 +8,7 @@ use lib.ListN.{length, take, length-map, length-take}
 use Rattle.domain_meaning.specs.Indexes.{padded}
 use Rattle.domain_rows.proofs.Rows.{take-padded}
 use Rattle.domain_meaning.specs.Tables.{Table}
-use Rattle.domain_stored_meaning.specs.Decode.{actionsAt}
+use Rattle.domain_prepared_meaning.specs.Decode.{actionsAt}
 use Rattle.domain_load.specs.Decode.{decode}
 use Rattle.happening_meaning.specs.State.{State}
 use Rattle.happening_meaning.specs.Happening.{isDone}
@@ -129,14 +129,14 @@ held-kept c f e =
 
 -- ---- as many actions as the model counts
 
-actions-length : (code starts : List ℕ) (j : ℕ) (es : Table) → length (actionsAt code starts j es) ≡ length es
+actions-length : (rows : List ℕ) (j : ℕ) (es : Table) → length (actionsAt rows j es) ≡ length es
 unfolding actionsAt
-actions-length code starts j [] = refl
-actions-length code starts j (e ∷ es) = ap suc (actions-length code starts (j + 1) es)
+actions-length rows j [] = refl
+actions-length rows j (e ∷ es) = ap suc (actions-length rows (j + 1) es)
 
 pub acting-known : (c : Check) → length (knownOn c .actions) ≡ c .model .acting
 unfolding knownOn decode
-acting-known c = actions-length (c .model .code) (c .model .starts) 0 _ ∙ signed-length (c .model .actions) (c .model .acting)
+acting-known c = actions-length (c .model .rows) 0 _ ∙ signed-length (c .model .actions) (c .model .acting)
 
 -- ---- before and after a plan no point waits, and the counters stand at the first line
 

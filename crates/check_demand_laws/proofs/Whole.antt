@@ -59,7 +59,7 @@ module _ (s t : List ℕ) (d : Domain) (p : Problem) (m n : ℕ) (e : readDomain
 
   closing : close (rulesOn loaded) limits (reader (knownOn loaded)) (feeds (rulesOn loaded) limits (reader (knownOn loaded)) (heldBy loaded) ps) ≡ means
   closing =
-      (λ i. close (rules i) limits (reader (known i)) (feeds (rules i) limits (reader (known i)) (L.held-loaded s t d p m n e f i) ps))
+      (λ i. close (rules i) limits (reads i) (feeds (rules i) limits (reads i) (L.held-loaded s t d p m n e f i) ps))
       ∙ close-same P (d .actions) anyState (firstState p) D (feeds (rulesOf P (d .actions) anyState) limits D begun ps)
       ∙ ap (λ x. close (rulesFor d p) limits D x) (feeds-same P (d .actions) anyState (firstState p) D ps begun)
       ∙ Plans.whole P (d .actions) (firstState p) (knownFor d p) ps
@@ -76,8 +76,8 @@ module _ (s t : List ℕ) (d : Domain) (p : Problem) (m n : ℕ) (e : readDomain
       rules : rulesOn loaded ≡ rulesOf (promises (groundsOf d p) (p .goal)) (d .actions) anyState
       rules = L.rules-loaded s t d p m n e f
 
-      known : knownOn loaded ≡ knownFor d p
-      known = L.known-loaded s t d p m n e f
+      reads : reader (knownOn loaded) ≡ D
+      reads = L.reader-loaded s t d p m n e f
 
   -- the check after finish
   finished : C.finishOf (feedsOf loaded ps) .check ≡ C.ended loaded means
