@@ -1,3 +1,0 @@
--- What the contracts name.
-pub mod Signs
-pub mod Shown

@@ -1,4 +1,0 @@
--- What the proofs of several functions use, here and in the crates above.
-pub mod Singles
-pub mod Joined
-pub mod Listings
