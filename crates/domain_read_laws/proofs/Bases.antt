@@ -59,9 +59,6 @@ none-sum (e ∷ t) = omega (arith, none-power (arity e), none-sum t)
 abbrev pub Firsts : ℕ → Table → List ℕ → Type 0
 Firsts n t firsts = (i : ℕ) → i < length t → getD firsts i 0 ≡ firstOf n t i
 
-pub bases-first : (n : ℕ) (t : Table) → Firsts n t (basesOf n t)
-bases-first n t i h = base-first n t i h
-
 pub padded-first : (n m : ℕ) (t : Table) → length t ≤ m → Firsts n t (padded m (basesOf n t))
 padded-first n m t h i k =
     let w = basesOf n t in

@@ -17,7 +17,7 @@ use Rattle.domain_prepared_meaning.specs.Good.{PreparesLasting, PreparesAction,
 use Rattle.domain_read_laws.proofs.Named.{NamedArg, NamedArgs, NamedRef, NamedExpr, NamedCond, NamedConds, NamedEffect, NamedEffects, NamedLasting}
 use Rattle.domain_read_laws.proofs.Named.{NamedTrees, NamedActions, of-below, parts-also}
 use Rattle.domain_read_laws.proofs.Sums.{sums-fit}
-use Rattle.domain_read_laws.proofs.Bases.{Firsts, bases-first, padded-first, base-below}
+use Rattle.domain_read_laws.proofs.Bases.{Firsts, padded-first, base-below}
 use Rattle.domain_read_laws.proofs.Whole.{Fitting}
 
 -- ---- trees, in a scope of at most k variables, whose bases have two bytes
@@ -128,9 +128,6 @@ pub record Prepared (d : Domain) (p : Problem) (ps fs : List ℕ) : Type 0 where
 module _ (d : Domain) (p : Problem) (g : Fitting d p) where
   pub firsts-prepare : (ps fs : List ℕ) → Firsts (length (p .objects)) (d .predicates) ps → Firsts (length (p .objects)) (d .functions) fs → Prepared d p ps fs
   firsts-prepare ps fs h k = record { actions = actions-prepare d p g ps fs h k; goal = goal-prepares d p g ps fs h k }
-
-  pub bases-prepare : Prepared d p (basesOf (length (p .objects)) (d .predicates)) (basesOf (length (p .objects)) (d .functions))
-  bases-prepare = firsts-prepare _ _ (bases-first (length (p .objects)) (d .predicates)) (bases-first (length (p .objects)) (d .functions))
 
   pub padded-prepare : Prepared d p (padded 32 (basesOf (length (p .objects)) (d .predicates))) (padded 16 (basesOf (length (p .objects)) (d .functions)))
   padded-prepare =

@@ -2,5 +2,4 @@
 pub mod Conditions
 pub mod Effects
 pub mod Points
-pub mod Rows
 pub mod Happening

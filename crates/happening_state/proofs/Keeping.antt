@@ -1,18 +1,15 @@
 -- What is read of a state after a fact or number was stored: at its index what was stored, elsewhere what was there. Assumes nothing.
-use mathlib.Core.Path.{_≡_, refl, sym, ap, _∙_}
+use mathlib.Core.Path.{_≡_, refl}
 use mathlib.Core.List.{List}
 use mathlib.Core.Bool.{Bool, true, false, cond}
-use Prim.Native.Nat.{ℕ, _+_, _≤_, _<_}
-use lib.Bits.{bitOr}
+use Prim.Native.Nat.{ℕ, _≤_, _<_}
 use lib.Dec.{eqb}
 use lib.IntN.{ℤ}
 use lib.ListN.{length, set, List·getD-eq-default}
 use lib.Seq.{getD-set-same, getD-set-other}
 use Rattle.domain_meaning.specs.First.{undefined}
 use Rattle.happening_meaning.specs.State.{State, isTrue, numberAt}
-use Rattle.happening_state.specs.States.{withFact, withNumber}
-use Rattle.happening_state.specs.Masks.{factBit, numberBit, Touched}
-use Rattle.happening_state.proofs.Bits.{not-first, not-second, not-bit}
+use Rattle.happening_state.specs.Masks.{Touched}
 
 -- past the end no fact is true
 pub past-false : (facts : List ℕ) (i : ℕ) → length facts ≤ i → false ≡ isTrue facts i
@@ -47,26 +44,3 @@ number-other numbers i j z n = getD-set-other numbers i j z undefined n
 
 pub touched-none : (w : ℕ) (s : State) → Touched w s s
 touched-none w s = record { facts = λ x h. refl; numbers = λ x h. refl }
-
-module _ {w : ℕ} {s t : State} (h : Touched w s t) where
-  pub touched-more : (v : ℕ) → Touched (bitOr w v) s t
-  touched-more v =
-      record { facts = λ x n. h .facts x (not-first w v x n); numbers = λ x n. h .numbers x (not-first w v (x + 32) n) }
-
-  pub touched-fact : (i : ℕ) (b : Bool) → Touched (bitOr w (factBit i)) s (withFact t i b)
-  touched-fact i b =
-      record {
-        facts =
-            λ x n. h .facts x (not-first w (factBit i) x n)
-            ∙ sym (fact-other (t .facts) i x (cond b 1 0) (not-bit i x (not-second w (factBit i) x n)));
-        numbers = λ x n. h .numbers x (not-first w (factBit i) (x + 32) n);
-      }
-
-  pub touched-number : (i : ℕ) (z : ℤ) → Touched (bitOr w (numberBit i)) s (withNumber t i z)
-  touched-number i z =
-      record {
-        facts = λ x n. h .facts x (not-first w (numberBit i) x n);
-        numbers =
-            λ x n. h .numbers x (not-first w (numberBit i) (x + 32) n)
-            ∙ sym (number-other (t .numbers) i x z (λ e. not-bit (i + 32) (x + 32) (not-second w (numberBit i) (x + 32) n) (ap (λ (y : ℕ). y + 32) e)));
-      }

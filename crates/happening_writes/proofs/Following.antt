@@ -88,10 +88,6 @@ module _ (rows : List ℕ) where
   pub effects-few : (at : ℕ) → 3 * length (effectsAt rows at) ≤ length rows + 2
   effects-few at = omega (arith, few (length rows) at)
 
-  -- in rows of 64 KiB
-  pub effects-within : (at : ℕ) → length rows ≤ 65536 → length (effectsAt rows at) ≤ 21846
-  effects-within at h = omega (arith, effects-few at)
-
 -- ---- what a row says of the effects from its place on
 
 pub record FactAt (rows : List ℕ) (at : ℕ) (added : Bool) (v next : ℕ) : Type 0 where

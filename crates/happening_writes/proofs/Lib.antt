@@ -8,4 +8,3 @@ pub mod Clashing
 pub mod Turning
 pub mod Joining
 pub mod Masking
-pub mod Quiet

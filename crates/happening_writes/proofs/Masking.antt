@@ -4,12 +4,10 @@ use mathlib.Core.List.{List, [], _∷_, _++_}
 use mathlib.Core.Bool.{Bool, true, false}
 use Prim.Native.Nat.{ℕ, _+_}
 use lib.Bits.{bitOr}
-use lib.IntN.{ℤ}
 use borrow.Author.Tests.{ne-eqb}
-use Rattle.domain_meaning.specs.Effects.{Effect}
-use Rattle.happening_meaning.specs.State.{State, Grounds, isTrue, numberAt}
-use Rattle.happening_meaning.specs.Writes.{some, marksOf}
-use Rattle.happening_meaning.specs.Happening.{Point, allMarks, newFacts, changeAll, changePoints, eachMark, with, without}
+use Rattle.happening_meaning.specs.State.{State, Grounds, isTrue}
+use Rattle.happening_meaning.specs.Writes.{some}
+use Rattle.happening_meaning.specs.Happening.{Point, allMarks, newFacts, changePoints, eachMark, with, without}
 use Rattle.happening_meaning.specs.declared.Mark.{Mark}
 use Rattle.happening_meaning.specs.declared.Mark.the-variants.{Nothing, Fact, Number}
 use Rattle.happening_state.specs.States.{stateIn}
@@ -18,7 +16,7 @@ use Rattle.happening_state.proofs.Bits.{not-first, not-second, not-bit}
 use Rattle.happening_state.proofs.Keeping.{fact-other}
 use Rattle.happening_writes.specs.Changing.{writeFact}
 use Rattle.happening_writes.specs.Masks.{markBit, maskFrom}
-use Rattle.happening_writes.proofs.Settling.{names, except-same, except-change, except-points}
+use Rattle.happening_writes.proofs.Settling.{names, except-same, except-points}
 
 -- added or deleted
 pub bit-fact : (added : Bool) (x : ℕ) → factBit x ≡ markBit (Fact added x)
@@ -75,10 +73,6 @@ unnamed w x (Fact a y ∷ ms) h = unnamed (bitOr w (markBit (Fact a y))) x ms h
 unnamed w x (Number a y ∷ ms) h =
     let n : has (numberBit y) (x + 32) ≡ false = ap (λ (b : ℕ). has b (x + 32)) (bit-number a y) ∙ not-here w (x + 32) (Number a y) ms h in
     rw (ne-eqb x y (λ e. not-bit (y + 32) (x + 32) n (ap (λ (i : ℕ). i + 32) e))) (unnamed (bitOr w (markBit (Number a y))) x ms h)
-
-pub numbers-stay : (g : Grounds) (old : List ℤ) (l : ℕ) (os : List ℕ) (ns : List ℤ) (es : List Effect) (w x : ℕ)
-    → has (maskFrom w (marksOf g os es)) (x + 32) ≡ false → numberAt (changeAll g old l os ns es .numbers) x ≡ numberAt ns x
-numbers-stay g old l os ns es w x h = sym (except-change g old ns l os [] ns es (except-same ns) .1 x (unnamed w x (marksOf g os es) h))
 
 -- ---- all points of a happening
 

@@ -7,7 +7,7 @@ use lib.Dec.{eqb}
 use lib.IntN.{ℤ}
 use lib.ListN.{set}
 use lib.Signed.{mag}
-use Rattle.domain_meaning.specs.Effects.{Change, assign, raise, lower, Effect, becomes, changes}
+use Rattle.domain_meaning.specs.Effects.{Change, assign, raise, lower}
 use Rattle.happening_meaning.specs.State.{inside, numberAt, stored}
 use Rattle.happening_meaning.specs.Happening.{Made, made, onNeeded, needed, setNumber, with, without}
 use Rattle.happening_meaning.specs.declared.Value.{Value}
@@ -15,11 +15,6 @@ use Rattle.happening_meaning.specs.declared.Mark.{Mark}
 use Rattle.happening_meaning.specs.declared.Mark.the-variants.{Nothing, Fact, Number}
 use Rattle.happening_meaning.specs.declared.Outcome.{Outcome}
 use Rattle.happening_meaning.specs.declared.Outcome.the-variants.{Done}
-
--- whether an effect writes a number
-unfoldable pub onNumber : Effect → Bool
-onNumber (becomes yes′ r) = false
-onNumber (changes how r e) = true
 
 -- what is done to a number, by the code's number for it
 unfoldable pub changeIn : ℕ → Change

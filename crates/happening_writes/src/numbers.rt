@@ -17,7 +17,7 @@ ghost use Rattle.happening_meaning.specs.Writes.{some};
 ghost use Rattle.happening_meaning.specs.Happening.{made, changeAll, leaves};
 ghost use Rattle.happening_forms.specs.Summed.{summed, fourAt};
 ghost use Rattle.happening_writes.specs.Rows.{marksAt};
-ghost use Rattle.happening_writes.specs.Changing.{Bounded, Room, onNumber, changeIn, blamed, shifted, changeBy, settleAll};
+ghost use Rattle.happening_writes.specs.Changing.{Bounded, Room, changeIn, blamed, shifted, changeBy, settleAll};
 
 fn blame(line: usize, v: Value) -> Outcome
     ensures { λ r. ⌜ r ≡ blamed line v ⌝ }
@@ -67,27 +67,6 @@ fn change_number(
         return Outcome::Done;
     }
     shift(old, fresh, line, x, how == 1, z)
-}
-
-// Whether a point writes a number at all: of one that doesn't, steps 2 and 4 say nothing of numbers.
-pub fn writes_number(rows: &[u8], from: usize) -> bool
-    ensures { λ r. ⌜ r ≡ some onNumber (effectsAt (now (rows .entry)) from) ⌝ }
-{
-    let mut at = from;
-    loop {
-        let row = rows::effect_at(rows, at);
-        match row {
-            Row::End => {
-                return false;
-            }
-            Row::Fact(_, _, next) => {
-                at = next;
-            }
-            Row::Number(_, _, _) => {
-                return true;
-            }
-        }
-    }
 }
 
 // The effects of a point on the numbers.
