@@ -2,6 +2,7 @@
 use crate::known;
 use domain_due::Parsed;
 use domain_terms::scope::Counts;
+use text_tokens::signs;
 use text_tokens::tokens;
 use text_tokens::tokens::Token;
 use text_words::spelling::Place;
@@ -20,7 +21,7 @@ ghost use Rattle.plan_lines.specs.Reading.{Plain, amountAnswer, spanAnsw
 pub fn mark_due(text: &[u8], from: usize, b: u8) -> Parsed
     ensures { λ r. ⌜ r ≡ answerOf (mark (now (text .entry)) b from) ⌝ }
 {
-    let t = tokens::plan_token_at(text, from);
+    let t = signs::sign_at(text, from, b);
     let Token::Mark(c, p, next) = t else {
         return domain_due::refusal(t, 1);
     };
@@ -34,7 +35,7 @@ pub fn mark_due(text: &[u8], from: usize, b: u8) -> Parsed
 pub fn opening_due(text: &[u8], from: usize) -> Parsed
     ensures { λ r. ⌜ r ≡ answerOf (opening (now (text .entry)) from) ⌝ }
 {
-    let t = tokens::plan_token_at(text, from);
+    let t = signs::sign_at(text, from, b'(');
     let Token::Open(p, next) = t else {
         return domain_due::refusal(t, 1);
     };
@@ -45,7 +46,7 @@ pub fn opening_due(text: &[u8], from: usize) -> Parsed
 fn end_due(text: &[u8], from: usize) -> Parsed
     ensures { λ r. ⌜ r ≡ answerOf (lineEnd (now (text .entry)) from) ⌝ }
 {
-    let t = tokens::plan_token_at(text, from);
+    let t = signs::end_at(text, from);
     let Token::End(p) = t else {
         return domain_due::refusal(t, 1);
     };
@@ -104,7 +105,7 @@ pub fn objects_at<'a>(
     let mut j = 0;
     let mut at = from;
     loop {
-        let t = tokens::plan_token_at(text, at);
+        let t = signs::sign_at(text, at, b')');
         if let Token::Close(p, next) = t {
             if j < arity {
                 return Parsed::Refused(9, p);
@@ -177,7 +178,7 @@ fn duration_at(text: &[u8], from: usize) -> Parsed
 pub fn span_at(text: &[u8], from: usize, lasting: bool) -> Parsed
     ensures { λ r. ⌜ (r ≡ spanAnswer (lastingRead (now (text .entry)) lasting from)) × amountAnswer r ⌝ }
 {
-    let t = tokens::plan_token_at(text, from);
+    let t = signs::sign_at(text, from, b'[');
     if let Token::End(p) = t {
         if lasting {
             return Parsed::Refused(17, p);

@@ -2,6 +2,7 @@
 pub mod Begun
 pub mod Figures
 pub mod PlanTokens
+pub mod Standing
 pub mod Starts
 pub mod Steps
 pub mod Valued

@@ -4,3 +4,4 @@ pub mod Numbers
 pub mod Classes
 pub mod Tokens
 pub mod Figures
+pub mod Signs

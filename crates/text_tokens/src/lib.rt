@@ -2,4 +2,5 @@
 pub mod classes;
 pub mod numbers;
 pub mod runs;
+pub mod signs;
 pub mod tokens;

@@ -155,7 +155,7 @@ pub fn spot_at(text: &[u8], from: usize, w: &[u8]) -> Spot
 }
 
 // A token of a plan line, if it ends before column 257.
-fn judged(end: usize, t: Token) -> Token
+pub fn judged(end: usize, t: Token) -> Token
     ensures { λ r. ⌜ r ≡ judgedOf end t ⌝ }
 {
     if 256 < end {
@@ -195,7 +195,7 @@ fn plan_word(w: &[u8], p: usize, e: usize) -> Token
     }
 }
 
-fn plan_bracket(b: u8, p: usize) -> Token
+pub fn plan_bracket(b: u8, p: usize) -> Token
     requires { ⌜ p < 18446744073709551615 ⌝ }
     ensures { λ r. ⌜ r ≡ squareOf b p ⌝ }
 {

@@ -6,8 +6,8 @@ use borrow.Author.Needs.{needs}
 use Rattle.plan_lines.proofs.reading.mark_due.Statement.{statement}
 use Rattle.plan_lines.proofs.reading.mark_due.Tie as tie
 
-plan-token-at-requires : tie.Need-plan-token-at-requires
-plan-token-at-requires c κs = search needs
+sign-at-requires : tie.Need-sign-at-requires
+sign-at-requires c κs = search needs
 
 enum-known-t : tie.Need-enum-known-t
 enum-known-t c = search needs
@@ -16,15 +16,15 @@ refusal-requires : tie.Need-refusal-requires
 refusal-requires c κs = search needs
 
 returns : tie.Need-returns
-returns c = mark-else _ _ _ _ _ (c .before .before .plan-token-at .ensures) (c .before .match .keys2) (c .refusal .ensures)
+returns c = mark-else _ _ _ _ _ (c .before .before .sign-at .ensures) (c .before .match .keys2) (c .refusal .ensures)
 
 returns-2 : tie.Need-returns-2
-returns-2 c = mark-read _ _ _ _ _ _ (sym (c .before .before .before .before .plan-token-at .ensures) ∙ c .before .before .t .given .1) (c .if1 .taken)
+returns-2 c = mark-read _ _ _ _ _ _ (sym (c .before .before .before .before .sign-at .ensures) ∙ c .before .before .t .given .1) (c .if1 .taken)
 
 returns-3 : tie.Need-returns-3
-returns-3 c = mark-other _ _ _ _ _ _ (sym (c .before .before .before .before .plan-token-at .ensures) ∙ c .before .before .t .given .1) (c .if1 .left)
+returns-3 c = mark-other _ _ _ _ _ _ (sym (c .before .before .before .before .sign-at .ensures) ∙ c .before .before .t .given .1) (c .if1 .left)
 
 pub mark-due-spec : {M : Type 1} → statement M
 mark-due-spec =
     tie.close
-    (tie.spec plan-token-at-requires enum-known-t refusal-requires returns returns-2 returns-3)
+    (tie.spec sign-at-requires enum-known-t refusal-requires returns returns-2 returns-3)
