@@ -36,7 +36,7 @@ class Case(NamedTuple):
 
 
 class Compared(NamedTuple):
-    """A case with both answers; without a case, what a program wrote behind its last answer."""
+    """A case with both answers; without a case, what a program wrote after its last answer."""
 
     case: Optional[Case]
     second: bytes
@@ -97,7 +97,7 @@ def write_cases(cases, path):
 
 
 def read_answers(source):
-    """The answers, each with its last line; behind them what is no whole answer, if there is such."""
+    """The answers, each with its last line; after them what is no whole answer, if there is such."""
     lines = []
     for line in source:
         lines.append(line)
