@@ -1,4 +1,4 @@
-//! Reads one action of either kind behind its name: "parameters, duration, condition
+//! Reads one action of either kind after its name: "parameters, duration, condition
 //! (`:precondition` if simple), effect, the last two optional".
 
 use crate::forms::{Action, DurativeRules, Expression, PointRules, Vocabulary};

@@ -85,7 +85,7 @@ pub fn read_definition_head<'t>(reader: &mut Reader<'t>, what: &str) -> Result<T
 }
 
 impl Domain {
-    /// Reads a section behind its head to its closing bracket.
+    /// Reads a section after its head to its closing bracket.
     fn read_section(&mut self, reader: &mut Reader, head: &Token) -> Result<(), Refusal> {
         let vocabulary = &mut self.vocabulary;
         let types = &vocabulary.types;

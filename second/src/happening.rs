@@ -1,4 +1,4 @@
-//! One happening of document 01, steps 1 to 4: all points of one time, seen in the state before it.
+//! One happening of the rules, steps 1 to 4: all points of one time, seen in the state before it.
 
 use std::collections::BTreeMap;
 

@@ -1,5 +1,5 @@
 //! Which facts and numbers a point reads and writes, and what of that sets two points, or a point
-//! and itself, against each other (steps 2 and 3; Definition 12 of Fox and Long).
+//! and itself, against each other (steps 2 and 3; Fox and Long, Definition 12).
 
 use crate::forms::{Condition, Effect, Expression, Test, Write};
 use crate::happening::Point;

@@ -1,5 +1,5 @@
-//! The second program: answers every case of document 01 on its own, written from that document
-//! and the decided readings alone, to be held beside the first.
+//! The second program: answers every case on its own, written from the rules (docs/RULES.md) and
+//! the decided readings (docs/DECISIONS.md) alone, to be held beside the first.
 
 pub mod batch;
 pub mod generate;
@@ -25,7 +25,7 @@ use text::Refusal;
 
 /// What is written for one check.
 pub struct Answer {
-    /// the line of document 01, with its LF
+    /// the line written, with its LF
     pub line: String,
     /// the final facts and numbers in the order of their indexes; none if refused
     pub state: Option<(Vec<bool>, Vec<Option<i64>>)>,

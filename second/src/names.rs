@@ -142,7 +142,7 @@ pub fn read_parameters(
     Ok(parameters)
 }
 
-/// Reads groups of members, each perhaps with `- type` behind it, to the closing bracket. "An
+/// Reads groups of members, each perhaps with `- type` after it, to the closing bracket. "An
 /// untyped name is an `object`." `type_of` gets the list and where in it the group begins.
 fn read_typed_list(
     reader: &mut Reader,

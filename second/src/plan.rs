@@ -68,7 +68,7 @@ pub fn read_plan(
     Ok(steps)
 }
 
-/// The first line, and what stands behind its LF if it has one.
+/// The first line, and what stands after its LF if it has one.
 fn split_line(text: &[u8]) -> (&[u8], Option<&[u8]>) {
     match text.iter().position(|&byte| byte == b'\n') {
         Some(length) => (&text[..length], Some(&text[length + 1..])),

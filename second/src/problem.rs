@@ -8,7 +8,7 @@ use crate::state::{Layout, State};
 use crate::text::{Kind, Reader, Refusal, Token};
 
 pub struct Problem {
-    /// the domain's, with the problem's objects behind the constants
+    /// the domain's, with the problem's objects after the constants
     pub vocabulary: Vocabulary,
     pub layout: Layout,
     pub initial: State,
@@ -42,7 +42,7 @@ pub fn read_problem(domain: &Domain, text: &[u8]) -> Result<Problem, Refusal> {
     due_section(&head, ":goal")?;
     let goal = read_goal(reader, &vocabulary)?;
     if reader.another()? {
-        // A bracket opens a section, and the word behind it is judged; none may follow.
+        // A bracket opens a section, and the word after it is judged; none may follow.
         return Err(reader.token()?.refused(3));
     }
     reader.due_end()?;
@@ -60,7 +60,7 @@ fn read_section_head<'t>(reader: &mut Reader<'t>) -> Result<Token<'t>, Refusal> 
     reader.token()
 }
 
-/// Row 12: "for the two sums `:init`, else `:goal`", where it stands in its turn, which is behind
+/// Row 12: "for the two sums `:init`, else `:goal`", where it stands in its turn, which is after
 /// the objects.
 fn judge_sums(head: &Token, layout: &Layout) -> Result<(), Refusal> {
     let passed = layout.facts > FACTS || layout.numbers > NUMBERS;

@@ -1,4 +1,4 @@
-//! Bytes and words of document 01: cuts a text into tokens, left to right.
+//! Bytes and words of the rules: cuts a text into tokens, left to right.
 //! One reader serves domain, problem and single plan lines, which differ in their limit and a few tokens.
 
 /// A row of the refusal table and its place, a byte offset from 0 in the text (or plan line) read.
@@ -181,7 +181,7 @@ impl<'t> Reader<'t> {
         }
     }
 
-    /// Behind the last bracket only white space and comments may stand.
+    /// After the last bracket only white space and comments may stand.
     pub fn due_end(&mut self) -> Result<(), Refusal> {
         match self.token_or_end()? {
             Some(token) => Err(token.refused(3)),

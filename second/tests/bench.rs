@@ -1,4 +1,4 @@
-//! The bench examples of document 01, K1 to K11 (it has no K3).
+//! The bench examples of the rules (RULES 14), K1 to K11 (there is no K3).
 
 mod common;
 

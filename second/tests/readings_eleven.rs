@@ -1,4 +1,4 @@
-//! The decided readings, in their order: "11".
+//! The decided readings of docs/DECISIONS.md: "Refusal 11".
 
 mod common;
 

@@ -1,4 +1,4 @@
-//! The decided readings, in their order: "Forms and sizes".
+//! The decided readings of docs/DECISIONS.md: "Forms and sizes".
 
 mod common;
 
@@ -134,7 +134,7 @@ fn text_too_long() {
             (6, format!("{before}^12.5a)")),
         ],
     );
-    // The name is read whole and accepted, and the bracket behind it is not read.
+    // The name is read whole and accepted, and the bracket after it is not read.
     let named = format!("{before}name))");
     assert_eq!(line(&named, "", ""), "refused domain 1 32768 0\n");
     let long_comment = format!("(define (domain d)) ;{}", "-".repeat(limit));

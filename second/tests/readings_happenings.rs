@@ -1,4 +1,4 @@
-//! The decided readings, in their order: "Happenings".
+//! The decided readings of docs/DECISIONS.md: "Happenings".
 
 mod common;
 

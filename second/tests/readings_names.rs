@@ -1,4 +1,4 @@
-//! The decided readings, in their order: "Declared names".
+//! The decided readings of docs/DECISIONS.md: "Declared names".
 
 mod common;
 

@@ -1,4 +1,4 @@
-//! The points that neither document decides, as READINGS.md lists them and in its order.
+//! The points that needed a reading, as READINGS.md lists them and in its order.
 
 mod common;
 

@@ -1,10 +1,10 @@
-//! The decided readings, in their order: "Plan lines".
+//! The decided readings of docs/DECISIONS.md: "Plan lines".
 
 mod common;
 
 use common::*;
 
-/// The plan line with spaces behind it, so that it has this length without its mark.
+/// The plan line with spaces after it, so that it has this length without its mark.
 fn spaced(line: &str, length: usize) -> String {
     let marks = line.matches('^').count();
     format!("{line}{}", " ".repeat(length + marks - line.len()))

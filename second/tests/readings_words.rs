@@ -1,4 +1,4 @@
-//! The decided readings, in their order: "Bytes and words".
+//! The decided readings of docs/DECISIONS.md: "Bytes and words".
 
 mod common;
 

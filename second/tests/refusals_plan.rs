@@ -1,5 +1,5 @@
 //! Rows 2 to 18 of the refusal table at several places of plans of the bench, each with the
-//! sentence of document 01 that decides.
+//! sentence of the rules that decides.
 
 mod common;
 
@@ -164,7 +164,7 @@ fn row_16_starts() {
         "5, 6 at the same token come first",
         &[(6, "1: (note a)\n^0.9999: (note a)")],
     );
-    // As document 01 writes it.
+    // As the rules write it.
     let written = line(BENCH_DOMAIN, BENCH_PROBLEM, "1: (note a)\n0: (note a)\n");
     assert_eq!(written, "refused plan 16 2 1\n");
 }
@@ -214,7 +214,7 @@ fn row_18_waiting_points() {
     );
 }
 
-/// "it outranks every verdict", also where it stands behind the failing time; of two the earlier
+/// "it outranks every verdict", also where it stands after the failing time; of two the earlier
 /// line's is given.
 #[test]
 fn refusals_before_verdicts() {

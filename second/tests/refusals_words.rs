@@ -1,5 +1,5 @@
 //! Rows 1 to 7 of the refusal table at several places of domain and problem, each with the
-//! sentence of document 01 that decides.
+//! sentence of the rules that decides.
 
 mod common;
 

@@ -1,5 +1,5 @@
-//! "A happening" and "The verdict" of document 01: every verdict word, the order of failures, and
-//! the final facts and numbers.
+//! Happenings and verdicts of the rules: every verdict word, the order of failures, and the final
+//! facts and numbers.
 
 mod common;
 

@@ -1,4 +1,4 @@
-//! The bench of document 01's examples, and a wider one for crowds of waiting points.
+//! The bench of the rules' examples (RULES 14), and a wider one for crowds of waiting points.
 
 use super::world::{Action, Atom, Condition, Effect, Expression, Head, Named, Term, When, World};
 

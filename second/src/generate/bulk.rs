@@ -83,7 +83,7 @@ fn leaves(condition: &Condition) -> usize {
 }
 
 /// Single conditions that hold, so many and `over` more, some under `and`; the first one over may
-/// have an undeclared name for its head or behind it.
+/// have an undeclared name for its head or after it.
 fn fillers(count: usize, over: usize, random: &mut Random) -> Vec<Condition> {
     let number = Expression::Number;
     let mut list: Vec<Condition> = Vec::new();

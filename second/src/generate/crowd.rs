@@ -110,7 +110,7 @@ pub fn long_plan(random: &mut Random) -> Draft {
     draft(&world, &steps, random)
 }
 
-/// A plan of as many lines as there may be, nearly all empty, perhaps with bytes behind them.
+/// A plan of as many lines as there may be, nearly all empty, perhaps with bytes after them.
 pub fn million(random: &mut Random) -> (Draft, Vec<u8>) {
     let world = crowd();
     let ends = LINES - usize::from(random.chance(25));

@@ -74,7 +74,7 @@ pub fn token(tokens: &mut Vec<String>, pool: &str, random: &mut Random) {
     }
 }
 
-/// The place behind the bracket that closes the one at `open`.
+/// The place after the bracket that closes the one at `open`.
 pub fn behind(tokens: &[String], open: usize) -> usize {
     let mut depth = 0;
     for (index, token) in tokens.iter().enumerate().skip(open) {
@@ -90,7 +90,7 @@ pub fn behind(tokens: &[String], open: usize) -> usize {
     tokens.len()
 }
 
-/// A random bracketed group as its first token and the place behind its last.
+/// A random bracketed group as its first token and the place after its last.
 fn any_group(tokens: &[String], random: &mut Random) -> Option<(usize, usize)> {
     let open = any_place(tokens, |token| token == "(", random)?;
     Some((open, behind(tokens, open)))
@@ -253,7 +253,7 @@ fn numeral(tokens: &mut Vec<String>, random: &mut Random) {
     }
 }
 
-/// The equation around a number once more behind it, with something else for the number.
+/// The equation around a number once more after it, with something else for the number.
 fn echo(tokens: &mut Vec<String>, random: &mut Random) {
     let Some(number) = any_place(tokens, is_number, random) else {
         return;
@@ -268,7 +268,7 @@ fn echo(tokens: &mut Vec<String>, random: &mut Random) {
     tokens.splice(end..end, copy);
 }
 
-/// Something more before or behind the last bracket.
+/// Something more before or after the last bracket.
 fn tail(tokens: &mut Vec<String>, random: &mut Random) {
     let place = tokens.len().saturating_sub(random.below(2));
     put(tokens, place, 0, random.phrase(TAILS));

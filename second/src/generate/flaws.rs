@@ -161,7 +161,7 @@ impl Gathering<'_> {
         true
     }
 
-    /// Moves the two lines that meet behind all others of their starts.
+    /// Puts the two lines that meet last among those of their starts.
     fn hide(&mut self) {
         let Said::Failed { line, second, .. } = self.ask() else {
             return;

@@ -39,7 +39,7 @@ fn words(phrase: &str) -> impl Iterator<Item = String> + '_ {
     phrase.split_whitespace().map(String::from)
 }
 
-/// Changes what stands behind the step's round brackets.
+/// Changes what stands after the step's round brackets.
 fn bracket(line: &mut Vec<String>, random: &mut Random) {
     const BRACKETS: &str = "\
         ; [ 0 ]; [ 0.000 ]; [ 000000000.0 ]; [ ]; [ 5; [; [ 5 5 ]; [ 5 ] [ 5 ]; [ -5 ]; [ a ]; 5; \

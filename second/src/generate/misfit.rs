@@ -16,7 +16,7 @@ pub fn misfit(world: &mut World, random: &mut Random) {
     }
 }
 
-/// Gives two things of one sort the same name; the second may have a further fault behind it.
+/// Gives two things of one sort the same name; the second may have a further fault after it.
 fn twice(world: &mut World, random: &mut Random) {
     let action = random.below(world.actions.len());
     match random.below(6) {

@@ -47,7 +47,7 @@ pub fn fresh<T: Called>(random: &mut Random, taken: &[T]) -> String {
     name
 }
 
-/// A name for a variable: any but `duration`, which is not free behind a `?`.
+/// A name for a variable: any but `duration`, which is not free after a `?`.
 pub fn fresh_variable(random: &mut Random, taken: &[Named]) -> String {
     loop {
         let name = fresh(random, taken);

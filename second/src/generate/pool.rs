@@ -41,7 +41,7 @@ pub const PLAN: &str = "\
     ?abcdefghijklmnopqrstuvwxyz-_01234; abcdefghijklmnopqrstuvwxyz.-_0123456; : :; [ [; ] ]; ( (; \
     ) ); {; }; '; @; \"; !; ~";
 
-/// What may stand behind the last section, inside or outside the last bracket.
+/// What may stand after the last section, inside or outside the last bracket.
 pub const TAILS: &str = "\
     ); (; a; 5; or; ?x; :metric; ( :metric minimize ( x ) ); ( metric ); ( :metric; \
     ( :constraints ); ( :goal ( and ) ); ( :init ); ( :objects ); ( :requirements :strips ); \
@@ -50,7 +50,7 @@ pub const TAILS: &str = "\
     ( :predicates ( a ) ); ( :functions ( a ) ); ( :constants ); ( :domain a ); \
     ( abcdefghijklmnopqrstuvwxyz-_01234; ( :abcdefghijklmnopqrstuvwxyz-_01234";
 
-/// A word, how far behind it, and what may take the place of the token there. Each line is as
+/// A word, how far after it, and what may take the place of the token there. Each line is as
 /// likely as any other.
 pub const RECIPES: &str = "\
 - 1 ( either a b ); ( either; ( EITHER ); either; ( ?either; ( either-or )

@@ -31,7 +31,7 @@ pub fn write(seed: u64, given: &Pair, out: &mut dyn Write) -> io::Result<()> {
 }
 
 /// How many candidates are made, how many bytes both texts of one may have, and how many are kept
-/// at most for one number of one text, and of those behind one keyword.
+/// at most for one number of one text, and of those after one keyword.
 const CANDIDATES: u64 = 40_000;
 const SHORT: usize = 1_600;
 const EACH: usize = 24;

@@ -120,12 +120,12 @@ pub fn domain(sections: &str) -> String {
     format!("(define (domain d) {sections})")
 }
 
-/// A domain with the vocabulary and this section behind it.
+/// A domain with the vocabulary and this section after it.
 pub fn section(section: &str) -> String {
     domain(&format!("{VOCABULARY}{section}"))
 }
 
-/// A simple action with this behind its parameters.
+/// A simple action with this after its parameters.
 pub fn action(rest: &str) -> String {
     section(&format!(
         "(:action x :parameters (?t - t ?u - u ?o) {rest})"
@@ -140,19 +140,19 @@ pub fn effect(effect: &str) -> String {
     action(&format!(":effect {effect}"))
 }
 
-/// A durative action with this behind its parameters.
+/// A durative action with this after its parameters.
 pub fn durative(rest: &str) -> String {
     section(&format!(
         "(:durative-action x :parameters (?t - t ?u - u ?o) {rest})"
     ))
 }
 
-/// A durative action with this behind its duration.
+/// A durative action with this after its duration.
 pub fn lasting(rest: &str) -> String {
     durative(&format!(":duration (= ?duration 5) {rest}"))
 }
 
-/// A problem with these sections behind its domain.
+/// A problem with these sections after its domain.
 pub fn problem(sections: &str) -> String {
     format!("(define (problem x) (:domain d) {sections})")
 }

@@ -1,5 +1,5 @@
 //! Every size of a domain and a problem at its limit, and one past it.
-//! Written down one by one, with the answer that document 01 gives: nothing here is left to chance.
+//! Written down one by one, with the answer that the rules give: nothing here is left to chance.
 
 mod forms;
 mod words;

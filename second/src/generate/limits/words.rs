@@ -39,7 +39,7 @@ pub fn names(list: &mut List) {
     list.add("flag", 11, flag, problem_text(NO_SECTIONS));
 }
 
-/// Numbers with the most digits and with one more, before the point and behind it.
+/// Numbers with the most digits and with one more, before the point and after it.
 pub fn numbers(list: &mut List) {
     let forms = [
         "999999999",
