@@ -1,16 +1,16 @@
--- Definitions over a text, a step at a place of it: counting up to an LF, and what is quoted of a line. Assumes nothing.
-use mathlib.Core.Path.{_≡_, ap}
+-- Definitions over a text, a step at a place of it: counting up to an LF; and the bytes on both sides of a place. Assumes nothing.
+use mathlib.Core.Path.{_≡_, ap, _∙_}
 use mathlib.Core.List.{List}
-use Prim.Native.Nat.{ℕ, suc, _+_, _-_, _*_, _≤_, _<_}
+use Prim.Native.Nat.{ℕ, suc, _+_, _-_, _≤_, _<_}
 use native.Mathlib.Nat.{sub-zero}
 use native.Mathlib.Omega.{arith}
 use native.Mathlib.Numerals.{add-one}
 use lib.ListN.{length, getD, take, drop, length-take, length-drop, drop-of-length-le}
 use lib.Seq.{take-all}
-use borrow.Author.Tests.{eq-eqb, ne-eqb, le-leb, lt-leb, lt-ltb, le-ltb}
+use borrow.Author.Tests.{eq-eqb, ne-eqb}
 use Rattle.base_laws.proofs.Lists.{at-cons}
 use Rattle.text_tokens.specs.Runs.{part}
-use Rattle.program_quotes.specs.Location.{lineEnds, behind, ahead, fromAt, toAt}
+use Rattle.program_quotes.specs.Location.{lineEnds, behind, ahead}
 
 pub ends-here : (s : List ℕ) (p : ℕ) → p < length s → getD s p 0 ≡ 10 → lineEnds (drop p s) ≡ suc (lineEnds (drop (p + 1) s))
 unfolding lineEnds
@@ -48,44 +48,24 @@ pub ahead-end : (s : List ℕ) (p : ℕ) → length s ≤ p → ahead (drop p s)
 unfolding ahead
 ahead-end s p h = rw (drop-of-length-le s h)
 
--- ---- what is quoted
+-- ---- the bytes before a place, and those from it on
 
--- the bytes before a place
 pub front : (t : List ℕ) (p : ℕ) → part t 0 p ≡ take p t
 front t p = ap (λ (n : ℕ). take n t) (sub-zero p)
 
 -- no more of them than the place counts
-pub front-most : (t : List ℕ) (p : ℕ) → length (take p t) ≤ p
-front-most t p = omega (arith, length-take p t)
+pub front-most : (t : List ℕ) (p : ℕ) {s : List ℕ} → s ≡ part t 0 p → length s ≤ p
+front-most t p e = omega (arith, length-take p t, ap (λ (l : List ℕ). length l) (e ∙ front t p))
 
--- the bytes from a place to the end
-pub rest : (t : List ℕ) (p : ℕ) → part t p (length t) ≡ drop p t
+rest : (t : List ℕ) (p : ℕ) → part t p (length t) ≡ drop p t
 rest t p = take-all (length t - p) (drop p t) (omega (arith, length-drop p t))
 
-near : (t : List ℕ) (p : ℕ) → behind 0 (take p t) ≤ 256 → p - behind 0 (take p t) ≡ fromAt t p
-unfolding fromAt
-near t p h = rw (le-leb (behind 0 (take p t)) 256 h)
+pub rest-length : (t : List ℕ) (p : ℕ) {s : List ℕ} → s ≡ part t p (length t) → length s ≡ length t - p
+rest-length t p e = ap (λ (l : List ℕ). length l) (e ∙ rest t p) ∙ length-drop p t
 
-pub from-near : (t : List ℕ) (p n : ℕ) → n ≡ behind 0 (take p t) → n ≤ 256 → p - n ≡ fromAt t p
-from-near t p n e h = rw e (near t p (rw e at h))
+-- how many of them are of the place's line
+pub before-place : (t : List ℕ) (p : ℕ) {s : List ℕ} {n : ℕ} → s ≡ part t 0 p → n ≡ behind 0 s → n ≡ behind 0 (take p t)
+before-place t p e h = h ∙ ap (λ (l : List ℕ). behind 0 l) (e ∙ front t p)
 
-far : (t : List ℕ) (p : ℕ) → 256 < behind 0 (take p t) → p - 128 ≡ fromAt t p
-unfolding fromAt
-far t p h = rw (lt-leb (behind 0 (take p t)) 256 h)
-
-pub from-far : (t : List ℕ) (p n : ℕ) → n ≡ behind 0 (take p t) → 256 < n → p - 128 ≡ fromAt t p
-from-far t p n e h = far t p (rw e at h)
-
-short : (t : List ℕ) (p : ℕ) → ahead (drop (fromAt t p) t) ≤ 256 → fromAt t p + ahead (drop (fromAt t p) t) ≡ toAt t p
-unfolding toAt
-short t p h = rw (le-leb (ahead (drop (fromAt t p) t)) 256 h)
-
-pub to-short : (t : List ℕ) (p f n : ℕ) → f ≡ fromAt t p → n ≡ ahead (drop f t) → n ≤ 256 → f + n ≡ toAt t p
-to-short t p f n e k h = rw (k, e) (short t p (rw (k, e) at h))
-
-long : (t : List ℕ) (p : ℕ) → 256 < ahead (drop (fromAt t p) t) → fromAt t p + 256 ≡ toAt t p
-unfolding toAt
-long t p h = rw (lt-leb (ahead (drop (fromAt t p) t)) 256 h)
-
-pub to-long : (t : List ℕ) (p f n : ℕ) → f ≡ fromAt t p → n ≡ ahead (drop f t) → 256 < n → f + 256 ≡ toAt t p
-to-long t p f n e k h = rw e (long t p (rw (k, e) at h))
+pub from-place : (t : List ℕ) (p : ℕ) {s : List ℕ} {m : ℕ} → s ≡ part t p (length t) → m ≡ ahead s → m ≡ ahead (drop p t)
+from-place t p e h = h ∙ ap (λ (l : List ℕ). ahead l) (e ∙ rest t p)

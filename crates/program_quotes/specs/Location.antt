@@ -1,5 +1,5 @@
 -- Where a place of a text lies for a person. A place is the number of bytes before it; lines and columns count from 1, columns in bytes.
-use Prim.Native.Nat.{ℕ, suc, _+_, _-_}
+use Prim.Native.Nat.{ℕ, suc, _+_, _-_, min}
 use mathlib.Core.List.{List, [], _∷_}
 use mathlib.Core.Bool.{cond}
 use Prim.Native.Char.{code}
@@ -28,13 +28,22 @@ lineAt t p = 1 + lineEnds (take p t)
 abbrev pub columnAt : List ℕ → ℕ → ℕ
 columnAt t p = 1 + behind 0 (take p t)
 
--- what is quoted begins with the place's line, or 128 bytes before a place that lies more than 256 bytes behind that
-unfoldable pub fromAt : List ℕ → ℕ → ℕ
-fromAt t p = cond (leb (behind 0 (take p t)) 256) (p - behind 0 (take p t)) (p - 128)
+-- A line of at most 80 bytes is quoted whole. Of a longer one 74 bytes are, with room for the signs of what is left out: from its beginning, or from 37
+-- bytes before a place that lies further on. n bytes of the line stand before the place and m from it on: how many of the n are quoted,
+unfoldable pub beforeOf : ℕ → ℕ → ℕ
+beforeOf n m = cond (leb (n + m) 80) n (min n 37)
 
--- and ends with the line, or after 256 bytes
-unfoldable pub toAt : List ℕ → ℕ → ℕ
-toAt t p = fromAt t p + cond (leb (ahead (drop (fromAt t p) t)) 256) (ahead (drop (fromAt t p) t)) 256
+-- and how many of the m
+unfoldable pub afterOf : ℕ → ℕ → ℕ
+afterOf n m = cond (leb (n + m) 80) m (min m (74 - min n 37))
+
+-- where what is quoted of the place's line begins
+abbrev pub fromAt : List ℕ → ℕ → ℕ
+fromAt t p = p - beforeOf (behind 0 (take p t)) (ahead (drop p t))
+
+-- and where it ends
+abbrev pub toAt : List ℕ → ℕ → ℕ
+toAt t p = p + afterOf (behind 0 (take p t)) (ahead (drop p t))
 
 -- white is quoted as a space, a byte not allowed as a point
 unfoldable pub shownByte : ℕ → ℕ

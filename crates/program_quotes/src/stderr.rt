@@ -30,7 +30,7 @@ pub fn say_time(t: usize) {
 }
 
 fn say_blanks(n: usize) {
-    let blanks = [b' '; 512];
+    let blanks = [b' '; 80];
     say(runs::part_of(&blanks, 0, n));
 }
 
@@ -49,12 +49,12 @@ fn say_margin(number: usize, is_numbered: bool) {
     say(b" | ");
 }
 
-// The bytes of a text from one place to another, 256 at most.
+// The bytes of a text from one place to another, 80 at most.
 fn say_shown(text: &[u8], from: usize, to: usize) {
-    let mut block = [0u8; 256];
+    let mut block = [0u8; 80];
     let part = runs::part_of(text, from, to);
     let mut n = 0;
-    while n < part.len() && n < 256 {
+    while n < part.len() && n < 80 {
         block[n] = location::shown(part[n]);
         n += 1;
     }

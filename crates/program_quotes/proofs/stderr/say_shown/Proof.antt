@@ -7,7 +7,7 @@ use Rattle.program_quotes.proofs.stderr.say_shown.Statement.{statement}
 use Rattle.program_quotes.proofs.stderr.say_shown.Tie as tie
 
 abbrev Inv-loop : tie.InvT-loop
-Inv-loop text from to block₀ part n₀ block n = length block ≡ 256
+Inv-loop text from to block₀ part n₀ block n = length block ≡ 80
 
 abbrev μ-loop : tie.MeasureT-loop
 μ-loop text from to block₀ part n₀ block n = length part - n
