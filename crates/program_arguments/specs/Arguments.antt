@@ -11,13 +11,19 @@ use Rattle.text_tokens.specs.Classes.{begunBy}
 use Rattle.program_arguments.specs.declared.arguments.Argument.{Argument}
 use Rattle.program_arguments.specs.declared.arguments.Argument.the-variants as A
 
--- letters compare without case, as in the texts; what begins with a minus is an option, but for the minus alone
-unfoldable pub argumentOf : List ℕ → Argument
-argumentOf w =
+-- letters compare without case, as in the texts
+unfoldable pub optionOf : List ℕ → Argument
+optionOf w =
     cond (sameWord (bytes "--state") w) A.State
     (cond (sameWord (bytes "--quiet") w) A.Quiet
     (cond (sameWord (bytes "--part") w) A.Part
-    (cond (begunBy (code "-") w) (cond (eqb (length w) 1) A.File A.Unknown) A.File)))
+    (cond (sameWord (bytes "--answer-on-3") w) A.AnswerOn3
+    (cond (sameWord (bytes "--") w) A.End
+    A.Unknown))))
+
+-- what begins with a minus is an option, but for the minus alone
+unfoldable pub argumentOf : List ℕ → Argument
+argumentOf w = cond (begunBy (code "-") w) (cond (eqb (length w) 1) A.File (optionOf w)) A.File
 
 -- the number that digits write, n of it so far; 0 if a byte is no digit, or if the number passes 65,536
 unfoldable pub sizeFrom : ℕ → List ℕ → ℕ

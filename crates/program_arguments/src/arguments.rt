@@ -1,16 +1,18 @@
-// The arguments: `[--state] [--part N] [--quiet] DOMAIN PROBLEM PLAN`.
+// The arguments: `[--state] [--part N] [--quiet] [--] DOMAIN PROBLEM PLAN`, and `--answer-on-3`, which the script `khushelvo` gives.
 use crate::files;
 use program_quotes::stderr;
 use text_tokens::classes;
 use text_words::spelling;
 ghost use mathlib.Core.Path.{_≡_};
-ghost use Rattle.program_arguments.specs.Arguments.{argumentOf, sizeFrom};
+ghost use Rattle.program_arguments.specs.Arguments.{argumentOf, optionOf, sizeFrom};
 
 // What an argument is by its bytes.
 pub enum Argument {
     State,
     Quiet,
     Part,
+    AnswerOn3,
+    End,
     File,
     Unknown,
 }
@@ -19,20 +21,24 @@ pub enum Argument {
 pub struct Options {
     pub state: bool,
     pub quiet: bool,
+    // whether the answer's line goes to descriptor 3 too
+    pub answer_on_3: bool,
     // how many bytes of the plan are fed at a time; 0 if that is wrong
     pub part: usize,
     // whether the last argument was `--part`
     pub expects: bool,
+    // whether all that follows is files
+    pub ended: bool,
     pub domain: usize,
     pub problem: usize,
     pub plan: usize,
-    // the first argument that is no option or one file too many
-    pub wrong: usize,
+    // the first option that is unknown, and the first file that is too many
+    pub unknown: usize,
+    pub extra: usize,
 }
 
-// Options begin with a minus; a minus alone is standard input.
-fn argument_of(w: &[u8]) -> Argument
-    ensures { λ r. ⌜ r ≡ argumentOf (now (w .entry)) ⌝ }
+fn option_of(w: &[u8]) -> Argument
+    ensures { λ r. ⌜ r ≡ optionOf (now (w .entry)) ⌝ }
 {
     if spelling::same_word(b"--state", w) {
         return Argument::State;
@@ -43,13 +49,26 @@ fn argument_of(w: &[u8]) -> Argument
     if spelling::same_word(b"--part", w) {
         return Argument::Part;
     }
+    if spelling::same_word(b"--answer-on-3", w) {
+        return Argument::AnswerOn3;
+    }
+    if spelling::same_word(b"--", w) {
+        return Argument::End;
+    }
+    Argument::Unknown
+}
+
+// Options begin with a minus; a minus alone is standard input.
+fn argument_of(w: &[u8]) -> Argument
+    ensures { λ r. ⌜ r ≡ argumentOf (now (w .entry)) ⌝ }
+{
     if !classes::begins_with(w, b'-') {
         return Argument::File;
     }
     if w.len() == 1 {
         return Argument::File;
     }
-    Argument::Unknown
+    option_of(w)
 }
 
 // A size of parts from 1 to 65,536; 0 if it is none.
@@ -76,13 +95,6 @@ fn part_size(w: &[u8]) -> usize
 }
 
 impl Options {
-    fn reject(mut self, i: usize) -> Options {
-        if self.wrong == 0 {
-            self.wrong = i;
-        }
-        self
-    }
-
     // The files in their order.
     fn name(mut self, i: usize) -> Options {
         if self.domain == 0 {
@@ -97,7 +109,10 @@ impl Options {
             self.plan = i;
             return self;
         }
-        self.reject(i)
+        if self.extra == 0 {
+            self.extra = i;
+        }
+        self
     }
 
     // Argument i.
@@ -107,6 +122,10 @@ impl Options {
             self.part = part_size(w);
             self.expects = false;
             return self;
+        }
+        let ended = self.ended;
+        if ended {
+            return self.name(i);
         }
         match argument_of(w) {
             Argument::State => {
@@ -121,8 +140,21 @@ impl Options {
                 self.expects = true;
                 self
             }
+            Argument::AnswerOn3 => {
+                self.answer_on_3 = true;
+                self
+            }
+            Argument::End => {
+                self.ended = true;
+                self
+            }
             Argument::File => self.name(i),
-            Argument::Unknown => self.reject(i),
+            Argument::Unknown => {
+                if self.unknown == 0 {
+                    self.unknown = i;
+                }
+                self
+            }
         }
     }
 }
@@ -137,12 +169,15 @@ pub fn read() -> Options {
     let mut options = Options {
         state: false,
         quiet: false,
+        answer_on_3: false,
         part: 65536,
         expects: false,
+        ended: false,
         domain: 0,
         problem: 0,
         plan: 0,
-        wrong: 0,
+        unknown: 0,
+        extra: 0,
     };
     let n = os::arg_count();
     let mut i = 1;
@@ -153,28 +188,54 @@ pub fn read() -> Options {
     options
 }
 
+// Ends a line that says what is wrong, and says what is wanted.
 fn say_usage() {
-    stderr::say(b"; usage: khushelvo [--state] [--part N] [--quiet] DOMAIN PROBLEM PLAN\n");
+    stderr::say(
+        b"\nusage: khushelvo [--state] [--part N] [--quiet] [--] DOMAIN PROBLEM PLAN (khushelvo --help says more)\n",
+    );
 }
 
-// Whether the arguments are right; if not, a line says what is wrong and what is wanted.
-pub fn are_right(options: Options) -> bool {
-    if options.wrong != 0 {
-        stderr::say(b"khushelvo: unknown argument ");
-        files::say_name(options.wrong);
-        say_usage();
-        return false;
+impl Options {
+    // How many of the three files are given.
+    fn count_files(self) -> usize {
+        if self.domain == 0 {
+            return 0;
+        }
+        if self.problem == 0 {
+            return 1;
+        }
+        if self.plan == 0 {
+            return 2;
+        }
+        3
     }
-    let expects = options.expects;
-    if expects || options.part == 0 {
-        stderr::say(b"khushelvo: --part wants a number from 1 to 65536");
-        say_usage();
-        return false;
+
+    // Whether the arguments are right; if not, a line says what is wrong.
+    pub fn are_right(self) -> bool {
+        if self.unknown != 0 {
+            stderr::say(b"khushelvo: unknown option ");
+            files::say_name(self.unknown);
+            say_usage();
+            return false;
+        }
+        if self.extra != 0 {
+            stderr::say(b"khushelvo: one file too many: ");
+            files::say_name(self.extra);
+            say_usage();
+            return false;
+        }
+        let expects = self.expects;
+        if expects || self.part == 0 {
+            stderr::say(b"khushelvo: --part wants a number from 1 to 65536");
+            say_usage();
+            return false;
+        }
+        let count = self.count_files();
+        if count < 3 {
+            stderr::say_with(b"khushelvo: three files are wanted, not ", count, b"");
+            say_usage();
+            return false;
+        }
+        true
     }
-    if options.plan == 0 {
-        stderr::say(b"khushelvo: three files are wanted");
-        say_usage();
-        return false;
-    }
-    true
 }

@@ -33,6 +33,11 @@ pub fn say_unread(name: usize) {
     stderr::say(b": can't be read\n");
 }
 
+// Says that the answer can't be written, as to a disk that is full.
+pub fn say_unwritten() {
+    stderr::say(b"standard output: can't be written\n");
+}
+
 // Opens the file for reading; or says why it can't be, and answers -1.
 pub fn open(name: usize) -> i32 {
     let mut path = io::buffer();

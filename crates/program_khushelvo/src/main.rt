@@ -32,7 +32,7 @@ fn judge(options: Options, plan: i32, check: Check) {
         return;
     }
     let ended = fed.check;
-    reply::write(ended, options.state);
+    reply::write(options, ended);
     let quiet = options.quiet;
     if !quiet {
         message::of_plan(options.plan, ended.progress, &numbers, &lengths, &kept);
@@ -41,7 +41,7 @@ fn judge(options: Options, plan: i32, check: Check) {
 
 // A refusal of domain or problem, which argument `name` names.
 fn refuse(options: Options, load: LoadAnswer, name: usize, text: &[u8], number: u8, place: usize) {
-    reply::refuse(load);
+    reply::refuse(options, load);
     let quiet = options.quiet;
     if !quiet {
         message::of_text(name, text, number, place);
@@ -76,7 +76,7 @@ fn check(options: Options, domain: i32, problem: i32, plan: i32) {
 // All three files are opened before any is read, so that a missing one is said at once.
 fn main() {
     let options = arguments::read();
-    if !arguments::are_right(options) {
+    if !options.are_right() {
         return;
     }
     let domain = files::open(options.domain);

@@ -2,22 +2,35 @@
 use check_calls::Answer;
 use check_calls::Check;
 use domain_load::LoadAnswer;
+use program_arguments::arguments::Options;
+use program_arguments::files;
 use program_records::listing;
 use program_records::output;
 use text_tokens::runs;
 
-fn write_line(told: Answer, line: &[u8]) {
+// The script `khushelvo` opens descriptor 3 to learn the answer: a program has no exit status of its own, and standard output goes past the script.
+const SCRIPT: i32 = 3;
+
+fn write_line(options: Options, told: Answer, line: &[u8]) {
     let Answer::Done(n) = told else {
         return;
     };
-    io::write_all(libc::STDOUT_FILENO, runs::part_of(line, 0, n));
+    let words = runs::part_of(line, 0, n);
+    if !io::write_all(libc::STDOUT_FILENO, words) {
+        files::say_unwritten();
+        return;
+    }
+    let answer_on_3 = options.answer_on_3;
+    if answer_on_3 {
+        io::write_all(SCRIPT, words);
+    }
 }
 
 // The line of a refused domain or problem.
-pub fn refuse(load: LoadAnswer) {
+pub fn refuse(options: Options, load: LoadAnswer) {
     let mut line = [0u8; 64];
     let told = check_calls::refused_line(load, &mut line);
-    write_line(told, &line);
+    write_line(options, told, &line);
 }
 
 fn write_facts(check: Check) {
@@ -44,12 +57,13 @@ fn write_numbers(check: Check) {
     output::flush(&out, at);
 }
 
-// The line of a finished check and, with `state`, the facts and the numbers unless the plan is refused.
-pub fn write(check: Check, state: bool) {
+// The line of a finished check and, with `--state`, the facts and the numbers unless the plan is refused.
+pub fn write(options: Options, check: Check) {
     let mut line = [0u8; 64];
     let result = check.result(&mut line);
     let told = result.answer;
-    write_line(told, &line);
+    write_line(options, told, &line);
+    let state = options.state;
     if state {
         write_facts(check);
         write_numbers(check);
