@@ -8,10 +8,8 @@ use text_tokens::runs;
 
 struct Fed {
     check: Check,
-    // whether what comes can still change the answer
-    goes_on: bool,
-    // whether a read failed: then the plan is not whole, and has no answer
-    failed: bool,
+    // what the last read answered: 0 where nothing more is to come, below 0 where it failed and the plan is not whole
+    got: isize,
 }
 
 // One read, fed as one part: parts may be cut anywhere. After a refusal, which stays, there is no need to read on.
@@ -21,31 +19,21 @@ fn feed_part(before: Check) -> Fed {
     let n = io::count(got, &block);
     let fed = before.feed(&block[..n]);
     let check = fed.check;
-    let failed = got < 0;
     let answer = fed.answer;
     let Answer::Done(_) = answer else {
-        return Fed {
-            check,
-            goes_on: false,
-            failed,
-        };
+        return Fed { check, got: 0 };
     };
-    Fed {
-        check,
-        goes_on: 0 < n,
-        failed,
-    }
+    Fed { check, got }
 }
 
 // The whole plan. A proved loop has to end, and nothing says that the input does.
 fn feed(opened: Check) -> Fed {
     let mut fed = Fed {
         check: opened,
-        goes_on: true,
-        failed: false,
+        got: 1,
     };
     let mut turns = u64::MAX;
-    while 0 < turns && fed.goes_on {
+    while 0 < turns && 0 < fed.got {
         turns -= 1;
         fed = feed_part(fed.check);
     }
@@ -55,10 +43,7 @@ fn feed(opened: Check) -> Fed {
 // The line that a call has written; any other answer than `Done` is a mistake of this program.
 fn write(told: Answer, line: &[u8]) {
     let Answer::Done(n) = told else {
-        io::write_all(
-            libc::STDERR_FILENO,
-            b"program_example: a call was made out of order\n",
-        );
+        io::write_all(libc::STDERR_FILENO, b"a call was out of order\n");
         return;
     };
     io::write_all(libc::STDOUT_FILENO, runs::part_of(line, 0, n));
@@ -73,11 +58,8 @@ fn main() {
         return;
     };
     let fed = feed(opened.check);
-    if fed.failed {
-        io::write_all(
-            libc::STDERR_FILENO,
-            b"program_example: standard input can't be read\n",
-        );
+    if fed.got < 0 {
+        io::write_all(libc::STDERR_FILENO, b"the plan can't be read\n");
         return;
     }
     let finished = fed.check.finish();
