@@ -1,0 +1,2 @@
+-- What is said of a place that is refused by 12.
+pub mod Limits
