@@ -33,7 +33,8 @@ pub fn word(out: &mut [u8], used: usize, w: &[u8]) -> usize {
     at
 }
 
-fn digits(out: &mut [u8], used: usize, n: u64) -> usize {
+// A number.
+pub fn digits(out: &mut [u8], used: usize, n: u64) -> usize {
     let mut text = [0u8; 20];
     let k = io::decimal(n, &mut text);
     word(out, used, &text[..k])
@@ -61,7 +62,7 @@ pub fn is_defined(z: i64) -> bool
     -1000000000001 < z
 }
 
-fn is_negative(z: i64) -> bool
+pub fn is_negative(z: i64) -> bool
     ensures { λ r. ⌜ r ≡ ltZ z (pos 0) ⌝ }
 {
     z < 0
@@ -83,4 +84,12 @@ fn turned(z: i64) -> u64 {
         }
     }
     0
+}
+
+// A defined number without its sign.
+pub fn magnitude(z: i64) -> u64 {
+    if is_negative(z) {
+        return turned(z);
+    }
+    plain(z)
 }

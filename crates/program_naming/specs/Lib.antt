@@ -1,0 +1,2 @@
+-- What is said of an index.
+pub mod Grounds
