@@ -1,4 +1,5 @@
--- Which limit is passed at a token that is refused by 12, where the last keyword before it and whether it stands in an expression are known.
+-- Which limit is passed at a token that is refused by 12, where the last keyword before it, whether it stands in an expression and whether there are too
+-- many ground numbers are known.
 use mathlib.Core.Bool.{Bool, cond}
 use Rattle.text_tokens.specs.declared.tokens.Token.{Token}
 use Rattle.text_tokens.specs.declared.tokens.Token.the-variants as T
@@ -37,18 +38,21 @@ byVariable F.Other = L.Unknown
 abbrev pub byHead : Field → Bool → Limit
 byHead f x = cond x L.Expression (byName f)
 
-abbrev pub byWord : Word → Field → Bool → Limit
-byWord W.Keyword f x = L.Grounds
-byWord W.Variable f x = byVariable f
-byWord W.Name f x = byHead f x
-byWord W.Operator f x = byHead f x
+abbrev pub bySum : Bool → Limit
+bySum m = cond m L.Numbers L.Facts
+
+abbrev pub byWord : Word → Field → Bool → Bool → Limit
+byWord W.Keyword f x m = bySum m
+byWord W.Variable f x m = byVariable f
+byWord W.Name f x m = byHead f x
+byWord W.Operator f x m = byHead f x
 
 -- 12 stands at a bracket only if too many are open, at a number only in an expression, at a keyword only for the two sums
-abbrev pub limitAt : Token → Field → Bool → Limit
-limitAt (T.Open p e) f x = L.Brackets
-limitAt (T.Number z p e) f x = L.Expression
-limitAt (T.Word w p e) f x = byWord w f x
-limitAt (T.Close p e) f x = L.Unknown
-limitAt (T.Mark b p e) f x = L.Unknown
-limitAt (T.Refusal k p) f x = L.Unknown
-limitAt (T.End p) f x = L.Unknown
+abbrev pub limitAt : Token → Field → Bool → Bool → Limit
+limitAt (T.Open p e) f x m = L.Brackets
+limitAt (T.Number z p e) f x m = L.Expression
+limitAt (T.Word w p e) f x m = byWord w f x m
+limitAt (T.Close p e) f x m = L.Unknown
+limitAt (T.Mark b p e) f x m = L.Unknown
+limitAt (T.Refusal k p) f x m = L.Unknown
+limitAt (T.End p) f x m = L.Unknown

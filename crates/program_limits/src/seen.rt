@@ -1,4 +1,6 @@
-// What the tokens before a place say of it: the last keyword, and whether it lies within an expression.
+// What the tokens before a place say of it: the last keyword, whether it lies within an expression, and what is declared.
+use crate::tally;
+use crate::tally::Tally;
 use text_tokens::runs;
 use text_tokens::tokens;
 use text_tokens::tokens::Token;
@@ -30,14 +32,17 @@ pub struct Seen {
     pub calculating: usize,
     // whether the last token opened a bracket
     pub opened: bool,
+    pub tally: Tally,
 }
 
-fn nothing() -> Seen {
+// Before the first token, with so many objects known from the other text.
+fn begin(objects: usize) -> Seen {
     Seen {
         field: Field::Other,
         depth: 0,
         calculating: 0,
         opened: false,
+        tally: tally::begin(objects),
     }
 }
 
@@ -105,16 +110,25 @@ impl Seen {
         self
     }
 
-    fn with_word(self, kind: Word, w: &[u8]) -> Seen {
-        let Word::Keyword = kind else {
-            return self.with_operand(w);
-        };
+    fn with_keyword(self, w: &[u8]) -> Seen {
+        let tally = self.tally;
         Seen {
             field: field_of(w),
             depth: self.depth,
             calculating: self.calculating,
             opened: false,
+            tally,
         }
+    }
+
+    fn with_word(mut self, kind: Word, w: &[u8]) -> Seen {
+        if let Word::Keyword = kind {
+            return self.with_keyword(w);
+        }
+        let field = self.field;
+        let counted = self.tally.with(kind, field, self.opened);
+        self.tally = counted;
+        self.with_operand(w)
     }
 
     // A token more.
@@ -138,9 +152,9 @@ fn end_of(text: &[u8], t: Token) -> usize {
     }
 }
 
-// What stands before a place.
-pub fn before(text: &[u8], place: usize) -> Seen {
-    let mut seen = nothing();
+// What stands before a place, with so many objects known from the other text.
+pub fn before(text: &[u8], place: usize, objects: usize) -> Seen {
+    let mut seen = begin(objects);
     let mut at = 0;
     while at < place {
         let t = tokens::token_at(text, at);

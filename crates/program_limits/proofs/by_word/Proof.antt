@@ -6,6 +6,9 @@ use Rattle.program_limits.proofs.by_word.Tie as tie
 enum-told : tie.Need-enum-told
 enum-told c = search needs
 
+by-sum-requires : tie.Need-by-sum-requires
+by-sum-requires c κs = search needs
+
 enum-told-2 : tie.Need-enum-told-2
 enum-told-2 c = search needs
 
@@ -25,7 +28,7 @@ by-head-requires-2 : tie.Need-by-head-requires-2
 by-head-requires-2 c κs = search needs
 
 returns : tie.Need-returns
-returns c = search needs
+returns c = rw (c .before .enum-told .given .1) (c .by-sum .ensures)
 
 returns-2 : tie.Need-returns-2
 returns-2 c = rw (c .before .enum-told2 .given .1) (c .by-variable .ensures)
@@ -41,6 +44,7 @@ by-word-spec =
     tie.close
     (tie.spec
     enum-told
+    by-sum-requires
     enum-told-2
     by-variable-requires
     enum-told-3

@@ -5,13 +5,13 @@ use Rattle.program_limits.proofs.seen.before.Statement.{statement}
 use Rattle.program_limits.proofs.seen.before.Tie as tie
 
 abbrev Inv-loop : tie.InvT-loop
-Inv-loop text place seen₀ at₀ seen at = Unit {0}
+Inv-loop text place objects seen₀ at₀ seen at = Unit {0}
 
 abbrev μ-loop : tie.MeasureT-loop
-μ-loop text place seen₀ at₀ seen at = place - at
+μ-loop text place objects seen₀ at₀ seen at = place - at
 
-nothing-requires : tie.Need-nothing-requires Inv-loop μ-loop
-nothing-requires c κs = search needs
+begin-requires : tie.Need-begin-requires Inv-loop μ-loop
+begin-requires c κs = search needs
 
 loop-holds : tie.Need-loop-holds Inv-loop μ-loop
 loop-holds c = search needs
@@ -46,7 +46,7 @@ before-spec =
     (tie.spec
     Inv-loop
     μ-loop
-    nothing-requires
+    begin-requires
     loop-holds
     token-at-requires
     end-of-requires
