@@ -15,8 +15,9 @@ use Rattle.domain_stored_meaning.specs.Decode.{expressionAt, lastingAt, conditi
 use Rattle.domain_prepared_meaning.specs.Preparing.{partsAt, allSingles, allEffects}
 use Rattle.domain_prepared_meaning.specs.Rows.{twoBytes, exprBytes, lastsBytes, testsBytes, effectsBytes}
 use Rattle.domain_prepared_meaning.specs.Rows.{sizes, placesFrom, actionBytes, allPlaces, actionsBytes}
-use Rattle.domain_preparing.specs.Written.{Stored, wordsOf, Acted, allActed}
-use Rattle.domain_preparing.proofs.Storing.{sets-before, stored-one, stored-first, stored-then}
+use Rattle.domain_forms.specs.Stored.{Stored}
+use Rattle.domain_preparing.specs.Written.{wordsOf, Acted, allActed}
+use Rattle.domain_forms.proofs.Storing.{sets-before, stored-one, stored-first, stored-then}
 
 -- ---- the duration rule
 

@@ -14,8 +14,9 @@ use Rattle.domain_stored_meaning.specs.Cells.{changeCell}
 use Rattle.domain_stored_meaning.specs.Decode.{decoded, both, refAt, expressionAt, becomesAt, changeAt, effectAt, begins, effectsAt}
 use Rattle.domain_prepared_meaning.specs.Preparing.{allEffects}
 use Rattle.domain_prepared_meaning.specs.Rows.{formBytes, exprBytes, effectBytes, effectsBytes}
-use Rattle.domain_preparing.specs.Written.{Stored, Copies, openEffects, allOf}
-use Rattle.domain_preparing.proofs.Storing.{stored-one, stored-as, stored-then}
+use Rattle.domain_forms.specs.Stored.{Stored}
+use Rattle.domain_preparing.specs.Written.{Copies, openEffects, allOf}
+use Rattle.domain_forms.proofs.Storing.{stored-one, stored-as, stored-then}
 use Rattle.domain_preparing.proofs.Expressing.{copies-as}
 
 -- ---- whether one begins

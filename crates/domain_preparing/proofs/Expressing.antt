@@ -11,8 +11,9 @@ use Rattle.domain_literals.specs.Literal.{signBase, sizeOf, bytesOf, numberCell
 use Rattle.domain_rows.specs.Held.{byteAt}
 use Rattle.domain_stored_meaning.specs.Decode.{Decoded, decoded, noExpr, exprAt}
 use Rattle.domain_prepared_meaning.specs.Rows.{formBytes, exprBytes}
-use Rattle.domain_preparing.specs.Written.{Stored, Copies}
-use Rattle.domain_preparing.proofs.Storing.{stored-one, stored-first, stored-then}
+use Rattle.domain_forms.specs.Stored.{Stored}
+use Rattle.domain_preparing.specs.Written.{Copies}
+use Rattle.domain_forms.proofs.Storing.{stored-one, stored-first, stored-then}
 use Rattle.domain_preparing.proofs.Shapes.{expr-minus, expr-less, expr-plus}
 
 pub zero-stored : (l : List ℕ) (u : ℕ) {l′ : List ℕ} → l′ ≡ set l u 32 → Stored l u (numberCells (pos 0)) l′ (u + 1)

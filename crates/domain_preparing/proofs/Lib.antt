@@ -1,8 +1,4 @@
 -- What the proofs of several functions use.
-pub mod Reading
-pub mod Storing
-pub mod Folding
-pub mod Numerals
 pub mod Shapes
 pub mod Expressing
 pub mod Groups

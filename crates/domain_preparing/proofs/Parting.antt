@@ -11,8 +11,9 @@ use Rattle.domain_rows.specs.Held.{byteAt}
 use Rattle.domain_stored_meaning.specs.Decode.{Decoded, timed, whenOf}
 use Rattle.domain_stored_meaning.specs.Decode as stored
 use Rattle.domain_prepared_meaning.specs.Preparing.{isAt, partsAt}
-use Rattle.domain_preparing.specs.Written.{Stored, Copies, allOf}
-use Rattle.domain_preparing.proofs.Storing.{sets-past, Toward, toward-as, toward-step, toward-end}
+use Rattle.domain_forms.specs.Stored.{Stored}
+use Rattle.domain_preparing.specs.Written.{Copies, allOf}
+use Rattle.domain_forms.proofs.Storing.{sets-past, Toward, toward-as, toward-step, toward-end}
 
 module _ {A : Type 0} (w : When) (f : ℕ → Decoded A) (bytes : A → List ℕ) (code : List ℕ) where
   -- the bytes of what is for the time, so many parts at most

@@ -17,8 +17,9 @@ use Rattle.domain_stored_meaning.specs.Cells.{comparisonCell}
 use Rattle.domain_stored_meaning.specs.Decode.{Decoded, mapped, noCond, argOf, refAt, expressionAt, comparisonOf, atomAt, sameAt, compareAt, singleAt}
 use Rattle.domain_prepared_meaning.specs.Preparing.{singles, singlesOf, allSingles}
 use Rattle.domain_prepared_meaning.specs.Rows.{formBytes, exprBytes, testBytes, testsBytes}
-use Rattle.domain_preparing.specs.Written.{Stored, Copies, openTests, allOf}
-use Rattle.domain_preparing.proofs.Storing.{stored-none, stored-one, stored-as, stored-then}
+use Rattle.domain_forms.specs.Stored.{Stored}
+use Rattle.domain_preparing.specs.Written.{Copies, openTests, allOf}
+use Rattle.domain_forms.proofs.Storing.{stored-none, stored-one, stored-as, stored-then}
 use Rattle.domain_preparing.proofs.Expressing.{copies-as}
 use Rattle.domain_preparing.proofs.Groups.{single-compare, single-no-compare}
 

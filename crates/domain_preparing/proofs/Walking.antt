@@ -4,7 +4,7 @@ use mathlib.Core.List.{List, [], _++_}
 use Prim.Native.Nat.{ℕ}
 use Rattle.domain_stored_meaning.specs.Decode.{Decoded, decoded, both}
 use Rattle.domain_preparing.specs.Written.{Copies}
-use Rattle.domain_preparing.proofs.Storing.{Toward, toward-start, toward-as, toward-step, toward-end}
+use Rattle.domain_forms.proofs.Storing.{Toward, toward-start, toward-as, toward-step, toward-end}
 
 -- from d on, with l and u as they are now, to all from l₀ and u₀
 pub record Walk {A : Type 0} (bytes : A → List ℕ) (l₀ : List ℕ) (u₀ : ℕ) (all : Decoded A) (l : List ℕ) (u : ℕ) (d : Decoded A) : Type 0 where

@@ -11,13 +11,9 @@ use Rattle.domain_meaning.specs.Conditions.{Cond, Conds}
 use Rattle.domain_meaning.specs.Effects.{Effect}
 use Rattle.domain_meaning.specs.Actions.{Action}
 use Rattle.domain_stored_meaning.specs.Decode.{Decoded}
+use Rattle.domain_forms.specs.Stored.{Stored, countIn, predicatesIn, functionsIn}
 use Rattle.domain_prepared_meaning.specs.Preparing.{singles, singlesOf}
-use Rattle.domain_prepared_meaning.specs.Rows.{twoBytes, formBytes, exprBytes, testBytes, effectBytes, sizes, placesFrom, actionBytes, allPlaces, actionsBytes}
-
--- bytes were stored from `used` on, and u is the first place behind them
-pub record Stored (rows : List ℕ) (used : ℕ) (bytes rows′ : List ℕ) (u : ℕ) : Type 0 where
-  pub are : rows′ ≡ sets rows used bytes
-  pub free : u ≡ used + length bytes
+use Rattle.domain_prepared_meaning.specs.Rows.{twoBytes, exprBytes, testBytes, effectBytes, sizes, placesFrom, actionBytes, allPlaces, actionsBytes}
 
 -- what was read is d: its bytes were stored, and the place after it is answered with the first free place
 pub record Copies {A : Type 0} (bytes : A → List ℕ) (rows : List ℕ) (used : ℕ) (d : Decoded A) (rows′ : List ℕ) (next free : ℕ) : Type 0 where
@@ -36,20 +32,6 @@ pub record Spent (more n at used next free : ℕ) : Type 0 where
   pub near : next ≤ n + 8
   pub few : free + 6 * at ≤ used + 6 * next + more
 
--- ---- the numbers by which references become forms: 32 first indexes of predicates, 16 of functions, the number of objects
-
-abbrev pub countIn : List ℕ → ℕ
-countIn firsts = getD firsts 48 0
-
-abbrev pub predicatesIn : List ℕ → List ℕ
-predicatesIn firsts = take 32 firsts
-
-abbrev pub functionsIn : List ℕ → List ℕ
-functionsIn firsts = take 16 (drop 32 firsts)
-
-abbrev pub firstsIn : Bool → List ℕ → List ℕ
-firstsIn numeric firsts = cond numeric (functionsIn firsts) (predicatesIn firsts)
-
 -- ---- lists of bytes without the 0 at their end
 
 module _ (n : ℕ) (ps fs : List ℕ) where
@@ -64,9 +46,6 @@ module _ (n : ℕ) (ps fs : List ℕ) where
 -- ---- the bytes of each, by the first indexes
 
 module _ (firsts : List ℕ) where
-  abbrev pub formIn : ℕ → Bool → Ref → List ℕ
-  formIn tag numeric r = formBytes (countIn firsts) (predicatesIn firsts) (functionsIn firsts) tag (firstsIn numeric firsts) r
-
   abbrev pub exprIn : Expr → List ℕ
   exprIn e = exprBytes (countIn firsts) (predicatesIn firsts) (functionsIn firsts) e
 
@@ -81,16 +60,6 @@ module _ (firsts : List ℕ) where
 
   abbrev pub effectsIn : List Effect → List ℕ
   effectsIn es = openEffects (countIn firsts) (predicatesIn firsts) (functionsIn firsts) es
-
--- ---- an argument of a reference: what it adds to the base, and its byte if it is a parameter, with m arguments after it
-
-abbrev pub fixedOf : Arg → ℕ
-fixedOf (object i) = i
-fixedOf (variable i) = 0
-
-abbrev pub shareOf : ℕ → Arg → List ℕ
-shareOf m (object i) = []
-shareOf m (variable i) = (i + 4 * m) ∷ []
 
 -- what stands in several parts, one after the other
 unfoldable pub allOf : {A : Type 0} → (A → List ℕ) → List A → List ℕ

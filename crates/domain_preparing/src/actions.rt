@@ -1,9 +1,9 @@
 // Actions: of each the six lists, one after the other, and the places where they begin.
-use crate::cells;
 use crate::conditions;
 use crate::effects;
 use crate::expressions;
-use crate::forms;
+use domain_forms::cells;
+use domain_forms::forms;
 ghost use mathlib.Core.Path.{_≡_};
 ghost use mathlib.Core.List.{[], _∷_};
 ghost use Prim.Native.Nat.{_+_, _*_, _≤_, _<_};
@@ -12,7 +12,8 @@ ghost use lib.Seq.{sets};
 ghost use Rattle.domain_meaning.specs.Tables.{Entry, Table};
 ghost use Rattle.domain_stored_meaning.specs.Decode.{lastingAt, actionAt, actionsAt};
 ghost use Rattle.domain_prepared_meaning.specs.Rows.{lastsBytes, listsAt};
-ghost use Rattle.domain_preparing.specs.Written.{Stored, countIn, predicatesIn, functionsIn, wordsOf, Acted, allActed};
+ghost use Rattle.domain_forms.specs.Stored.{Stored, countIn, predicatesIn, functionsIn};
+ghost use Rattle.domain_preparing.specs.Written.{wordsOf, Acted, allActed};
 
 // The duration rule.
 fn put_lasts<'a>(

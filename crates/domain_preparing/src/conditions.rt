@@ -1,8 +1,8 @@
 // Conditions: the single ones as they are written, `and`s within each other as one list.
-use crate::cells;
 use crate::expressions;
-use crate::forms;
-use crate::forms::Copied;
+use domain_forms::cells;
+use domain_forms::forms;
+use domain_forms::forms::Copied;
 ghost use mathlib.Core.Path.{_≡_};
 ghost use mathlib.Core.List.{[], _∷_, _++_};
 ghost use Prim.Native.Nat.{_+_, _≤_, _<_};
@@ -11,7 +11,8 @@ ghost use Rattle.domain_rows.specs.Held.{byteAt};
 ghost use Rattle.domain_stored_meaning.specs.Decode.{expressionAt, singleAt, condsAt, condAt, conditionsAt, whenOf};
 ghost use Rattle.domain_prepared_meaning.specs.Preparing.{partsAt, allSingles};
 ghost use Rattle.domain_prepared_meaning.specs.Rows.{testsBytes};
-ghost use Rattle.domain_preparing.specs.Written.{Stored, Copies, Room, Spent, countIn, predicatesIn, functionsIn, exprIn, condIn, condsIn, allOf};
+ghost use Rattle.domain_forms.specs.Stored.{Stored, countIn, predicatesIn, functionsIn};
+ghost use Rattle.domain_preparing.specs.Written.{Copies, Room, Spent, exprIn, condIn, condsIn, allOf};
 
 // An equality of objects, as it is written or under `not`.
 fn put_same(code: &[u8], at: usize, tag: usize, rows: &mut [u8], used: usize) -> Copied

@@ -1,8 +1,8 @@
 // Effects: copied as they are written, and those for a time in one list.
-use crate::cells;
 use crate::expressions;
-use crate::forms;
-use crate::forms::Copied;
+use domain_forms::cells;
+use domain_forms::forms;
+use domain_forms::forms::Copied;
 ghost use mathlib.Core.Path.{_≡_};
 ghost use mathlib.Core.List.{_++_};
 ghost use mathlib.Core.Bool.{true};
@@ -11,8 +11,10 @@ ghost use lib.ListN.{length};
 ghost use Rattle.domain_stored_meaning.specs.Decode.{refAt, expressionAt, begins, effectAt, effectListAt, effectPartsAt, whenOf};
 ghost use Rattle.domain_prepared_meaning.specs.Preparing.{partsAt, allEffects};
 ghost use Rattle.domain_prepared_meaning.specs.Rows.{effectsBytes};
-ghost use Rattle.domain_preparing.specs.Written.{Stored, Copies, Room, Spent, allOf};
-ghost use Rattle.domain_preparing.specs.Written.{countIn, predicatesIn, functionsIn, formIn, exprIn, effectIn, effectsIn};
+ghost use Rattle.domain_forms.specs.Stored.{Stored};
+ghost use Rattle.domain_preparing.specs.Written.{Copies, Room, Spent, allOf};
+ghost use Rattle.domain_forms.specs.Stored.{countIn, predicatesIn, functionsIn, formIn};
+ghost use Rattle.domain_preparing.specs.Written.{exprIn, effectIn, effectsIn};
 
 // A number with k arguments that is assigned, raised or lowered, as the tag says, by the expression behind it.
 fn put_change<'a>(

@@ -1,15 +1,16 @@
 // Expressions: copied in their order, every function by its form, every number in its shortest cells.
-use crate::cells;
-use crate::forms;
-use crate::forms::Copied;
-use crate::numbers;
+use domain_forms::cells;
+use domain_forms::forms;
+use domain_forms::forms::Copied;
+use domain_forms::numbers;
 ghost use mathlib.Core.Path.{_≡_};
 ghost use Prim.Native.Nat.{_+_, _<_};
 ghost use lib.ListN.{length};
 ghost use lib.IntN.{pos};
 ghost use Rattle.domain_literals.specs.Literal.{numberCells};
 ghost use Rattle.domain_stored_meaning.specs.Decode.{leafAt, exprAt};
-ghost use Rattle.domain_preparing.specs.Written.{Stored, Copies, Room, Spent, exprIn};
+ghost use Rattle.domain_forms.specs.Stored.{Stored};
+ghost use Rattle.domain_preparing.specs.Written.{Copies, Room, Spent, exprIn};
 
 // The number 0, where cells give none.
 fn put_zero(rows: &mut [u8], used: usize, next: usize) -> Copied

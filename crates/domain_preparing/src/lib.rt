@@ -1,12 +1,10 @@
 // What load has read, prepared for running: from the cells of the actions and of the goal to rows.
 pub mod actions;
-pub mod cells;
 pub mod conditions;
 pub mod effects;
 pub mod expressions;
-pub mod forms;
-pub mod numbers;
 
+use domain_forms::cells;
 ghost use mathlib.Core.Path.{_≡_};
 ghost use Prim.Native.Nat.{_≤_};
 ghost use lib.ListN.{length, set, getD, take, drop};

@@ -2,7 +2,7 @@
 use mathlib.Core.List.{[]}
 use Rattle.domain_meaning.specs.Tables.{entry}
 use Rattle.domain_preparing.proofs.Acting.{action-stored, acted-length}
-use Rattle.domain_preparing.proofs.Storing.{stored-length}
+use Rattle.domain_forms.proofs.Storing.{stored-length}
 use native.Mathlib.Omega.{arith}
 use borrow.Author.Needs.{needs}
 use Rattle.domain_preparing.proofs.actions.put_action.Statement.{statement}

@@ -6,7 +6,7 @@ use Rattle.domain_preparing.proofs.Acting.{acted-length, Onward, onward
 use native.Mathlib.Omega.{arith}
 use Prim.Native.Nat.{_+_, _-_, _*_, _≤_}
 use lib.ListN.{length}
-use Rattle.domain_preparing.specs.Written.{countIn, predicatesIn, functionsIn}
+use Rattle.domain_forms.specs.Stored.{countIn, predicatesIn, functionsIn}
 use Rattle.domain_preparing.proofs.actions.put_actions.Statement.{statement}
 use Rattle.domain_preparing.proofs.actions.put_actions.Tie as tie
 

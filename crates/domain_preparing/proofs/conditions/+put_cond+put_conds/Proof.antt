@@ -17,7 +17,7 @@ use Rattle.domain_preparing.proofs.conditions.+put_cond+put_conds.Lts-p
 use Rattle.domain_preparing.proofs.conditions.put_conds.Reads as put-conds
 use Rattle.domain_preparing.proofs.conditions.put_conds.Kinds as put-conds-kinds
 use Rattle.domain_preparing.proofs.conditions.+put_cond+put_conds.Lts-put_conds as put-conds-lts
-use Rattle.domain_preparing.proofs.cells.cell.Reads as cell-reads
+use Rattle.domain_forms.proofs.cells.cell.Reads as cell-reads
 use Rattle.domain_preparing.proofs.conditions.put_single.Reads as put-single-reads
 use Rattle.domain_preparing.proofs.conditions.+put_cond+put_conds.{statement}
 use Rattle.domain_preparing.proofs.conditions.+put_cond+put_conds.Tie.{close}

@@ -1,6 +1,6 @@
 -- `domain_preparing::conditions::put_compare` meets its contract. Assumes nothing.
 use native.Mathlib.Omega.{arith}
-use Rattle.domain_preparing.proofs.Storing.{stored-first, stored-then}
+use Rattle.domain_forms.proofs.Storing.{stored-first, stored-then}
 use borrow.Author.Needs.{needs}
 use Rattle.domain_preparing.proofs.conditions.put_compare.Statement.{statement}
 use Rattle.domain_preparing.proofs.conditions.put_compare.Tie as tie

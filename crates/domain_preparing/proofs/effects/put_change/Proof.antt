@@ -1,6 +1,6 @@
 -- `domain_preparing::effects::put_change` meets its contract. Assumes nothing.
 use native.Mathlib.Omega.{arith}
-use Rattle.domain_preparing.proofs.Storing.{stored-then}
+use Rattle.domain_forms.proofs.Storing.{stored-then}
 use borrow.Author.Needs.{needs}
 use Rattle.domain_preparing.proofs.effects.put_change.Statement.{statement}
 use Rattle.domain_preparing.proofs.effects.put_change.Tie as tie

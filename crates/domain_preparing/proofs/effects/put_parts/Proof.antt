@@ -5,7 +5,7 @@ use Prim.Native.Nat.{_+_, _*_, _≤_}
 use lib.ListN.{length}
 use Rattle.domain_stored_meaning.specs.Decode.{whenOf, effectListAt}
 use Rattle.domain_preparing.specs.Written.{effectsIn}
-use Rattle.domain_preparing.proofs.Storing.{Toward, toward-start}
+use Rattle.domain_forms.proofs.Storing.{Toward, toward-start}
 use Rattle.domain_preparing.proofs.Parting.{timely, parts-spent, parts-out, parts-last, parts-counted, parts-passed}
 use Rattle.domain_preparing.proofs.effects.put_parts.Statement.{statement}
 use Rattle.domain_preparing.proofs.effects.put_parts.Tie as tie

@@ -10,7 +10,7 @@ use Rattle.domain_preparing.proofs.expressions.put_expr.Reads as put-ex
 use Rattle.domain_preparing.proofs.expressions.put_expr.Kinds as put-expr-kinds
 use Rattle.domain_preparing.proofs.expressions.+put_expr.Lts-put_expr as put-expr-lts
 use Rattle.domain_literals.proofs.put.Reads as put-reads
-use Rattle.domain_preparing.proofs.cells.cell.Reads as cell-reads
+use Rattle.domain_forms.proofs.cells.cell.Reads as cell-reads
 use Rattle.domain_preparing.proofs.expressions.put_leaf.Reads as put-leaf-reads
 use Rattle.domain_preparing.proofs.expressions.put_zero.Reads as put-zero-reads
 use Rattle.domain_preparing.proofs.expressions.+put_expr.{statement}

@@ -1,0 +1,5 @@
+-- What the proofs of several functions use.
+pub mod Reading
+pub mod Storing
+pub mod Folding
+pub mod Numerals
