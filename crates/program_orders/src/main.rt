@@ -1,5 +1,7 @@
 // Makes the calls on a check in the orders that a script on standard input names, and writes what each answers and leaves as it was.
 mod calls;
+mod checks;
+mod report;
 mod script;
 
 use program_records::input;

@@ -1,11 +1,10 @@
 // The script: a command to a line, which is written out again with what came of it; other lines are headings.
 use crate::calls;
+use crate::checks;
+use crate::report;
 use check_calls::Check;
 use domain_load::LoadAnswer;
-use program_script::compare;
 use program_script::lines;
-use program_script::report;
-use program_script::spoil;
 use text_tokens::runs;
 use text_words::spelling;
 use text_words::spelling::Place;
@@ -55,7 +54,7 @@ fn aside(i: usize, given: &[u8], bench: Bench) -> Bench {
     let kept = bench.kept;
     let answer = bench.answer;
     if i == 4 {
-        report::say_same(compare::same_check(check, kept));
+        report::say_same(checks::same_check(check, kept));
         return bench;
     }
     io::write_all(1, b"\n");
@@ -71,7 +70,7 @@ fn aside(i: usize, given: &[u8], bench: Bench) -> Bench {
             answer,
         },
         _ => {
-            let check = spoil::spoil(
+            let check = checks::spoil(
                 check,
                 lines::first(given),
                 lines::number(lines::rest(given)),

@@ -1,5 +1,4 @@
-// Whether two checks are the same, part by part, and whether an output still has its mark.
-use check_calls::Check;
+// Outputs that are still filled with the mark, and the parts of two checks compared.
 use domain_load::Model;
 use domain_load::Sizes;
 use domain_terms::scope::Counts;
@@ -32,7 +31,7 @@ pub fn are_marked(out: &[i64], from: usize) -> bool {
     true
 }
 
-fn same_bytes<'a>(a: &'a [u8], b: &'a [u8]) -> bool {
+pub fn same_bytes<'a>(a: &'a [u8], b: &'a [u8]) -> bool {
     let mut i = 0;
     while i < a.len() && i < b.len() {
         if a[i] != b[i] {
@@ -43,7 +42,7 @@ fn same_bytes<'a>(a: &'a [u8], b: &'a [u8]) -> bool {
     a.len() == b.len()
 }
 
-fn same_numbers<'a>(a: &'a [i64], b: &'a [i64]) -> bool {
+pub fn same_numbers<'a>(a: &'a [i64], b: &'a [i64]) -> bool {
     let mut i = 0;
     while i < a.len() && i < b.len() {
         if a[i] != b[i] {
@@ -67,7 +66,7 @@ fn same_sizes(a: Sizes, b: Sizes) -> bool {
     a.facts == b.facts && a.numbers == b.numbers
 }
 
-fn same_model(a: Model, b: Model) -> bool {
+pub fn same_model(a: Model, b: Model) -> bool {
     same_bytes(&a.tables, &b.tables)
         && same_bytes(&a.actions, &b.actions)
         && same_bytes(&a.rows, &b.rows)
@@ -90,7 +89,7 @@ fn same_step(x: Step, y: Step) -> bool {
 }
 
 // The points that wait and the places that none has.
-fn same_queue(a: Queue, b: Queue) -> bool {
+pub fn same_queue(a: Queue, b: Queue) -> bool {
     let mut i = 0;
     while i < 64 {
         let s = a.slots[i];
@@ -148,7 +147,7 @@ fn same_past(a: Past, b: Past) -> bool {
         && a.time == b.time
 }
 
-fn same_progress(a: PlanProgress, b: PlanProgress) -> bool {
+pub fn same_progress(a: PlanProgress, b: PlanProgress) -> bool {
     a.used == b.used
         && a.number == b.number
         && a.start == b.start
@@ -157,14 +156,4 @@ fn same_progress(a: PlanProgress, b: PlanProgress) -> bool {
         && a.refusal == b.refusal
         && a.at == b.at
         && a.column == b.column
-}
-
-pub fn same_check(a: Check, b: Check) -> bool {
-    same_model(a.model, b.model)
-        && same_bytes(&a.facts, &b.facts)
-        && same_numbers(&a.numbers, &b.numbers)
-        && same_queue(a.queue, b.queue)
-        && same_bytes(&a.line, &b.line)
-        && same_progress(a.progress, b.progress)
-        && a.finished == b.finished
 }

@@ -1,5 +1,4 @@
-// What a script of calls needs beside them: its lines, checks compared and spoiled, and what is written of an answer.
+// What a script of calls needs beside them: its lines, and the parts of a check compared and changed.
 pub mod compare;
 pub mod lines;
-pub mod report;
 pub mod spoil;

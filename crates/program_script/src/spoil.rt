@@ -1,5 +1,4 @@
-// A check with one of its numbers set to another.
-use check_calls::Check;
+// The parts of a check, each with one of its numbers set to another.
 use domain_load::Model;
 use domain_load::Sizes;
 use domain_terms::scope::Counts;
@@ -9,8 +8,6 @@ use plan_meaning::Slot;
 use plan_meaning::Step;
 use plan_running::Past;
 use plan_waiting::Queue;
-use text_words::spelling;
-use text_words::spelling::Place;
 
 // What came of the plan so far: its time, or a failure in a line or in two.
 fn spoil_past(before: Past, i: usize, v: usize) -> Past {
@@ -55,7 +52,7 @@ fn spoil_refusal(before: PlanProgress, i: usize, v: usize) -> PlanProgress {
     p
 }
 
-fn spoil_progress(before: PlanProgress, i: usize, v: usize) -> PlanProgress {
+pub fn spoil_progress(before: PlanProgress, i: usize, v: usize) -> PlanProgress {
     let mut p = spoil_refusal(before, i, v);
     if i == 0 {
         p.number = v;
@@ -93,7 +90,7 @@ fn spoil_sizes(before: Sizes, i: usize, v: usize) -> Sizes {
     s
 }
 
-fn spoil_model(before: Model, i: usize, v: usize) -> Model {
+pub fn spoil_model(before: Model, i: usize, v: usize) -> Model {
     let mut m = before;
     if i == 3 {
         m.acting = v;
@@ -126,7 +123,7 @@ fn spoil_step(before: Step, i: usize, v: usize) -> Step {
 }
 
 // How many points wait, or the first one's step.
-fn spoil_queue(before: Queue, i: usize, v: usize) -> Queue {
+pub fn spoil_queue(before: Queue, i: usize, v: usize) -> Queue {
     let mut q = before;
     if i == 8 {
         q.count = v;
@@ -135,24 +132,4 @@ fn spoil_queue(before: Queue, i: usize, v: usize) -> Queue {
     let step = spoil_step(s.step, i, v);
     q.slots[0] = Slot { step, ends: s.ends };
     q
-}
-
-// Sets the number that a word names.
-pub fn spoil(before: Check, word: &[u8], v: usize) -> Check {
-    let f = spelling::word_in(
-        b"number used start actions types objects facts numbers waiting action begin duration line width \
-          refusal at column time condition undefined first second",
-        word,
-    );
-    let Place::At(i) = f else {
-        return before;
-    };
-    let mut check = before;
-    let progress = spoil_progress(before.progress, i, v);
-    let model = spoil_model(before.model, i, v);
-    let queue = spoil_queue(before.queue, i, v);
-    check.progress = progress;
-    check.model = model;
-    check.queue = queue;
-    check
 }

@@ -1,5 +1,5 @@
 // What is written of an answer, and of how a call left the check and the output.
-use crate::compare;
+use crate::checks;
 use check_calls::Answer;
 use check_calls::Check;
 use domain_load::LoadAnswer;
@@ -113,7 +113,7 @@ pub fn say_same(same: bool) {
 // How a call left the check.
 pub fn say(before: Check, after: Check, answer: Answer) {
     say_answer(answer);
-    say_check(compare::same_check(before, after));
+    say_check(checks::same_check(before, after));
     io::write_all(1, b"\n");
 }
 
@@ -121,7 +121,7 @@ pub fn say(before: Check, after: Check, answer: Answer) {
 pub fn say_asked(before: Check, after: Check, answer: Answer, same: bool) {
     say_answer(answer);
     say_output(answer, same);
-    say_check(compare::same_check(before, after));
+    say_check(checks::same_check(before, after));
 }
 
 // The line that a call wrote, which ends in LF; or only the end of what is said.

@@ -1,8 +1,8 @@
--- `program_script::report::say_numbers` is safe and ends. Assumes nothing.
+-- `program_orders::report::say_facts` is safe and ends. Assumes nothing.
 use borrow.Author.Needs.{needs}
 use Prim.Native.Nat.{_-_}
-use Rattle.program_script.proofs.report.say_numbers.Statement.{statement}
-use Rattle.program_script.proofs.report.say_numbers.Tie as tie
+use Rattle.program_orders.proofs.report.say_facts.Statement.{statement}
+use Rattle.program_orders.proofs.report.say_facts.Tie as tie
 
 abbrev Inv-loop : tie.InvT-loop
 Inv-loop out n i₀ t6 i = Unit {0}
@@ -22,14 +22,11 @@ write-all-requires c κs = search needs
 loop-holds : tie.Need-loop-holds Inv-loop μ-loop
 loop-holds c = search needs
 
-mul-say-value : tie.Need-mul-say-value Inv-loop μ-loop
-mul-say-value c = search needs
+shared-slice-read-say-fact : tie.Need-shared-slice-read-say-fact Inv-loop μ-loop
+shared-slice-read-say-fact c = search needs
 
-shared-slice-copy-out-say-value : tie.Need-shared-slice-copy-out-say-value Inv-loop μ-loop
-shared-slice-copy-out-say-value c = search needs
-
-say-value-requires : tie.Need-say-value-requires Inv-loop μ-loop
-say-value-requires c κs = search needs
+say-fact-requires : tie.Need-say-fact-requires Inv-loop μ-loop
+say-fact-requires c κs = search needs
 
 add-i : tie.Need-add-i Inv-loop μ-loop
 add-i c = search needs
@@ -49,8 +46,8 @@ write-all-requires-2 c κs = search needs
 returns : tie.Need-returns Inv-loop μ-loop
 returns c = search needs
 
-pub say-numbers-spec : {M : Type 1} → statement M
-say-numbers-spec =
+pub say-facts-spec : {M : Type 1} → statement M
+say-facts-spec =
     tie.close
     (tie.spec
     Inv-loop
@@ -59,9 +56,8 @@ say-numbers-spec =
     slice-aggregate-write-all
     write-all-requires
     loop-holds
-    mul-say-value
-    shared-slice-copy-out-say-value
-    say-value-requires
+    shared-slice-read-say-fact
+    say-fact-requires
     add-i
     loop-less
     loop-again
