@@ -4,12 +4,12 @@ use mathlib.Core.List.{List, [], _∷_}
 use Rattle.text_words.specs.Bytes.{bytes, lowerOf}
 use Rattle.text_words.specs.Spelling.{sameWord}
 use Rattle.program_arguments.specs.Arguments.{optionOf, argumentOf, sizeFrom}
-use Rattle.program_arguments.specs.declared.arguments.Argument.the-variants.{State, Quiet, Part, AnswerOn3, End, File, Unknown}
+use Rattle.program_arguments.specs.declared.arguments.Argument.the-variants.{State, Names, Quiet, Part, AnswerOn3, End, File, Unknown}
 
-arguments : argumentOf (bytes "--state") ∷ argumentOf (bytes "--quiet") ∷ argumentOf (bytes "--part") ∷ argumentOf (bytes "--answer-on-3")
-    ∷ argumentOf (bytes "--") ∷ argumentOf (bytes "a.plan") ∷ argumentOf (bytes "-") ∷ argumentOf [] ∷ argumentOf (bytes "--stat")
+arguments : argumentOf (bytes "--state") ∷ argumentOf (bytes "--names") ∷ argumentOf (bytes "--quiet") ∷ argumentOf (bytes "--part")
+    ∷ argumentOf (bytes "--answer-on-3") ∷ argumentOf (bytes "--") ∷ argumentOf (bytes "a.plan") ∷ argumentOf (bytes "-") ∷ argumentOf [] ∷ argumentOf (bytes "--stat")
     ∷ argumentOf (bytes "-q") ∷ argumentOf (bytes "---") ∷ []
-    ≡ State ∷ Quiet ∷ Part ∷ AnswerOn3 ∷ End ∷ File ∷ File ∷ File ∷ Unknown ∷ Unknown ∷ Unknown ∷ []
+    ≡ State ∷ Names ∷ Quiet ∷ Part ∷ AnswerOn3 ∷ End ∷ File ∷ File ∷ File ∷ Unknown ∷ Unknown ∷ Unknown ∷ []
 unfolding bytes lowerOf sameWord optionOf argumentOf
 arguments = refl
 

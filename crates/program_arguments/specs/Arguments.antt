@@ -15,11 +15,12 @@ use Rattle.program_arguments.specs.declared.arguments.Argument.the-varia
 unfoldable pub optionOf : List ℕ → Argument
 optionOf w =
     cond (sameWord (bytes "--state") w) A.State
+    (cond (sameWord (bytes "--names") w) A.Names
     (cond (sameWord (bytes "--quiet") w) A.Quiet
     (cond (sameWord (bytes "--part") w) A.Part
     (cond (sameWord (bytes "--answer-on-3") w) A.AnswerOn3
     (cond (sameWord (bytes "--") w) A.End
-    A.Unknown))))
+    A.Unknown)))))
 
 -- what begins with a minus is an option, but for the minus alone
 unfoldable pub argumentOf : List ℕ → Argument

@@ -1,4 +1,4 @@
-// The arguments: `[--state] [--part N] [--quiet] [--] DOMAIN PROBLEM PLAN`, and `--answer-on-3`, which the script `khushelvo` gives.
+// The arguments: `[--state] [--names] [--part N] [--quiet] [--] DOMAIN PROBLEM PLAN`, and `--answer-on-3`, which the script `khushelvo` gives.
 use crate::files;
 use program_quotes::stderr;
 use text_tokens::classes;
@@ -9,6 +9,7 @@ ghost use Rattle.program_arguments.specs.Arguments.{argumentOf, optionOf
 // What an argument is by its bytes.
 pub enum Argument {
     State,
+    Names,
     Quiet,
     Part,
     AnswerOn3,
@@ -20,6 +21,7 @@ pub enum Argument {
 // What is asked for. A file is known by the number of the argument that names it: 0, the program's own name, is none.
 pub struct Options {
     pub state: bool,
+    pub names: bool,
     pub quiet: bool,
     // whether the answer's line goes to descriptor 3 too
     pub answer_on_3: bool,
@@ -42,6 +44,9 @@ fn option_of(w: &[u8]) -> Argument
 {
     if spelling::same_word(b"--state", w) {
         return Argument::State;
+    }
+    if spelling::same_word(b"--names", w) {
+        return Argument::Names;
     }
     if spelling::same_word(b"--quiet", w) {
         return Argument::Quiet;
@@ -132,6 +137,10 @@ impl Options {
                 self.state = true;
                 self
             }
+            Argument::Names => {
+                self.names = true;
+                self
+            }
             Argument::Quiet => {
                 self.quiet = true;
                 self
@@ -168,6 +177,7 @@ fn take_argument(options: Options, i: usize) -> Options {
 pub fn read() -> Options {
     let mut options = Options {
         state: false,
+        names: false,
         quiet: false,
         answer_on_3: false,
         part: 65536,
@@ -191,7 +201,7 @@ pub fn read() -> Options {
 // Ends a line that says what is wrong, and says what is wanted.
 fn say_usage() {
     stderr::say(
-        b"\nusage: khushelvo [--state] [--part N] [--quiet] [--] DOMAIN PROBLEM PLAN (khushelvo --help says more)\n",
+        b"\nusage: khushelvo [--state] [--names] [--part N] [--quiet] [--] DOMAIN PROBLEM PLAN (khushelvo --help says more)\n",
     );
 }
 

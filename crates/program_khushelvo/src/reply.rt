@@ -1,4 +1,4 @@
-// What goes to standard output: document 01's line and, if asked for, the last facts and numbers.
+// What goes to standard output: document 01's line and, if asked for, the last facts and numbers, as digits or with their names.
 use check_calls::Answer;
 use check_calls::Check;
 use domain_load::LoadAnswer;
@@ -57,7 +57,7 @@ fn write_numbers(check: Check) {
     output::flush(&out, at);
 }
 
-// The line of a finished check and, with `--state`, the facts and the numbers unless the plan is refused.
+// The line of a finished check; then, unless the plan is refused, the facts and the numbers with `--state`, and the same with names with `--names`.
 pub fn write(options: Options, check: Check) {
     let mut line = [0u8; 64];
     let result = check.result(&mut line);
@@ -67,5 +67,9 @@ pub fn write(options: Options, check: Check) {
     if state {
         write_facts(check);
         write_numbers(check);
+    }
+    let names = options.names;
+    if names {
+        program_naming::write_state(check);
     }
 }

@@ -56,9 +56,19 @@ returns-5 : tie.Need-returns-5
 unfolding optionOf bytes
 returns-5 c = let c4 = c .before .before .before in let c3 = c4 .before .before .before in let c2 = c3 .before .before .before in let c1 = c2 .before .before .before in rw (sym (c1 .before .same-word .ensures) ∙ c1 .if1 .left, sym (c2 .before .same-word2 .ensures) ∙ c2 .if2 .left, sym (c3 .before .same-word3 .ensures) ∙ c3 .if3 .left, sym (c4 .before .same-word4 .ensures) ∙ c4 .if4 .left, sym (c .before .same-word5 .ensures) ∙ c .if5 .taken)
 
+slice-aggregate-same-word-6 : tie.Need-slice-aggregate-same-word-6
+slice-aggregate-same-word-6 c = search needs
+
+same-word-requires-6 : tie.Need-same-word-requires-6
+same-word-requires-6 c κs = search needs
+
 returns-6 : tie.Need-returns-6
 unfolding optionOf bytes
-returns-6 c = let c4 = c .before .before .before in let c3 = c4 .before .before .before in let c2 = c3 .before .before .before in let c1 = c2 .before .before .before in rw (sym (c1 .before .same-word .ensures) ∙ c1 .if1 .left, sym (c2 .before .same-word2 .ensures) ∙ c2 .if2 .left, sym (c3 .before .same-word3 .ensures) ∙ c3 .if3 .left, sym (c4 .before .same-word4 .ensures) ∙ c4 .if4 .left, sym (c .before .same-word5 .ensures) ∙ c .if5 .left)
+returns-6 c = let c5 = c .before .before .before in let c4 = c5 .before .before .before in let c3 = c4 .before .before .before in let c2 = c3 .before .before .before in let c1 = c2 .before .before .before in rw (sym (c1 .before .same-word .ensures) ∙ c1 .if1 .left, sym (c2 .before .same-word2 .ensures) ∙ c2 .if2 .left, sym (c3 .before .same-word3 .ensures) ∙ c3 .if3 .left, sym (c4 .before .same-word4 .ensures) ∙ c4 .if4 .left, sym (c5 .before .same-word5 .ensures) ∙ c5 .if5 .left, sym (c .before .same-word6 .ensures) ∙ c .if6 .taken)
+
+returns-7 : tie.Need-returns-7
+unfolding optionOf bytes
+returns-7 c = let c5 = c .before .before .before in let c4 = c5 .before .before .before in let c3 = c4 .before .before .before in let c2 = c3 .before .before .before in let c1 = c2 .before .before .before in rw (sym (c1 .before .same-word .ensures) ∙ c1 .if1 .left, sym (c2 .before .same-word2 .ensures) ∙ c2 .if2 .left, sym (c3 .before .same-word3 .ensures) ∙ c3 .if3 .left, sym (c4 .before .same-word4 .ensures) ∙ c4 .if4 .left, sym (c5 .before .same-word5 .ensures) ∙ c5 .if5 .left, sym (c .before .same-word6 .ensures) ∙ c .if6 .left)
 
 pub option-of-spec : {M : Type 1} → statement M
 option-of-spec =
@@ -79,4 +89,7 @@ option-of-spec =
     slice-aggregate-same-word-5
     same-word-requires-5
     returns-5
-    returns-6)
+    slice-aggregate-same-word-6
+    same-word-requires-6
+    returns-6
+    returns-7)
