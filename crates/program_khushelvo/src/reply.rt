@@ -4,6 +4,7 @@ use check_calls::Check;
 use domain_load::LoadAnswer;
 use program_arguments::arguments::Options;
 use program_arguments::files;
+use program_naming::state;
 use program_records::listing;
 use program_records::output;
 use text_tokens::runs;
@@ -33,28 +34,41 @@ pub fn refuse(options: Options, load: LoadAnswer) {
     write_line(options, told, &line);
 }
 
-fn write_facts(check: Check) {
+// The last facts, with names or as digits.
+fn write_facts(check: Check, named: bool) {
     let mut facts = [0u8; 16384];
     let told = check.facts(&mut facts);
     let answer = told.answer;
     let Answer::Done(n) = answer else {
         return;
     };
+    let values = runs::part_of(&facts, 0, n);
+    let counts = check.model.counts;
     let mut out = [0u8; 4096];
-    let at = listing::facts(runs::part_of(&facts, 0, n), &mut out, 0);
-    output::flush(&out, at);
+    let used = if named {
+        state::put_facts(&check.model.tables, counts, values, &mut out)
+    } else {
+        listing::facts(values, &mut out, 0)
+    };
+    output::flush(&out, used);
 }
 
-fn write_numbers(check: Check) {
+// The last numbers, with names or by themselves.
+fn write_numbers(check: Check, named: bool) {
     let mut numbers = [0i64; 1024];
     let told = check.numbers(&mut numbers);
     let answer = told.answer;
     let Answer::Done(n) = answer else {
         return;
     };
+    let counts = check.model.counts;
     let mut out = [0u8; 4096];
-    let at = listing::numbers(&numbers, n, &mut out, 0);
-    output::flush(&out, at);
+    let used = if named {
+        state::put_numbers(&check.model.tables, counts, &numbers, n, &mut out)
+    } else {
+        listing::numbers(&numbers, n, &mut out, 0)
+    };
+    output::flush(&out, used);
 }
 
 // The line of a finished check; then, unless the plan is refused, the facts and the numbers with `--state`, and the same with names with `--names`.
@@ -63,13 +77,14 @@ pub fn write(options: Options, check: Check) {
     let result = check.result(&mut line);
     let told = result.answer;
     write_line(options, told, &line);
-    let state = options.state;
-    if state {
-        write_facts(check);
-        write_numbers(check);
+    let digits = options.state;
+    if digits {
+        write_facts(check, false);
+        write_numbers(check, false);
     }
     let names = options.names;
     if names {
-        program_naming::write_state(check);
+        write_facts(check, true);
+        write_numbers(check, true);
     }
 }
