@@ -40,11 +40,19 @@ fn judge(options: Options, plan: i32, check: Check) {
 }
 
 // A refusal of domain or problem, which argument `name` names.
-fn refuse(options: Options, load: LoadAnswer, name: usize, text: &[u8], number: u8, place: usize) {
+fn refuse<'a>(
+    options: Options,
+    load: LoadAnswer,
+    name: usize,
+    domain: &'a [u8],
+    text: &'a [u8],
+    number: u8,
+    place: usize,
+) {
     reply::refuse(options, load);
     let quiet = options.quiet;
     if !quiet {
-        message::of_text(name, text, number, place);
+        message::of_text(name, domain, text, number, place);
     }
 }
 
@@ -68,8 +76,28 @@ fn check(options: Options, domain: i32, problem: i32, plan: i32) {
     let load = opened.answer;
     match load {
         LoadAnswer::Loaded => judge(options, plan, opened.check),
-        LoadAnswer::Domain(k, at) => refuse(options, load, options.domain, domain_text, k, at),
-        LoadAnswer::Problem(k, at) => refuse(options, load, options.problem, problem_text, k, at),
+        LoadAnswer::Domain(k, at) => {
+            refuse(
+                options,
+                load,
+                options.domain,
+                domain_text,
+                domain_text,
+                k,
+                at,
+            )
+        }
+        LoadAnswer::Problem(k, at) => {
+            refuse(
+                options,
+                load,
+                options.problem,
+                domain_text,
+                problem_text,
+                k,
+                at,
+            )
+        }
     }
 }
 

@@ -1,4 +1,5 @@
 // What each refusal number means, in a technician's words, true to document 01's table.
+use program_limits::Limit;
 use program_quotes::stderr;
 
 // In all texts.
@@ -37,5 +38,27 @@ pub fn say(number: u8) {
         say_common(number);
     } else {
         say_in_plan(number);
+    }
+}
+
+// The limit that a refusal 12 is about.
+pub fn say_limit(limit: Limit) {
+    match limit {
+        Limit::Types => stderr::say(b"a domain has at most 16 types"),
+        Limit::Objects => stderr::say(b"there are at most 64 objects, constants among them"),
+        Limit::Predicates => stderr::say(b"a domain has at most 32 predicates"),
+        Limit::PredicateArguments => stderr::say(b"a predicate has at most 3 arguments"),
+        Limit::Functions => stderr::say(b"a domain has at most 16 functions"),
+        Limit::FunctionArguments => stderr::say(b"a function has at most 2 arguments"),
+        Limit::Actions => stderr::say(b"a domain has at most 32 actions"),
+        Limit::Parameters => stderr::say(b"an action has at most 4 parameters"),
+        Limit::Conditions => stderr::say(b"an action has at most 32 single conditions"),
+        Limit::Effects => stderr::say(b"an action has at most 16 effects"),
+        Limit::GoalConditions => stderr::say(b"the goal has at most 64 single conditions"),
+        Limit::Expression => stderr::say(b"an expression has at most 16 operators and operands"),
+        Limit::Brackets => stderr::say(b"brackets are at most 16 deep"),
+        Limit::Facts => stderr::say(b"predicates and objects make at most 16,384 facts"),
+        Limit::Numbers => stderr::say(b"functions and objects make at most 1,024 numbers"),
+        Limit::Unknown => say(12),
     }
 }

@@ -7,20 +7,29 @@ use program_arguments::files;
 use program_quotes::location;
 use program_quotes::stderr;
 
-// A refusal's place, its number and what that means.
+// A refusal's place and its number.
 fn say_refusal(name: usize, line: usize, column: usize, number: u8) {
     files::say_name(name);
     stderr::say_with(b":", line, b":");
     stderr::say_number(column);
     stderr::say_with(b": refused (", number as usize, b"): ");
-    meanings::say(number);
+}
+
+// What the number means; of 12, which limit it is.
+fn say_meaning<'a>(domain: &'a [u8], text: &'a [u8], number: u8, place: usize) {
+    if number == 12 {
+        meanings::say_limit(program_limits::limit_of(domain, text, place));
+    } else {
+        meanings::say(number);
+    }
     stderr::say(b"\n");
 }
 
-// A refusal of domain or problem, which argument `name` names.
-pub fn of_text(name: usize, text: &[u8], number: u8, place: usize) {
+// A refusal of domain or problem, which argument `name` names; the domain's text is given for both.
+pub fn of_text<'a>(name: usize, domain: &'a [u8], text: &'a [u8], number: u8, place: usize) {
     let line = location::line_at(text, place);
     say_refusal(name, line, location::column_at(text, place), number);
+    say_meaning(domain, text, number, place);
     stderr::quote(line, text, place);
     stderr::point(line, text, place);
 }
@@ -137,6 +146,8 @@ fn of_refused(
     let line = p.at;
     let column = p.column;
     say_refusal(name, line, column, p.refusal);
+    meanings::say(p.refusal);
+    stderr::say(b"\n");
     let i = quotes::find(numbers, line);
     if i < 65 {
         if 0 < column {
