@@ -21,7 +21,7 @@ use Rattle.plan_meaning.proofs.Text.{feed-append}
 use Rattle.plan_meaning.proofs.Judged.{stopIn, refusalIn, meaning-refusal}
 use Rattle.plan_meaning.proofs.Bounds.{empty-line}
 use Rattle.plan_meaning.proofs.Rising.{judged-so-far}
-use Rattle.plan_bytes.proofs.Turning.{feed-halted}
+use Rattle.plan_bytes.proofs.Machine.{feed-halted}
 use Rattle.check_meaning.specs.Answer.{groundsOf, firstState, rulesFor, knownFor}
 use Rattle.check_calls.specs.Calls as C
 use Rattle.check_calls.specs.Calls.{wellFormed, anyState, rulesOn, knownOn, heldBy, refusedCheck, stored, standing, feedOf, finishOf, openOf}

@@ -15,7 +15,7 @@ use Rattle.plan_meaning.specs.Text.{Reader}
 use Rattle.plan_meaning.specs.Promised.{Act}
 use Rattle.plan_meaning.specs.Lines.{Refused, reader, limits}
 use Rattle.plan_meaning.proofs.Bounds.{TextRefusal}
-use Rattle.plan_bytes.proofs.Turning.{feed-halted}
+use Rattle.plan_bytes.proofs.Machine.{feed-halted}
 use Rattle.domain_load.specs.Decode.{decode}
 use Rattle.check_calls.specs.Calls as C
 use Rattle.check_calls.specs.Calls.{formed, wellFormed, anyState, rulesOn, knownOn, heldBy, refusedCheck, stored, feedOf, finishOf}

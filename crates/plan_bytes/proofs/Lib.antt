@@ -1,2 +1,4 @@
 -- Laws that the proofs cite.
-pub mod Turning
+pub mod Ends
+pub mod Machine
+pub mod Taking

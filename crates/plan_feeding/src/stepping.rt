@@ -128,7 +128,7 @@ fn take_step<'a>(
     }
 }
 
-// The line that has ended: its first bytes, as many as are in use.
+// The line that has ended, by its bytes, wherever they lie.
 pub fn take_line<'a>(
     tables: &'a [u8],
     counts: Counts,
@@ -138,7 +138,7 @@ pub fn take_line<'a>(
     facts: &mut [u8],
     numbers: &mut [i64],
     fresh: &mut [i64],
-    line: &'a [u8],
+    text: &'a [u8],
     words: &mut [usize; 640],
     objects: &mut [u8; 256],
     count: usize,
@@ -150,7 +150,7 @@ pub fn take_line<'a>(
 ) -> Went
     requires { ⌜
         Tabled (now tables) counts × Headed (now heads) acting × Fit acting (queueIn (now words) (now objects) count) p × (p .refused ≡ false)
-        × (length (now line) ≡ 257) × Rowed (now rows)
+        × (length (now text) ≤ 256) × Rowed (now rows)
         × Poised (now rows) (now words) (now objects) count (now marks) (now watches) (now facts) (now numbers) (now fresh)
         ⌝ }
     ensures { λ r. ⌜
@@ -159,13 +159,12 @@ pub fn take_line<'a>(
         ≡ M.take (rulesIn (now (rows .entry)) c (signedIn (now (heads .entry)) acting) s) limits
         (checkIn (stateIn (now (facts .entry)) (now (numbers .entry))) (queueIn (now (words .entry)) (now (objects .entry)) count) p)
         (reader (knownIn (now (tables .entry)) counts (now (heads .entry)) acting (now (rows .entry))) .line (p .number)
-        (p .start) (take (p .used) (now (line .entry)))))
+        (p .start) (now (text .entry))))
         × Fit acting (queueIn (now (words .exit)) (now (objects .exit)) (r .count)) (r .progress) × (r .progress .number ≡ p .number)
         × Poised (now (rows .entry)) (now (words .exit)) (now (objects .exit)) (r .count) (now (marks .exit)) (now (watches .exit)) (now (facts .exit))
         (now (numbers .exit)) (now (fresh .exit))
         ⌝ }
 {
-    let text = runs::part_of(line, 0, p.used);
     let l = steps::line_at(text, tables, counts, heads, acting, rows, p.number, p.start);
     match l {
         Line::Blank => Went { count, progress: p },
@@ -304,6 +303,7 @@ pub fn end_plan<'a>(
     let mut marks = [0u8; 17408];
     let mut watches = [0usize; 65];
     lent::lend(queue, &mut words, &mut objects);
+    let text = runs::part_of(line, 0, p.used);
     let t = take_line(
         tables,
         counts,
@@ -313,7 +313,7 @@ pub fn end_plan<'a>(
         facts,
         numbers,
         fresh,
-        line,
+        text,
         &mut words,
         &mut objects,
         queue.count,

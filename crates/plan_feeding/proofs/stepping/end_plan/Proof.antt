@@ -1,7 +1,9 @@
 -- `plan_feeding::stepping::end_plan` meets its contract. Assumes nothing.
-use mathlib.Core.Path.{_≡_, refl, _∙_}
+use mathlib.Core.Path.{_≡_, refl, ap, _∙_}
+use native.Mathlib.Omega.{arith}
 use denote.Ref.{now}
-use lib.ListN.{take}
+use lib.ListN.{length, take}
+use lib.Seq.{length-take-le}
 use Rattle.domain_prepared_meaning.specs.Decode.{goalAt}
 use Rattle.domain_stored_meaning.specs.Entries.{signedIn}
 use Rattle.domain_meaning.specs.Conditions.{Cond}
@@ -22,13 +24,14 @@ use Rattle.plan_waiting.specs.declared.Queue.{Queue}
 use Rattle.plan_feeding.specs.Feeding.{checkIn}
 use Rattle.plan_lines.proofs.Names.{signed-length}
 use Rattle.plan_feeding.proofs.Alike.{check-alike, fit-alike}
+use Rattle.plan_feeding.proofs.Answering.{part-first}
 use Rattle.plan_feeding.proofs.Ending.{closed-refused, closed-run}
 use borrow.Author.Needs.{needs}
 use Rattle.plan_feeding.proofs.stepping.end_plan.Statement.{statement}
 use Rattle.plan_feeding.proofs.stepping.end_plan.Tie as tie
 
 abbrev start : tie.After-take-line → tie.Start
-start c = c .before .before .before .before .before .before .before .before .before .before .before .before .before .before .before .before .before .before .before
+start c = c .before .before .before .before .before .before .before .before .before .before .before .before .before .before .before .before .before .before .before .before
 
 abbrev goal : tie.Start → Cond
 goal c = goalAt (now (c .args .goal))
@@ -56,23 +59,40 @@ lent c = queueIn (c .lend .last .1 .0) (c .lend .last .1 .1 .0) (c .before .befo
 abbrev after : tie.After-take-line → Queue
 after c = let t = c .take-line in queueIn (t .last .1 .1 .1 .1 .1 .1 .1 .1 .1 .0) (t .last .1 .1 .1 .1 .1 .1 .1 .1 .1 .1 .0) (t .result .count)
 
+-- the bytes of the last line
+text-is : (c : tie.After-part-of) → (let a = c .before .before .before .before .before .before .before .before .before .before .args in now (c .part-of .result) ≡ take (a .p .used) (now (a .line)))
+text-is c = let a = c .before .before .before .before .before .before .before .before .before .before .args in c .part-of .ensures ∙ part-first (now (a .line)) (a .p .used)
+
 taken : (c : tie.After-take-line) (s : State) → (let a = start c .args in
     checkIn (there c) (after c) (c .take-line .result .progress)
     ≡ M.take (rules (start c) s) limits (checkIn (first (start c)) (a .queue) (a .p)) (reads (start c) .line (a .p .number) (a .p .start) (take (a .p .used) (now (a .line)))))
 taken c s =
     let a = start c .args in
-    let l = c .before .before .before .before .before .before .before .before .before .before in
-    rw (← check-alike (a .queue) (lent l) (l .lend .ensures .1) (first (start c)) (a .p)) (c .take-line .ensures .0 (goal (start c)) s)
+    let t = c .before .before .before .before .before .before .before .before .before .before in
+    let l = t .before in
+    rw (← check-alike (a .queue) (lent l) (l .lend .ensures .1) (first (start c)) (a .p), ← text-is t) (c .take-line .ensures .0 (goal (start c)) s)
 
 lend-requires : tie.Need-lend-requires
 lend-requires c κs = let s = c .before .before .before .before .before .before .before .before in (s .args .acting, s .pre .2 .0)
 
+part-of-requires : tie.Need-part-of-requires
+part-of-requires c κs = search needs
+
 take-line-requires : tie.Need-take-line-requires
 take-line-requires c κs =
-    let l = c .before .before .before .before .before .before .before .before .before in
+    let t = c .before .before .before .before .before .before .before .before .before in
+    let l = t .before in
     let s = l .before .before .before .before .before .before .before .before .before in
     let a = s .args in
-    (s .pre .0, s .pre .1, fit-alike (a .queue) (lent l) (l .lend .ensures .1) (a .acting) (a .p) refl (s .pre .2), s .pre .3, s .pre .4, s .pre .5, poised-none _ _ _ _ _ _ _ (l .lend .ensures .0) (s .pre .6))
+    let w = length-take-le (a .p .used) (now (a .line)) (omega (arith, s .pre .2 .2, s .pre .4)) in (
+      s .pre .0,
+      s .pre .1,
+      fit-alike (a .queue) (lent l) (l .lend .ensures .1) (a .acting) (a .p) refl (s .pre .2),
+      s .pre .3,
+      omega (arith, ap length (text-is t), w, s .pre .2 .2),
+      s .pre .5,
+      poised-none _ _ _ _ _ _ _ (l .lend .ensures .0) (s .pre .6),
+    )
 
 same-length : tie.Need-same-length
 same-length c = search needs
@@ -127,6 +147,7 @@ end-plan-spec =
     tie.close
     (tie.spec
     lend-requires
+    part-of-requires
     take-line-requires
     same-length
     same-length-2

@@ -1,12 +1,8 @@
 -- `plan_feeding::stepping::take_line` meets its contract. Assumes nothing.
 use mathlib.Core.Path.{refl, ap}
-use Prim.Native.Nat.{ℕ, _≤_}
-use mathlib.Core.List.{List}
 use mathlib.Core.Option.{Option}
 use native.Mathlib.Omega.{arith}
 use denote.Ref.{now}
-use lib.ListN.{length, take}
-use lib.Seq.{length-take-le}
 use Rattle.domain_stored_meaning.specs.Entries.{signedIn}
 use Rattle.domain_meaning.specs.Conditions.{Cond}
 use Rattle.domain_meaning.specs.Read.{Read}
@@ -18,7 +14,6 @@ use Rattle.plan_meaning.specs.Plan.{Step, Rules}
 use Rattle.plan_meaning.specs.Promised.{Act}
 use Rattle.plan_meaning.specs.Lines.{Known, lineAt}
 use Rattle.plan_lines.specs.Knowing.{knownIn}
-use Rattle.plan_lines.specs.Steps.{Lined}
 use Rattle.plan_running.specs.Running.{rulesIn}
 use Rattle.plan_waiting.specs.Lent.{queueIn}
 use Rattle.plan_waiting.specs.declared.Queue.{Queue}
@@ -27,13 +22,13 @@ use Rattle.plan_feeding.specs.declared.PlanProgress.{PlanProgress}
 use Rattle.plan_feeding.specs.Feeding.{checkIn}
 use Rattle.plan_meaning.proofs.Places.{line-places}
 use Rattle.plan_lines.proofs.Names.{signed-length}
-use Rattle.plan_feeding.proofs.Answering.{lined-refused, lined-read, taken-blank, taken-refusal, taken-step, part-first, read-line, read-width}
+use Rattle.plan_feeding.proofs.Answering.{lined-refused, lined-read, taken-blank, taken-refusal, taken-step, read-line, read-width}
 use borrow.Author.Needs.{needs}
 use Rattle.plan_feeding.proofs.stepping.take_line.Statement.{statement}
 use Rattle.plan_feeding.proofs.stepping.take_line.Tie as tie
 
 abbrev start : tie.After-line-at → tie.Start
-start c = c .before .before .before .before .before .before .before
+start c = c .before .before .before .before .before .before
 
 abbrev known : tie.Start → Known
 known c = knownIn (now (c .args .tables)) (c .args .counts) (now (c .args .heads)) (c .args .acting) (now (c .args .rows))
@@ -50,24 +45,9 @@ first c = stateIn (now (c .args .facts)) (now (c .args .numbers))
 abbrev before : tie.Start → Queue
 before c = queueIn (now (c .args .words)) (now (c .args .objects)) (c .args .count)
 
--- the line's bytes, and what the definition reads in them
-abbrev text : tie.Start → List ℕ
-text c = take (c .args .p .used) (now (c .args .line))
-
+-- what the definition reads in the line
 abbrev found : tie.Start → Read (Option (Step Act))
-found c = lineAt (text c) (known c) (c .args .p .number) (c .args .p .start) 0
-
-lined : (c : tie.After-line-at) → Lined (start c .args .acting) (c .line-at .result) (found (start c))
-lined c = let a = start c .args in rw (← part-first (now (a .line)) (a .p .used), ← c .before .part-of .ensures) (c .line-at .ensures)
-
-width : (c : tie.Start) → length (text c) ≤ 256
-width c =
-    let f = c .pre .2 .2 in
-    let n = c .pre .4 in
-    omega (arith, length-take-le (c .args .p .used) (now (c .args .line)) (omega arith))
-
-part-of-requires : tie.Need-part-of-requires
-part-of-requires c κs = search needs
+found c = lineAt (now (c .args .text)) (known c) (c .args .p .number) (c .args .p .start) 0
 
 line-at-requires : tie.Need-line-at-requires
 line-at-requires c κs = search needs
@@ -84,9 +64,9 @@ add-refuse c =
     let a = start v .args in
     let k = c .before .l .given .0 .0 in
     let p = c .before .l .given .0 .1 .0 in
-    let e = lined-refused (a .acting) (v .line-at .result) k p (found (start v)) (c .before .l .given .1) (lined v) in
-    let h = line-places (text (start v)) (known (start v)) (a .p .number) (a .p .start) 0 (omega arith) k p e in
-    let w = width (start v) in
+    let e = lined-refused (a .acting) (v .line-at .result) k p (found (start v)) (c .before .l .given .1) (v .line-at .ensures) in
+    let h = line-places (now (a .text)) (known (start v)) (a .p .number) (a .p .start) 0 (omega arith) k p e in
+    let w = start v .pre .4 in
     search needs
 
 refuse-requires : tie.Need-refuse-requires
@@ -102,10 +82,10 @@ take-step-requires c κs =
     let pre = start v .pre in
     let l = c .before .before .before .before .before .before .before .before .before .before .l2 .given in
     let y = l .0 .0 in
-    let g = lined-read (a .acting) (v .line-at .result) y (found (start v)) (l .1) (lined v) in
-    let n = read-line (text (start v)) (known (start v)) (a .p .number) (a .p .start) (a .acting) y g in
-    let w = read-width (text (start v)) (known (start v)) (a .p .number) (a .p .start) (a .acting) y g in
-    ((a .acting, pre .2 .0), pre .3, n, g .within .1, omega (arith, width (start v), w), pre .5, pre .6, (a .acting, sound-step-of (a .acting) y (g .within .0) (g .within .1) (g .within .2)))
+    let g = lined-read (a .acting) (v .line-at .result) y (found (start v)) (l .1) (v .line-at .ensures) in
+    let n = read-line (now (a .text)) (known (start v)) (a .p .number) (a .p .start) (a .acting) y g in
+    let w = read-width (now (a .text)) (known (start v)) (a .p .number) (a .p .start) (a .acting) y g in
+    ((a .acting, pre .2 .0), pre .3, n, g .within .1, omega (arith, pre .4, w), pre .5, pre .6, (a .acting, sound-step-of (a .acting) y (g .within .0) (g .within .1) (g .within .2)))
 
 returns : tie.Need-returns
 returns c =
@@ -113,7 +93,7 @@ returns c =
     let a = start v .args in
     let pre = start v .pre in (
       λ g s. taken-blank (rules (start v) g s) (first (start v)) (before (start v)) (a .p) (pre .3) (a .acting) (v .line-at .result)
-          (found (start v)) (lined v) (c .enum-told .given .1),
+          (found (start v)) (v .line-at .ensures) (c .enum-told .given .1),
       pre .2,
       refl,
       pre .6,
@@ -127,7 +107,7 @@ returns-2 c =
     let e = c .before .before .l .given in
     let r = c .refuse in (
       λ g s. taken-refusal (rules (start v) g s) (first (start v)) (before (start v)) (a .p) (pre .3) (a .acting) (v .line-at .result)
-          (found (start v)) (lined v) (r .result) (e .0 .0) (e .0 .1 .0) (e .1) (r .ensures),
+          (found (start v)) (v .line-at .ensures) (r .result) (e .0 .0) (e .0 .1 .0) (e .1) (r .ensures),
       rw (r .ensures) (pre .2),
       ap (λ (w : PlanProgress). w .number) (r .ensures),
       pre .6,
@@ -150,12 +130,12 @@ returns-3 c =
     let l = c .before .before .before .before .before .before .before .before .before .before .before .before .before .before .before .l2 .given in
     let y = l .0 .0 in
     let t = c .before .before .before .before .take-step in
-    let i = lined-read (a .acting) (v .line-at .result) y (found (start v)) (l .1) (lined v) .within in
+    let i = lined-read (a .acting) (v .line-at .result) y (found (start v)) (l .1) (v .line-at .ensures) .within in
     let n = signed-length (now (a .heads)) (a .acting) in
     let left = queueIn (t .last .1 .1 .1 .1 .0) (t .last .1 .1 .1 .1 .1 .0) (t .result .count) in
     let new = checkIn (stateIn (t .last .1 .0) (t .last .1 .1 .0)) left (t .result .progress) in (
       λ g s. taken-step (rules (start v) g s) (first (start v)) (before (start v)) (a .p) (pre .3) (a .acting) (v .line-at .result)
-          (found (start v)) (lined v) new y (l .1)
+          (found (start v)) (v .line-at .ensures) new y (l .1)
           (t .ensures .0 g (heads (start v)) s (rw n (pre .2 .0)) (rw n (pre .1 .1))),
       (
         t .ensures .1 (a .acting) (pre .2 .0) (sound-step-of (a .acting) y (i .0) (i .1) (i .2)),
@@ -172,7 +152,6 @@ pub take-line-spec : {M : Type 1} → statement M
 take-line-spec =
     tie.close
     (tie.spec
-    part-of-requires
     line-at-requires
     enum-told
     enum-known-l

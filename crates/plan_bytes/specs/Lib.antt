@@ -1,0 +1,2 @@
+-- Where lines end in the parts of a plan.
+pub mod Ends
