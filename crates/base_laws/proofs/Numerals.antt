@@ -11,7 +11,7 @@ power-next n i p e = rw (add-one i, pow-suc n i, e)
 pub ten-to : (k m : ℕ) → k ≤ m → 10 ^ k ≤ 10 ^ m
 ten-to k m h = pow-le-pow-right (omega arith) h
 
--- a digit i behind acc: with p for the digits that follow
+-- a digit i after acc: with p for the digits that follow
 pub digit-below : (n acc i p : ℕ) → i < n → (acc * n + i + 1) * p ≤ (acc + 1) * (n * p)
 digit-below n acc i p h =
     let k : acc * n + i + 1 ≤ (acc + 1) * n = rw (add-mul acc 1 n, one-mul n) (omega arith) in

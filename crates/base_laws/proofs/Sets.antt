@@ -1,4 +1,4 @@
--- Elements stored one behind the other: two stores are one of both, and what a store leaves. Assumes nothing.
+-- Elements stored one after the other: two stores are one of both, and what a store leaves. Assumes nothing.
 use mathlib.Core.Path.{_≡_, refl, sym, ap, _∙_}
 use mathlib.Core.List.{List, [], _∷_, _++_, append-assoc, append-nil}
 use Prim.Native.Nat.{ℕ, zero, suc, _+_, _≤_, _<_}
@@ -8,7 +8,7 @@ use native.Mathlib.Omega.{arith}
 use lib.ListN.{length, set, getD, take, drop, drop-of-length-le}
 use lib.Seq.{sets, sets-eq, set-comm, take-at, drop-cons, drop-drop}
 
--- ---- stores one behind the other
+-- ---- stores one after the other
 
 pub sets-append : {A : Type 0} (l : List A) (i : ℕ) (xs ys : List A) → sets (sets l i xs) (i + length xs) ys ≡ sets l i (xs ++ ys)
 sets-append l i [] ys = ap (λ k. sets l k ys) (add-zero i)
@@ -43,7 +43,7 @@ sets-at [] q vs n h = ap (λ (k : ℕ). sets q k vs) (sym h)
 sets-at (x ∷ p) q vs zero h = absurd (let z : ⊥ = omega arith in z)
 sets-at (x ∷ p) q vs (suc n) h = sets-cons x (p ++ q) n vs ∙ ap (λ (l : List ℕ). x ∷ l) (sets-at p q vs n (omega arith))
 
--- at the front: what was stored, and what lay behind it
+-- at the front: what was stored, and what lay after it
 pub sets-first : {A : Type 0} (w out : List A) → length w ≤ length out → sets out 0 w ≡ w ++ drop (length w) out
 sets-first w out l = sets-eq w out 0 (omega arith) ∙ ap (λ (n : ℕ). w ++ drop n out) (zero-add (length w))
 

@@ -1,4 +1,4 @@
--- A line and the zeros behind it. Assumes nothing.
+-- A line and the zeros after it. Assumes nothing.
 use Prim.Native.Nat.{ℕ, zero, suc, _+_, _<_}
 use mathlib.Core.List.{List, [], _∷_, _++_}
 use mathlib.Core.Path.{_≡_, refl, sym, ap, _∙_}

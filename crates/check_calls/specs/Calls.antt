@@ -1,4 +1,4 @@
--- What each call does: the check after it, its answer, and the lent output. Refusals 19 to 23 in document 01's order: 19, 21, 22, 23, 20, a standing plan
+-- What each call does: the check after it, its answer, and the lent output. Refusals 19 to 23 in the order of RULES 13: 19, 21, 22, 23, 20, a standing plan
 -- refusal after 21.
 use Prim.Native.Nat.{ℕ}
 use mathlib.Core.List.{List, [], map}

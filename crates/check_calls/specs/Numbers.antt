@@ -1,5 +1,4 @@
--- Document 01's number and place for each answer of the calls. "Where an answer is an enum, a definition gives this paper's number and values for each of
--- its cases. The promises use that definition."
+-- The number and place of each answer of the calls, as in RULES 7 and RULES 13. The promises speak of them by this definition.
 use Prim.Native.Nat.{ℕ}
 use Rattle.domain_load.specs.declared.LoadAnswer.{LoadAnswer}
 use Rattle.domain_load.specs.declared.LoadAnswer.the-variants as Is

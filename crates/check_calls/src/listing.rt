@@ -1,4 +1,4 @@
-// Whether what a check would answer stands in document 01's table.
+// Whether what a check would answer stands in the tables of RULES 7 and RULES 12.
 use happening_meaning::Outcome;
 use plan_feeding::PlanProgress;
 ghost use mathlib.Core.Path.{_≡_};

@@ -37,7 +37,7 @@ module _ (s t : List ℕ) (d : Domain) (p : Problem) (m n : ℕ) (e : readDomain
   abbrev pub loaded : Check
   loaded = checkFor (loadedOf d p) 1
 
-  -- document 01's sizes hold, so the check is well formed
+  -- the sizes of RULES 6 hold, so the check is well formed
   sizes : Sizes (loaded .model .counts) (loaded .model .acting) (loaded .model .sizes .facts) (loaded .model .sizes .numbers)
   unfolding loadedOf modelOf
   sizes =

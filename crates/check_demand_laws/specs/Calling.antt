@@ -1,4 +1,4 @@
--- The calls of a plan checker as its caller sees them: what is handed over and what comes back. Nothing here says what they do.
+-- The calls of a plan checker as its caller sees them: what is handed over and what comes back. Nothing here says what they do. RULES 13.
 use Prim.Native.Nat.{ℕ}
 use mathlib.Core.Bool.{Bool}
 use mathlib.Core.List.{List, [], _∷_}

@@ -1,4 +1,5 @@
 -- Which answers each call can give, and which refusal comes first: "Of 19 to 23 the order is 19, 21, 22, 23, 20, a standing plan refusal after 21".
+-- RULES 13.
 use Prim.Native.Nat.{ℕ, _≤_}
 use mathlib.Core.Bool.{Bool, true, false, cond, not}
 use mathlib.Core.List.{List, [], _∷_}

@@ -1,3 +1,3 @@
--- Worked examples: the starred cases of document 01, and texts that are refused.
+-- Worked examples: the cases of RULES 14 but K9, and texts that are refused.
 pub mod Starred
 pub mod Refusals

@@ -1,4 +1,4 @@
--- The starred cases of document 01, from the bytes of the bench's texts to the bytes of the line.
+-- The cases of RULES 14 but K9, from the bytes of the bench's texts to the bytes of the line.
 use mathlib.Core.Path.{_≡_, refl, _∙_}
 use Prim.Native.Nat.{ℕ}
 use Prim.Native.String.{String}

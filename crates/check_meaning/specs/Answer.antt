@@ -1,4 +1,4 @@
--- The one definition of the whole: from the bytes of domain, problem and plan to the bytes of the line, and the final facts and numbers.
+-- The one definition of the whole: from the bytes of domain, problem and plan to the bytes of the line, and the final facts and numbers. RULES 1.
 use Prim.Native.Nat.{ℕ}
 use mathlib.Core.List.{List, map}
 use mathlib.Core.Bool.{cond}

@@ -1,5 +1,5 @@
--- Document 01's table of answers: which numbers a text can be refused by and with which places, and what a verdict can name; its plan part is that of
--- `plan_meaning`. Tests of numbers.
+-- The tables of RULES 7 and RULES 12: which numbers a text can be refused by and with which places, and what a verdict can name; the plan part of them
+-- is that of `plan_meaning`. Tests of numbers.
 use Prim.Native.Nat.{ℕ}
 use mathlib.Core.Bool.{Bool, true, cond, _&&_}
 use lib.Dec.{eqb, leb, ltb}

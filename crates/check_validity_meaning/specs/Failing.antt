@@ -1,4 +1,4 @@
--- The failure of a happening that is to be named: "The earliest failure is given, by time, then step, then the orders above."
+-- The failure of a happening that is to be named: "The earliest failure is given, by time, then step, then the orders above." RULES 12.
 -- For each thing that must hold in a happening: w is the failure that is named where it does not.
 use Prim.Native.Nat.{ℕ}
 use mathlib.Core.List.{List}

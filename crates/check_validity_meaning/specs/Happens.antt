@@ -1,4 +1,4 @@
--- The execution of a happening, Definitions 12 and 13 of source 000 as document 01 narrows them.
+-- The execution of a happening (RULES 11; Fox and Long, Definitions 12 and 13).
 -- What must hold in the state before, and what the state after it is.
 use Prim.Native.Nat.{ℕ, _<_}
 use mathlib.Core.Bool.{Bool, true, false, cond}
@@ -37,7 +37,7 @@ Additive g os (changes h r a) (changes k q b) = numberOf g os r ≡ numberOf g o
 abbrev pub Consistent : Grounds → Point → Type 0
 Consistent g p = Pairwise (Additive g (objectsOf p)) (effectsOf p)
 
--- ---- step 3: "Interference is Definition 12 of 000"
+-- ---- step 3: interference; RULES 11, step 3; Fox and Long, Definition 12
 
 -- never "a fact read by one's conditions is added or deleted by the other", nor "a number written by one is read by the other, in a condition, a duration
 -- rule or a right side": q leaves alone what p reads

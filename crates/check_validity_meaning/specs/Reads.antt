@@ -1,4 +1,5 @@
 -- What a point reads, every fact and number that occurs in its conditions, its duration rule and its right sides, and what its effects write.
+-- RULES 11, step 3.
 use Prim.Native.Nat.{ℕ}
 use mathlib.Core.Bool.{Bool}
 use mathlib.Core.List.{List}

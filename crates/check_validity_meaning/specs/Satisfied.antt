@@ -1,4 +1,4 @@
--- When a condition holds in a state, Definition 9 of source 000 as document 01 narrows it, and which part of it is the first that doesn't.
+-- When a condition holds in a state (RULES 9; Fox and Long, Definition 9), and which part of it is the first that doesn't.
 use Prim.Native.Nat.{ℕ}
 use mathlib.Core.List.{List}
 use mathlib.Core.Logic.{_⊎_}

@@ -1,4 +1,4 @@
--- A valid plan, Definitions 14 and 18 to 20 of source 000 as document 01 narrows them.
+-- A valid plan (RULES 11; Fox and Long, Definitions 14 and 18 to 20).
 use Prim.Native.Nat.{ℕ, _+_, _≤_, _<_}
 use mathlib.Core.List.{List, [], _∷_, map}
 use mathlib.Core.Logic.{_⊎_}
@@ -59,7 +59,8 @@ module _ (g : Grounds) (as′ : List Action) (plan : List (Step Act)) where
 
   -- ---- what goes well
 
-  -- the happening of time t leads from s to n, and what spans it holds there. Definition 18 tests that midway to the next happening; the state is still n then
+  -- the happening of time t leads from s to n, and what spans it holds there. In Fox and Long, Definition 18 that is tested midway to the next happening;
+  -- the state is still n then
   pub record Happens (t : ℕ) (s n : State) : Type 0 where
     pub executable : Executable g s (happeningAt t)
     pub result : Result g s (happeningAt t) n

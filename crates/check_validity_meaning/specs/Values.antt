@@ -1,5 +1,5 @@
 -- The value of an expression, and the first part that has none: "Parts are taken left to right, a part before the whole; the first `undefined` or
--- `range` decides."
+-- `range` decides." RULES 9.
 use Prim.Native.Nat.{ℕ}
 use mathlib.Core.Bool.{true}
 use mathlib.Core.List.{List}

@@ -1,4 +1,4 @@
--- Decimal digits: how many there are, and the last one behind the others. Assumes nothing.
+-- Decimal digits: how many there are, and the last one after the others. Assumes nothing.
 use mathlib.Core.Path.{_≡_, refl, ap}
 use mathlib.Core.List.{[], _∷_, _++_}
 use mathlib.Core.Bool.{Bool, true, false}

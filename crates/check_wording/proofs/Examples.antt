@@ -1,4 +1,4 @@
--- Lines of document 01, from what they say to their bytes.
+-- Lines of RULES 12 and RULES 14, from what they say to their bytes.
 use mathlib.Core.Path.{_≡_, refl}
 use mathlib.Core.List.{[], _∷_}
 use Rattle.text_words.specs.Bytes.{bytes}

@@ -1,4 +1,4 @@
--- Bytes put behind bytes: two writes are one of both. Assumes nothing.
+-- Bytes put after bytes: two writes are one of both. Assumes nothing.
 use mathlib.Core.Path.{_≡_, ap, _∙_}
 use mathlib.Core.List.{List, _++_}
 use Prim.Native.Nat.{ℕ, _+_}
@@ -8,7 +8,7 @@ use lib.ListN.{length, length-append}
 use lib.Seq.{sets}
 use Rattle.base_laws.proofs.Sets.{sets-append}
 
--- xs is put from i on: b is left, and j is the place behind
+-- xs is put from i on: b is left, and j is the place after it
 abbrev pub Put : List ℕ → ℕ → List ℕ → List ℕ → ℕ → Type 0
 Put a i xs b j = (b ≡ sets a i xs) × (j ≡ i + length xs)
 

@@ -47,7 +47,7 @@ second-none (Conflict l m) h = absurd (miss (0 ∷ 1 ∷ 2 ∷ 3 ∷ 4 ∷ 5 ∷
 second-none (Invariant l) h = refl
 second-none Goal h = refl
 
--- ---- parts put one behind the other
+-- ---- parts put one after the other
 
 pub time-put : (a : List ℕ) (n t : ℕ) {b c d e f : List ℕ} {i j k l m : ℕ} → Put a n (decimal (t / 1000)) b i → Put b i (46 ∷ []) c j
     → Put c j (digit (t / 100 % 10) ∷ []) d k → Put d k (digit (t / 10 % 10) ∷ []) e l → Put e l (digit (t % 10) ∷ []) f m → Put a n (timeOf t) f m

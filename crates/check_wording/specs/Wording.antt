@@ -1,5 +1,5 @@
 -- The line written: "word, time with three decimals, line, second line (0 but for `conflict`), single spaces, LF"; "Refusals read `refused plan 16 2 1`, or
--- `refused domain 8 133 0`".
+-- `refused domain 8 133 0`". RULES 12.
 use Prim.Native.Nat.{ℕ, zero, suc, _+_, _/_, _%_}
 use Prim.Native.Char.{code}
 use mathlib.Core.List.{List, [], _∷_, _++_}

@@ -7,7 +7,7 @@ ghost use lib.ListN.{length};
 ghost use lib.Seq.{sets};
 ghost use Rattle.check_wording.specs.Wording.{decimal, timeOf, wordOf, lineOf, secondOf, verdictLine, refusalLine, behindSpace, ended};
 
-// The bytes of w from `at` on: the place behind them.
+// The bytes of w from `at` on: the place after them.
 fn put_word(out: &mut [u8], at: usize, w: &[u8]) -> usize
     requires { ⌜ at + length (now w) ≤ 18446744073709551615 ⌝ }
     ensures { λ r. ⌜ (now (out .exit) ≡ sets (now (out .entry)) at (now (w .entry))) × (r ≡ at + length (now (w .entry))) ⌝ }

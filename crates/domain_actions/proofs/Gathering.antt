@@ -1,4 +1,4 @@
--- Actions, one behind the other: what is read of the rest, from here, is read of the whole. Assumes nothing.
+-- Actions, one after the other: what is read of the rest, from here, is read of the whole. Assumes nothing.
 use mathlib.Core.Path.{_≡_, refl, sym, ap, _∙_}
 use mathlib.Core.List.{List, [], _∷_, _++_, append-assoc, append-nil}
 use mathlib.Core.Bool.{Bool}

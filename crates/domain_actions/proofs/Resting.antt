@@ -1,4 +1,4 @@
--- The ways through what stands behind an action's parameters. Assumes nothing.
+-- The ways through what stands after an action's parameters. Assumes nothing.
 use mathlib.Core.Path.{_≡_, refl, sym, ap, _∙_}
 use mathlib.Core.List.{List, [], _∷_, _++_}
 use mathlib.Core.Bool.{Bool, true, false}

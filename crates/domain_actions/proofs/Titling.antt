@@ -1,4 +1,4 @@
--- An action is its header and what stands behind it; how the next action begins. Assumes nothing.
+-- An action is its header and what stands after it; how the next action begins. Assumes nothing.
 use mathlib.Core.Path.{_≡_, refl, sym, _∙_}
 use mathlib.Core.List.{List, [], _∷_, _++_, map-append}
 use mathlib.Core.Bool.{Bool, true, false}
@@ -128,7 +128,7 @@ module _ (s : List ℕ) (c : Scope) (counts : Counts) (durative : Bool) (as′ :
       rw (titled s c durative as′ at, g .is) (added as′ (signature (g .title .word) (g .title .variables)) n code u starts r rows code′ starts′ _
       (sym q) (g .entered .rows) w)
 
--- four bytes at least stand before what is behind the parameters
+-- four bytes at least stand before what is after the parameters
 pub back : (r : Parsed) (n u at from : ℕ) → from + 4 ≤ at → Ended 4 n u at r → Ended 0 n u from r
 unfolding Ended
 back (Done a v) n u at from le h = (omega (arith, h .0), h .1, h .2, omega (arith, h .3))

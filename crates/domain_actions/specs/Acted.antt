@@ -29,7 +29,7 @@ unfoldable pub effectsOf : Bool → List ℕ → Scope → Reader (List (Timed (
 effectsOf true s c = whenField s ":effect" (treeOf (parts s false (λ d n. effect d s c n) 14 16))
 effectsOf false s c = whenField s ":effect" (oneInstant s c)
 
--- what stands behind an action's parameters
+-- what stands after an action's parameters
 unfoldable pub restOf : Bool → List ℕ → Scope → Entry → Reader Action
 restOf true s c e = durativeBody s c e
 restOf false s c e = simpleBody s c e
@@ -50,7 +50,7 @@ Ended more n used at (Refused k p) = Unit {0}
 abbrev pub declarations : List Action → List Entry
 declarations as′ = map (λ a. a .declared) as′
 
--- an action more, behind as′
+-- an action more, after as′
 pub record Added (as′ : List Action) (code : List ℕ) (used : ℕ) (starts : List ℕ)
     (r : Parsed) (rows′ code′ starts′ : List ℕ) (bs : List Action) (m : ℕ) : Type 0 where
   pub action : Action

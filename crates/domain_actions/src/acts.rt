@@ -1,4 +1,4 @@
-// Actions one behind the other, "of both kinds".
+// Actions one after the other, "of both kinds".
 use crate::bodies;
 use crate::headers;
 use domain_due::Parsed;
@@ -17,7 +17,7 @@ ghost use Rattle.domain_terms.specs.Scoped.{Scoped, Scopes};
 ghost use Rattle.domain_actions.specs.Acted.{declarations, Adds, Stores, Ended, Begins, Further, Later};
 ghost use Rattle.domain_rows.specs.Layout.{tablesLength};
 
-// Behind its section's word: action n, whose row, cells and places are stored behind those of the actions before it.
+// After its section's word: action n, whose row, cells and places are stored after those of the actions before it.
 fn action_at(
     text: &[u8],
     from: usize,

@@ -1,4 +1,4 @@
-// What stands behind an action's parameters: its duration rule, its condition and its effect.
+// What stands after an action's parameters: its duration rule, its condition and its effect.
 use domain_due::Parsed;
 use domain_terms::scope::Counts;
 use domain_timed_parts::fields;
@@ -97,7 +97,7 @@ fn effects_field(
     )
 }
 
-// Behind the parameters of action n, to its closing bracket.
+// After the parameters of action n, to its closing bracket.
 pub fn body_at(
     text: &[u8],
     from: usize,

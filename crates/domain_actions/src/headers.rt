@@ -17,7 +17,7 @@ ghost use Rattle.domain_terms.specs.Scoped.{Scoped, Scopes};
 ghost use Rattle.domain_actions.specs.Titles.{titleOf, Titled, Owned, Beyond};
 ghost use Rattle.domain_rows.specs.Layout.{tablesLength};
 
-// The parameters, behind their opening bracket: `own` becomes the tables with them in it, `info` gets their number and their types.
+// The parameters, after their opening bracket: `own` becomes the tables with them in it, `info` gets their number and their types.
 fn parameters_to(
     text: &[u8],
     from: usize,
@@ -44,7 +44,7 @@ fn parameters_to(
     Parsed::Done(after, n)
 }
 
-// Behind the word that opens an action: the place after the parameters, and how many there are.
+// After the word that opens an action: the place after the parameters, and how many there are.
 pub fn header_at(
     text: &[u8],
     from: usize,

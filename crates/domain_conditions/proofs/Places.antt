@@ -28,13 +28,13 @@ module _ (at most d : ℕ) (r : ConditionHead) where
   unfolding Placed
   compared-place k e m q h = rw q at h
 
--- what stands behind a head word, said of the whole
+-- what stands after a head word, said of the whole
 pub spent-behind : (r : Progress) (more n u w at from : ℕ) → from ≤ at → u ≤ w → w + from + more ≤ u + at → Spent more n w at r → Spent 0 n u from r
 unfolding Spent
 spent-behind (Done a v l) more n u w at from i j k h = (omega (arith, h .0), h .1, omega (arith, h .2), omega (arith, h .3))
 spent-behind (Refused k p) more n u w at from i j q h = tt
 
--- behind the last part stands a bracket
+-- after the last part stands a bracket
 pub spent-closed : (r : Progress) (x : Read ℕ) (more n u free l at from : ℕ) → r ≡ closedBy free l x → from ≤ at → u ≤ free → free + from ≤ u + at + 1 + more
     → Spent 0 n free at r → Spent more n u from r
 unfolding Spent

@@ -144,7 +144,7 @@ module _ (s : List ℕ) (d : ℕ) (c : Scope) (n at : ℕ) (r : ConditionHead)
   pub condition-ended : (a : Parsed) (l most u from : ℕ) (b : Progress) → r ≡ H.Other a → b ≡ passed l a → Spent 0 most u from b
   condition-ended a l most u from b q e = spent-other s (d - 1) c true n _ _ r _ h a l 0 most u from b q e
 
--- ---- behind `not`
+-- ---- after `not`
 
 closed-written : (code : List ℕ) (u v l : ℕ) (m : List ℕ) (t : Counted Cond) (x : Read ℕ) → v ≡ u + length (condCells (t .tree)) → l ≡ t .left
     → m ≡ sets code u (condCells (t .tree))
@@ -167,7 +167,7 @@ module _ (s : List ℕ) (d : ℕ) (c : Scope) (n at : ℕ) (code : List ℕ) (u 
       rw (q, negation-bracket s c n d at ∙ ap (λ (y : Read (Counted Cond)). andThen y (λ x b. andThen (closing s d b) (λ _ z. got x z))) (g .is))
       (closed-written code u v l m (g .tree) (closing s d a) (g .free) (g .left) (g .stored))
 
--- ---- behind `and`
+-- ---- after `and`
 
 all-written : (code : List ℕ) (u : ℕ) (r : Progress) (m : List ℕ) (x : Read (Counted Conds)) → Written condsCells (set code u 1) (u + 1) r m x
     → Written condCells code u r m (andThen x (λ xs. give (counts (all (xs .tree)) (xs .left))))

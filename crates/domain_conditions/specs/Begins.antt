@@ -25,12 +25,12 @@ comparisonOf (suc (suc zero)) = atMost
 comparisonOf (suc (suc (suc zero))) = more
 comparisonOf (suc (suc (suc (suc k)))) = atLeast
 
--- whether objects are compared: behind `=`, which is 0, stands a word
+-- whether objects are compared: after `=`, which is 0, stands a word
 abbrev pub objectsDue : ℕ → Token → Bool
 objectsDue zero t = onWord t (λ j p e. true) false
 objectsDue (suc k) t = false
 
--- behind a comparison's word; of `=` the first token decides
+-- after a comparison's word; of `=` the first token decides
 abbrev pub compared : List ℕ → ℕ → Scope → Bool → Comparison → ℕ → Reader (Counted Cond)
 compared s d c yes′ equal m = equality s d c yes′ m
 compared s d c yes′ less m = comparison s d c yes′ less m
@@ -38,7 +38,7 @@ compared s d c yes′ atMost m = comparison s d c yes′ atMost m
 compared s d c yes′ more m = comparison s d c yes′ more m
 compared s d c yes′ atLeast m = comparison s d c yes′ atLeast m
 
--- the rest by a head word from p to e, where f and g read behind `and` and `not`
+-- the rest by a head word from p to e, where f and g read after `and` and `not`
 abbrev pub headedBy : List ℕ → ℕ → Scope → Bool → ℕ → (ℕ → ℕ → Reader (Counted Cond)) → (ℕ → ℕ → Reader (Counted Cond)) → Word → ℕ → ℕ → Reader (Counted Cond)
 headedBy s d c yes′ n f g W.Name p e = onName (headOf (part s p e)) (f p e) (g p e) (atomAt s d c yes′ n p e)
 headedBy s d c yes′ n f g W.Variable p e = refuse 3 p

@@ -67,7 +67,7 @@ fn named_of(h: HeadWord, p: usize, e: usize) -> ConditionHead
     }
 }
 
-// What stands behind a bracket.
+// What stands after a bracket.
 fn head_at(text: &[u8], from: usize, d: usize, left: usize) -> ConditionHead
     requires { ⌜ from ≤ length (now text) ⌝ }
     ensures { λ r. ⌜ ((c : Scope) (yes : Bool) (f g : ℕ → ℕ → Reader (Counted Cond))

@@ -99,7 +99,7 @@ pub fn atom_at(
     )
 }
 
-// Comparison k of two expressions, behind its word.
+// Comparison k of two expressions, after its word.
 fn comparison_at(
     text: &[u8],
     from: usize,
@@ -129,7 +129,7 @@ fn comparison_at(
     closed_at(text, end, d, w, left)
 }
 
-// An equality of objects, behind its word.
+// An equality of objects, after its word.
 fn same_at(
     text: &[u8],
     from: usize,
@@ -160,7 +160,7 @@ fn same_at(
     closed_at(text, end, d, used + 3, left)
 }
 
-// Whether objects are compared: the first token behind `=` decides.
+// Whether objects are compared: the first token after `=` decides.
 fn objects_due(text: &[u8], from: usize, k: usize) -> bool
     ensures { λ r. ⌜ r ≡ objectsDue k (tokenAt (now (text .entry)) from) ⌝ }
 {
@@ -174,7 +174,7 @@ fn objects_due(text: &[u8], from: usize, k: usize) -> bool
     true
 }
 
-// Comparison k, behind its word.
+// Comparison k, after its word.
 pub fn compared_at(
     text: &[u8],
     from: usize,

@@ -51,7 +51,7 @@ fn negated_at(
     }
 }
 
-// Behind `not`, to its closing bracket.
+// After `not`, to its closing bracket.
 fn negation_at(
     text: &[u8],
     from: usize,

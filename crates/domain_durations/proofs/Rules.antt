@@ -26,7 +26,7 @@ use Rattle.domain_durations.specs.Lasts.{ruleBegun, lastingOf, Reached}
 
 -- ---- what was read, by the answer
 
--- ---- a rule, behind what stands before its expression
+-- ---- a rule, after what stands before its expression
 
 abbrev behind : List ℕ → Scope → Reader Expr
 behind s c at = andThen (expression s 13 c at) (λ x n. andThen (closing s 13 n) (λ _. give x))

@@ -1,4 +1,4 @@
--- A fact that becomes false: the ways of reading it behind `not`. Assumes nothing.
+-- A fact that becomes false: the ways of reading it after `not`. Assumes nothing.
 use mathlib.Core.Path.{_≡_, refl, sym, ap, _∙_}
 use mathlib.Core.List.{List, [], _∷_}
 use mathlib.Core.Bool.{false}

@@ -77,7 +77,7 @@ module _ (s : List ℕ) (d : ℕ) (c : Scope) (f : ℕ → Reader (Counted (List
   pub lead-by : (r : EffectHead) (x y : Read (Counted (List Effect))) → y ≡ x → Leads s d c f n r x → Leads s d c f n r y
   lead-by r x y e h = rw e h
 
-  -- ---- behind a bracket
+  -- ---- after a bracket
 
   other-word : (k : Word) (p e : ℕ) → OneOf (1 ∷ 2 ∷ 3 ∷ []) (tagOf word-type.the-type k) → effectWord s d c f n k p e e ≡ refused 3 p
   other-word W.Name p e o = absurd (miss (1 ∷ 2 ∷ 3 ∷ []) 0 tt o)

@@ -1,4 +1,4 @@
--- Lists of effects: their cells one behind the other, the ways through a list, and what the loop says of the rest, said of the whole. Assumes nothing.
+-- Lists of effects: their cells one after the other, the ways through a list, and what the loop says of the rest, said of the whole. Assumes nothing.
 use mathlib.Core.Path.{_≡_, refl, sym, ap, _∙_}
 use mathlib.Core.List.{List, [], _∷_, _++_, append-assoc}
 use Prim.Native.Nat.{ℕ, zero, suc, _+_, _-_, _≤_, _<_}

@@ -14,7 +14,7 @@ use Rattle.domain_due.specs.declared.Parsed.the-variants.{Done, Refused}
 use Rattle.domain_effects.specs.declared.heads.EffectHead.{EffectHead}
 use Rattle.domain_effects.specs.declared.heads.EffectHead.the-variants as L
 
--- behind an effect's bracket; f reads an effect one level down
+-- after an effect's bracket; f reads an effect one level down
 abbrev pub inBracket : List ℕ → ℕ → Scope → (ℕ → Reader (Counted (List Effect))) → ℕ → Reader (Counted (List Effect))
 inBracket s d c f n = do
   h ← token s
@@ -29,7 +29,7 @@ Refuses (Refused k p) x = x ≡ refused k p
 abbrev pub Changes : List ℕ → ℕ → Scope → ℕ → ℕ → ℕ → ℕ → Read (Counted (List Effect)) → Type 0
 Changes s d c n tag p e x = (how : Change) × (tag ≡ changeCell how) × (x ≡ changeAt s d c how n p e)
 
--- what is read behind the head word, where n effects are left
+-- what is read after the head word, where n effects are left
 unfoldable pub Leads : List ℕ → ℕ → Scope → (ℕ → Reader (Counted (List Effect))) → ℕ → EffectHead → Read (Counted (List Effect)) → Type 0
 Leads s d c f n (L.All e) x = x ≡ effectsTo (length s + 1) s d f n e
 Leads s d c f n (L.Not e) x = x ≡ deletion s d c n e

@@ -42,7 +42,7 @@ fn led_by(h: HeadWord, p: usize, e: usize) -> EffectHead
     }
 }
 
-// What stands behind a bracket.
+// What stands after a bracket.
 fn head_at(text: &[u8], from: usize, d: usize) -> EffectHead
     requires { ⌜ from ≤ length (now text) ⌝ }
     ensures { λ r. ⌜ ((c : Scope) (f : ℕ → Reader (Counted (List Effect))) (n : ℕ)

@@ -162,7 +162,7 @@ pub fn change_at(
     Progress::Done(next, free, left - 1)
 }
 
-// Behind the bracket behind `not`: a fact that becomes false.
+// After `not` and its bracket: a fact that becomes false.
 fn deleted_at(
     text: &[u8],
     from: usize,
@@ -191,7 +191,7 @@ fn deleted_at(
     becomes_at(text, p, e, d, tables, counts, 8, code, used, left)
 }
 
-// Behind `not`: a fact in brackets, and the closing bracket.
+// After `not`: a fact in brackets, and the closing bracket.
 pub fn deletion_at(
     text: &[u8],
     from: usize,

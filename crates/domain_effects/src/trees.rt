@@ -1,4 +1,4 @@
-// Effects and lists of them: one behind the other, as they are written.
+// Effects and lists of them: one after the other, as they are written.
 use crate::heads;
 use crate::heads::EffectHead;
 use crate::singles;

@@ -29,7 +29,7 @@ use Rattle.domain_expressions.specs.Begins.{Bracketed, Begins, Inside, P
 use Rattle.domain_expressions.specs.declared.heads.ExpressionHead.{ExpressionHead}
 use Rattle.domain_expressions.specs.declared.heads.ExpressionHead.the-variants as B
 
--- ---- behind a bracket
+-- ---- after a bracket
 
 module _ (s : List ℕ) (d : ℕ) (c : Scope) (f : ℕ → Reader (Counted Expr)) (n : ℕ) where
   pub bracket-refused : (r : Parsed) (k p : ℕ) (x : Read (Counted Expr)) → r ≡ Refused k p → x ≡ refused k p → Bracketed s d c f n (B.Other r) x

@@ -77,7 +77,7 @@ whole-size n v lo h = elim (decLe n 1) [
   ]
 ]
 
--- thousandths behind a point, n bytes with it
+-- thousandths after a point, n bytes with it
 fine-size : (n v : ℕ) → 3 ≤ n → v + 1 ≤ 10 * 10 ^ n → sizeOf v ≤ n
 fine-size n v lo h = elim (decLe n 3) [
   | yes i ↦ let e : n ≡ 3 = omega arith in let b : v + 1 ≤ 10 * 1000 = rw e at h in omega (arith, size-2 v (omega arith))

@@ -23,7 +23,7 @@ abbrev pub Refuses : Parsed → Read (Counted Expr) → Type 0
 Refuses (Done a v) x = ⊥
 Refuses (Refused k p) x = x ≡ refused k p
 
--- behind a bracket; f reads an expression one level down
+-- after a bracket; f reads an expression one level down
 unfoldable pub Bracketed : List ℕ → ℕ → Scope → (ℕ → Reader (Counted Expr)) → ℕ → ExpressionHead → Read (Counted Expr) → Type 0
 Bracketed s d c f n (B.Number z e m) x = ⊥
 Bracketed s d c f n (B.Function p e) x = x ≡ functionAt s d c n p e e

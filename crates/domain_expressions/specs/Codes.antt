@@ -51,11 +51,11 @@ abbrev pub passed : ℕ → Parsed → Progress
 passed left (A.Done n v) = Done n v left
 passed left (A.Refused k p) = Refused k p
 
--- behind two operands: the bracket was read, and the operator's cell was stored at `used`
+-- after two operands: the bracket was read, and the operator's cell was stored at `used`
 unfoldable pub Joined : List ℕ → ℕ → ℕ → ℕ → Bool → Progress → List ℕ → Read ℕ → Type 0
 Joined code used free left negative r code′ (got p n) = (r ≡ Done n free left) × (code′ ≡ set code used (cond negative 1 2))
 Joined code used free left negative r code′ (refused k p) = r ≡ Refused k p
 
--- where the operands of `-` end behind the first, if it is the only one
+-- where the operands of `-` end after the first, if it is the only one
 abbrev pub loneEnd : Bool → Token → Place
 loneEnd negative t = cond negative (onClose t (λ p. At (afterOf t)) Nothing) Nothing

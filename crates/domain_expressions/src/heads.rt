@@ -46,7 +46,7 @@ fn operation_of(h: HeadWord, p: usize, e: usize, left: usize) -> ExpressionHead
     }
 }
 
-// What stands behind a bracket.
+// What stands after a bracket.
 fn head_at(text: &[u8], from: usize, d: usize, left: usize) -> ExpressionHead
     requires { ⌜ from ≤ length (now text) ⌝ }
     ensures { λ r. ⌜ ((c : Scope) (f : ℕ → Reader (Counted Expr)) → Bracketed (now (text .entry)) d c f left r (inBracket (now (text .entry)) d c f left from))

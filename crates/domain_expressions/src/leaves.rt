@@ -84,7 +84,7 @@ pub fn function_at(
     )
 }
 
-// Where the operands of `-` end behind the first, if it is the only one.
+// Where the operands of `-` end after the first, if it is the only one.
 pub fn lone_end(text: &[u8], from: usize, minus: bool) -> Place
     ensures { λ r. ⌜ r ≡ loneEnd minus (tokenAt (now (text .entry)) from) ⌝ }
 {
@@ -98,7 +98,7 @@ pub fn lone_end(text: &[u8], from: usize, minus: bool) -> Place
     Place::At(n)
 }
 
-// Behind the last operand: a closing bracket.
+// After the last operand: a closing bracket.
 pub fn operands_end(text: &[u8], from: usize, d: usize, left: usize) -> Parsed
     requires { ⌜ from ≤ length (now text) ⌝ }
     ensures { λ r. ⌜ (r ≡ answerOf (operandsEnd (now (text .entry)) d left from)) × Ahead (length (now (text .entry))) from r ⌝ }
@@ -116,7 +116,7 @@ pub fn operands_end(text: &[u8], from: usize, d: usize, left: usize) -> Parsed
     domain_due::refusal(t, d)
 }
 
-// Behind two operands: the bracket, and the operator's cell.
+// After two operands: the bracket, and the operator's cell.
 pub fn joined_at(
     text: &[u8],
     from: usize,

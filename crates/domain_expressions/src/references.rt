@@ -15,7 +15,7 @@ ghost use Rattle.domain_terms.specs.Scoped.{Scoped, Scopes, AllSigned, Signatur
 ghost use Rattle.domain_terms.specs.Cells.{Wrote, Room};
 ghost use Rattle.domain_expressions.specs.Codes.{refCells};
 
-// Behind its name: a reference to name i of the table from `off` on, stored from `used` on. Two cells stand for the bracket and the name.
+// After its name: a reference to name i of the table from `off` on, stored from `used` on. Two cells stand for the bracket and the name.
 pub fn reference_at(
     text: &[u8],
     from: usize,

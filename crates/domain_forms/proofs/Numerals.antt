@@ -23,7 +23,7 @@ literal-stored l u base v {k} e a b =
       free = let n = literal-length base v in omega (arith, e);
     }
 
--- ---- the value behind a first cell: m with a sign
+-- ---- the value after a first cell: m with a sign
 
 turned : (m : ℕ) → natAbs (pos 0 -ℤ pos m) ≡ m
 turned zero = refl

@@ -40,7 +40,7 @@ module _ (l : List ℕ) (u : ℕ) where
         free = let a = s .free in let b = t .free in rw (length-append xs ys) (omega arith);
       }
 
-  -- a byte, and what is behind it
+  -- a byte, and what is after it
   pub stored-first : (x : ℕ) {ys l′ l″ : List ℕ} {u″ : ℕ} → l′ ≡ set l u x → Stored l′ (u + 1) ys l″ u″ → Stored l u (x ∷ ys) l″ u″
   stored-first x e t = stored-then (x ∷ []) (stored-one x e) t
 

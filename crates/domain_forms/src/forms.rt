@@ -88,7 +88,7 @@ fn put_shares(code: &[u8], at: usize, k: usize, rows: &mut [u8], used: usize) ->
     u
 }
 
-// The form of the reference whose head is at a place, with k arguments: the first place behind it.
+// The form of the reference whose head is at a place, with k arguments: the first place after it.
 pub fn put_form<'a>(
     code: &'a [u8],
     firsts: &'a [u16],

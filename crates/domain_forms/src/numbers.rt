@@ -70,7 +70,7 @@ fn sign_base(negative: bool, v: usize) -> usize
     16
 }
 
-// The number behind its first cell `tag`.
+// The number after its first cell `tag`.
 pub fn put_number(code: &[u8], at: usize, tag: usize, rows: &mut [u8], used: usize) -> usize
     requires { ⌜ (at ≤ length (now code)) × (16 ≤ tag) × ((tag - 16) % 8 ≤ 5) × (used < 18446744073709551609) ⌝ }
     ensures { λ r. ⌜ Stored (now (rows .entry)) used (numberCells (numberAt (now (code .entry)) at tag)) (now (rows .exit)) r × (r ≤ used + 6) ⌝ }

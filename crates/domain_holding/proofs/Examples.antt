@@ -19,7 +19,7 @@ wanted [] = []
 wanted (row text held ∷ rows) = bytes held ∷ wanted rows
 
 -- texts that fit; a run that ends at the block's end; a name that goes on; runs whose rest has a byte that may not stand in a name, at once, later and
--- as its last byte; such a byte behind the run's end, which a blank, a bracket, a comment or a byte not allowed makes; a run that has one in the block
+-- as its last byte; such a byte after the run's end, which a blank, a bracket, a comment or a byte not allowed makes; a run that has one in the block
 rows : List Row
 rows =
     row "" ""
@@ -46,7 +46,7 @@ held : heldAll rows ≡ wanted rows
 unfolding bytes kindOf inRun nameByte decisive lastOf heldOf rows
 held = refl
 
--- a text in pieces, cut before the block's end, at it and behind it
+-- a text in pieces, cut before the block's end, at it and after it
 abbrev pub inPieces : Kept → List String → Kept
 inPieces k [] = k
 inPieces k (s ∷ ss) = inPieces (goOn 8 k (bytes s)) ss

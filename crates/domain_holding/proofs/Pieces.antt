@@ -10,7 +10,7 @@ use borrow.Author.Tests.{lt-ltb, le-ltb}
 use Rattle.text_words.specs.Spelling.{nameByte}
 use Rattle.domain_holding.specs.Keeping.{goesOn, decisive, lastOf, heldOf, Kept, kept, empty, lookOf, nextOf, goOn}
 
--- pieces one behind the other
+-- pieces one after the other
 pub go-on-both : (n : ℕ) (k : Kept) (s t : List ℕ) → goOn n k (s ++ t) ≡ goOn n (goOn n k s) t
 unfolding goOn
 go-on-both n k [] t = refl

@@ -65,7 +65,7 @@ module _ (s : List ℕ) (at : ℕ) where
         go true = refl
         go false = refl
 
--- ---- a text that is longer than the block: p is the block without its last byte, b that byte, bs what stands behind it
+-- ---- a text that is longer than the block: p is the block without its last byte, b that byte, bs what stands after it
 
 module _ (p : List ℕ) (b : ℕ) (bs : List ℕ) (long : 32849 ≤ length p) where
   unfoldable held : List ℕ

@@ -137,7 +137,7 @@ decisive-says b (x ∷ bs) = go (goesOn x) (nameByte x) refl (decisive-says b bs
     go true false e k = rw (e, and-false (nameByte b))
     go false u e k = sym (and-true (nameByte b))
 
--- behind any bytes m, the block's last byte makes a name of the run where the whole run is one
+-- after any bytes m, the block's last byte makes a name of the run where the whole run is one
 pub same-names : (m : List ℕ) (b : ℕ) (bs : List ℕ) → nameBytes (front (m ++ lastOf (b ∷ bs))) ≡ nameBytes (front (m ++ b ∷ bs))
 unfolding lastOf run nameBytes
 same-names [] b bs = go (goesOn b) refl

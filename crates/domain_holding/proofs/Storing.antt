@@ -14,7 +14,7 @@ use Rattle.text_words.specs.Spelling.{nameByte, nameBytes, isName}
 use Rattle.domain_holding.specs.declared.Held.{Held}
 use Rattle.domain_holding.specs.Keeping.{goesOn, Kept, kept, lookOf, nextOf, goOn, keptIn}
 
--- behind a letter, a byte makes a name if it may stand in one
+-- after a letter, a byte makes a name if it may stand in one
 pub name-of-two : (b : ℕ) → isName (97 ∷ b ∷ []) ≡ nameByte b
 unfolding isName nameBytes kindOf bytes
 name-of-two b = and-true (nameByte b)

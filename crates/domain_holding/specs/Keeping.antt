@@ -1,4 +1,4 @@
--- What is held of a text in a block of n bytes: its first n bytes. If the run at the block's end goes on behind it, the first byte of the run's rest
+-- What is held of a text in a block of n bytes: its first n bytes. If the run at the block's end goes on after it, the first byte of the run's rest
 -- that may not stand in a name takes the place of the last one: so the run is a name, or none, as it is in the whole text.
 use Prim.Native.Nat.{ℕ, zero, suc, _-_}
 use Prim.Native.Char.{code}
@@ -14,12 +14,12 @@ use Rattle.domain_holding.specs.declared.Held.{Held}
 abbrev pub goesOn : ℕ → Bool
 goesOn b = inRun (code ";") b
 
--- what stands for the byte b of a run and the bytes behind it: the first of them that may not stand in a name, or else b
+-- what stands for the byte b of a run and the bytes after it: the first of them that may not stand in a name, or else b
 unfoldable pub decisive : ℕ → List ℕ → ℕ
 decisive b [] = b
 decisive b (x ∷ xs) = cond (goesOn x) (cond (nameByte x) (decisive b xs) x) b
 
--- the last byte of the block, with what stands behind it
+-- the last byte of the block, with what stands after it
 unfoldable pub lastOf : List ℕ → List ℕ
 lastOf [] = []
 lastOf (b ∷ bs) = cond (goesOn b) (decisive b bs) b ∷ []
@@ -42,7 +42,7 @@ kept l o = record { bytes = l; going = o }
 abbrev pub empty : Kept
 empty = kept [] false
 
--- the next byte, behind a block that is full
+-- the next byte, after a block that is full
 unfoldable pub lookOf : Kept → ℕ → Kept
 lookOf k b = cond (k .going && goesOn b) (cond (nameByte b) k (kept (set (k .bytes) (length (k .bytes) - 1) b) false)) (kept (k .bytes) false)
 

@@ -25,7 +25,7 @@ pub fn nothing() -> Held
     }
 }
 
-// Whether a byte may stand in a name: behind a letter it makes one.
+// Whether a byte may stand in a name: after a letter it makes one.
 fn is_name_byte(b: u8) -> bool
     ensures { λ r. ⌜ r ≡ nameByte b ⌝ }
 {

@@ -14,7 +14,7 @@ use Rattle.domain_indexes.proofs.Sums.{first-zero, first-next}
 pub bases-start : (out : List ℕ) (at n : ℕ) (t : Table) → sets out (at + 0) (basesFrom n (firstOf n t 0) (drop 0 t)) ≡ sets out at (basesOf n t)
 bases-start out at n t = rw (first-zero n t, add-zero at)
 
--- the first index of number i, and those behind it
+-- the first index of number i, and those after it
 bases-cons : (n : ℕ) (t : Table) (i : ℕ) → i < length t → basesFrom n (firstOf n t i) (drop i t) ≡ firstOf n t i
     ∷ basesFrom n (firstOf n t (i + 1)) (drop (i + 1) t)
 unfolding basesFrom

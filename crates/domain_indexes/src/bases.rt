@@ -1,4 +1,4 @@
-// The first index of each predicate or function, stored one behind the other, so that an index is found without the table.
+// The first index of each predicate or function, stored one after the other, so that an index is found without the table.
 ghost use mathlib.Core.Path.{_≡_};
 ghost use Prim.Native.Nat.{ℕ, _+_, _≤_, _<_};
 ghost use lib.ListN.{length, set};

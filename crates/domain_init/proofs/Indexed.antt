@@ -63,7 +63,7 @@ module _ (code : List ℕ) (r : Parsed) (m : List ℕ) where
       let n : q ≡ p = cc in
       rw (i, n)
 
--- ---- behind the name
+-- ---- after the name
 
 every-at : {A : Type 0} (P : A → Type 0) (x : Read A) (a : A) (n : ℕ) → x ≡ got a n → Every P x → P a
 unfolding Every

@@ -77,7 +77,7 @@ pub number-in : (s : List ℕ) (at : ℕ) (z : ℤ) (p e : ℕ) → at ≤ lengt
 unfolding Within
 number-in s at z p e h q = let w = rw q at (token-within s at h) in (omega (arith, w .0, w .1), w .2)
 
--- ---- one reader behind another
+-- ---- one reader after another
 
 -- what is done with the index of a ground fact or number
 ground-on : {A : Type 0} (s : List ℕ) (d : ℕ) (c : Scope) (t : Table) (p e at : ℕ) (f : ℕ → Reader A)

@@ -20,7 +20,7 @@ use Rattle.domain_due.specs.declared.Parsed.the-variants.{Done, Refused}
 use Rattle.domain_meaning.specs.First.{undefined, firstFacts, firstNumbers}
 use Rattle.domain_rows.specs.Layout.{tablesLength}
 
--- behind its name, number i of a table: the index of a ground fact or number
+-- after its name, number i of a table: the index of a ground fact or number
 unfoldable pub groundBehind : List ℕ → ℕ → Scope → Table → ℕ → Reader ℕ
 groundBehind s d c t i = do
   r ← reference s d c t i
@@ -32,7 +32,7 @@ groundOf s d c t p e = do
   i ← declared t p (part s p e)
   groundBehind s d c t i
 
--- behind `=`: the index of the number that is given
+-- after `=`: the index of the number that is given
 unfoldable pub targetOf : List ℕ → Scope → Init → Reader ℕ
 targetOf s c x = do
   _ ← opening s 13

@@ -1,4 +1,4 @@
-// What init holds: facts, and numbers behind `=`.
+// What init holds: facts, and numbers after `=`.
 use crate::grounds;
 use crate::values;
 use domain_due::Parsed;
@@ -55,7 +55,7 @@ fn fact_at(
     Parsed::Done(after, 0)
 }
 
-// Behind `=`: the index of the number that is given, if it is not given yet.
+// After `=`: the index of the number that is given, if it is not given yet.
 fn target_at(text: &[u8], from: usize, tables: &[u8], counts: Counts, numbers: &[i64]) -> Parsed
     requires { ⌜ (from ≤ length (now text)) × Scopes (now tables) counts ⌝ }
     ensures { λ r. ⌜ ((c : Scope) (x : Init) (facts : List ℕ) → Scoped (now (tables .entry)) counts c → c .inAction ≡ false → sumsFit c ≡ true
@@ -110,7 +110,7 @@ fn value_at(text: &[u8], from: usize, i: usize, numbers: &mut [i64]) -> Parsed
     Parsed::Done(after, 0)
 }
 
-// Behind `=`: a number with its value, to the closing bracket.
+// After `=`: a number with its value, to the closing bracket.
 fn number_at(text: &[u8], from: usize, tables: &[u8], counts: Counts, numbers: &mut [i64]) -> Parsed
     requires { ⌜ (from ≤ length (now text)) × Scopes (now tables) counts ⌝ }
     ensures { λ r. ⌜ ((c : Scope) (x : Init) (facts : List ℕ) → Scoped (now (tables .entry)) counts c → c .inAction ≡ false → sumsFit c ≡ true

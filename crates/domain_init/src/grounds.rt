@@ -32,7 +32,7 @@ fn numeral_of(cells: &[u8], k: usize, n: usize) -> usize
     acc
 }
 
-// Behind its name, number i of the table from `off` on: the index, with the arguments to the closing bracket.
+// After its name, number i of the table from `off` on: the index, with the arguments to the closing bracket.
 fn index_at(
     text: &[u8],
     from: usize,

@@ -76,7 +76,7 @@ tagged base n w k h few =
       whole = same (isWhole (base + k)) w (and-right (Bool·beq (isNegative (base + k)) n) _ u);
     }
 
--- a literal gives its value back, whatever stands behind it
+-- a literal gives its value back, whatever stands after it
 literal-back : (base : ℕ) (n w : Bool) (v : ℕ) (rest : List ℕ) → holds (says base n w) 0 6 ≡ true → v < 1099511627776
     → numberIn (literal base v ++ rest) ≡ cond n (pos 0 -ℤ pos (cond w (v * 1000) v)) (pos (cond w (v * 1000) v))
 unfolding numberIn

@@ -16,7 +16,7 @@ use Rattle.domain_rows.specs.Layout.{objectsAt, predicatesAt, functionsAt, vari
 first-part : (a b : List ℕ) (e : ℕ) → length a ≡ e → part (a ++ b) 0 e ≡ a
 first-part a b e h = let k : e - 0 ≡ e = omega arith in ap (λ (j : ℕ). take j (a ++ b)) k ∙ take-at a b e h
 
--- a part behind the first numbers
+-- a part after the first numbers
 part-past : (a b : List ℕ) (n p e : ℕ) → length a ≡ n → part (a ++ b) (n + p) (n + e) ≡ part b p e
 part-past a b n p e h =
     let k : n + e - (n + p) ≡ e - p = omega arith in

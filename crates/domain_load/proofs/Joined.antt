@@ -1,4 +1,4 @@
--- The tables of a scope are its parts one behind the other. Assumes nothing.
+-- The tables of a scope are its parts one after the other. Assumes nothing.
 use mathlib.Core.Path.{_≡_, sym, ap, _∙_}
 use mathlib.Core.List.{List, [], _++_}
 use Prim.Native.Nat.{ℕ, _+_, _-_, _≤_}
@@ -15,7 +15,7 @@ use Rattle.domain_terms.specs.declared.scope.Counts.{Counts}
 use Rattle.domain_load.specs.Load.{tablesOf}
 use Rattle.domain_rows.specs.Layout.{objectsAt, predicatesAt, functionsAt, variablesAt, tablesLength}
 
--- two parts, one behind the other
+-- two parts, one after the other
 joined : (l : List ℕ) (a b c : ℕ) → a ≤ b → b ≤ c → part l a c ≡ part l a b ++ part l b c
 joined l a b c ab bc =
     let m : c - a ≡ (b - a) + (c - b) = omega arith in

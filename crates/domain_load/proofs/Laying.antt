@@ -1,4 +1,4 @@
--- First indexes laid one behind the other over zeros: 32, 16, and the number of objects; and told apart again. Assumes nothing.
+-- First indexes laid one after the other over zeros: 32, 16, and the number of objects; and told apart again. Assumes nothing.
 use mathlib.Core.Path.{_≡_, refl, sym, ap, _∙_}
 use mathlib.Core.List.{List, [], _∷_, _++_, append-assoc}
 use mathlib.Core.Bool.{true}

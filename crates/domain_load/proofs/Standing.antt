@@ -18,7 +18,7 @@ unfolding allPlaces placesFrom
 places-long n ps fs u [] = refl
 places-long n ps fs u (a ∷ as′) = omega (arith, places-long n ps fs (u + length (actionBytes n ps fs a)) as′)
 
--- a number, places behind it and lists from u on, stored one after the other
+-- a number, places after it and lists from u on, stored one after the other
 module _ (l : List ℕ) (n : ℕ) (places : List ℕ) (u : ℕ) (lists : List ℕ) (near : 1 + length places ≤ u) (room : u + length lists ≤ length l) where
   abbrev rows : List ℕ
   rows = sets (sets (set l 0 n) 1 places) u lists

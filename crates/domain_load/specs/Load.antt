@@ -42,7 +42,7 @@ sizesOf n ps fs = record { facts = sumOf n ps; numbers = sumOf n fs }
 
 -- ---- what is prepared, with n objects and tables of predicates and of functions
 
--- the first indexes, with zeros behind them
+-- the first indexes, with zeros after them
 abbrev pub predicateFirsts : ℕ → Table → List ℕ
 predicateFirsts n ps = padded 32 (basesOf n ps)
 

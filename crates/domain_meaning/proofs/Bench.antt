@@ -1,4 +1,4 @@
--- The bench of document 01: its texts, and the trees that they are read to, by computation.
+-- The bench of RULES 14: its texts, and the trees that they are read to, by computation.
 use mathlib.Core.Path.{_≡_, refl}
 use mathlib.Core.List.{List, [], _∷_}
 use mathlib.Core.Bool.{true, false}

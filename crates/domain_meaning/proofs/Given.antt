@@ -1,4 +1,4 @@
--- What holds of whatever is read and of whatever is refused, by the steps of a reader: one behind another, tests, the kinds of a token. Assumes nothing.
+-- What holds of whatever is read and of whatever is refused, by the steps of a reader: one after another, tests, the kinds of a token. Assumes nothing.
 use mathlib.Core.Path.{_≡_, refl, subst}
 use mathlib.Core.List.{List}
 use mathlib.Core.Bool.{Bool, true, false, cond}
@@ -116,7 +116,7 @@ pub record Fitting {A : Type 0} (P : A → Type 0) (w : A → ℕ) (at more : �
 abbrev pub Fits : {A : Type 0} → (A → Type 0) → (A → ℕ) → ℕ → ℕ → Read A → Type 0
 Fits P w at more x = Given (Fitting P w at more) Any x
 
--- any value, behind so many bytes
+-- any value, after so many bytes
 abbrev pub Ahead : {A : Type 0} → ℕ → ℕ → Read A → Type 0
 Ahead k at x = Fits (λ _. Unit {0}) (λ _. k) at 0 x
 

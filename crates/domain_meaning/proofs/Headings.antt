@@ -19,7 +19,7 @@ pub record Headed (s : List ℕ) (at : ℕ) (n : Name) (a : ℕ) : Type 0 where
   pub past : at + 6 ≤ a
   pub within : a ≤ length s
 
--- the name n up to b, and the closing bracket behind it
+-- the name n up to b, and the closing bracket after it
 closed : (s : List ℕ) (at d b a : ℕ) (n : Name) → at + 4 ≤ d → Spelt s d n b → Past s b a → Headed s at n a
 closed s at d b a n h w c =
     let l : length (n .word) ≡ b - n .place = ap length (w .is) ∙ part-length s (n .place) b (w .within) in

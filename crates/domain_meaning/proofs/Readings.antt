@@ -1,4 +1,4 @@
--- Readings one behind the other: what was read by both, and two ways to say the same. Assumes nothing.
+-- Readings one after the other: what was read by both, and two ways to say the same. Assumes nothing.
 use mathlib.Core.Path.{_≡_, refl}
 use Prim.Native.Nat.{ℕ}
 use native.Mathlib.Omega.{arith}
@@ -8,7 +8,7 @@ use Rattle.domain_meaning.specs.Read.{Read, Reader, got, refused, andThe
 pub never : {A B : Type 0} {k p n : ℕ} {b : B} → _≡_ {A = Read B} (refused k p) (got b n) → A
 never h = absurd (let z : _≡_ {A = ℕ} 0 1 = cc in let y : ⊥ = omega arith in y)
 
--- what was read by one reader behind another
+-- what was read by one reader after another
 pub record Then {A B : Type 0} (x : Read A) (f : A → Reader B) (b : B) (n : ℕ) : Type 0 where
   pub value : A
   pub place : ℕ

@@ -99,7 +99,7 @@ module _ (P : Table → Type 0) (max : ℕ) (again : (g k : ℕ) (t : Table) →
   unfolding declare
   declare-keeps t p w at n l b h = given-then _ (fresh-fits max t p w n) (λ q m k. fits (more t w (k .good) b h) (omega arith) (omega arith))
 
-  -- one step, behind which f reads the rest
+  -- one step, after which f reads the rest
   step-keeps : (x : Item) (own : Bool) (ts t : Table) (g at n : ℕ) (f : Table → ℕ → Reader Table) → at ≤ n → ShortItem s x → P t
       → ((y : Table) (j a : ℕ) → at ≤ a → P y → Keeps at (f y j) a)
       → Keeps at

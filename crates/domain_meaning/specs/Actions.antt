@@ -1,4 +1,4 @@
--- Actions of both kinds, and reading them: "an action parameters, duration, condition (`:precondition` if simple), effect, the last two optional".
+-- Actions of both kinds, and reading them: "an action parameters, duration, condition (`:precondition` if simple), effect, the last two optional". RULES 4.
 use Prim.Native.Nat.{ℕ, zero, suc, _+_, _-_}
 use mathlib.Core.List.{List, [], _∷_, _++_, map}
 use mathlib.Core.Bool.{Bool, true, false, cond, _&&_}
@@ -47,14 +47,14 @@ pub record Action : Type 0 where
 abbrev pub timed : {A : Type 0} → When → Counted A → Counted (List (Timed A))
 timed w x = counts (record { when = w; what = x .tree } ∷ []) (x .left)
 
--- the time behind `at` or `over`
+-- the time after `at` or `over`
 abbrev pub startOrEnd : List ℕ → ℕ → Token → Reader When
 startOrEnd s d t =
     onWord t
     (λ k p e. cond (sameWord (part s p e) (bytes "start")) (give start) (cond (sameWord (part s p e) (bytes "end")) (give end) (refuse 3 p)))
     (wrong d t)
 
--- a part's first word, from p to e, and the one behind it; `over` is for conditions only
+-- a part's first word, from p to e, and the one after it; `over` is for conditions only
 unfoldable pub timeOf : List ℕ → ℕ → Bool → ℕ → ℕ → Reader When
 timeOf s d over p e =
     cond (sameWord (part s p e) (bytes "at"))
@@ -68,7 +68,7 @@ timeOf s d over p e =
     (refuse 3 p))
 
 module _ {A : Type 0} (s : List ℕ) (over : Bool) (f : ℕ → ℕ → Reader (Counted A)) where
-  -- behind a part's first word, where d levels are left; f reads what stands in it
+  -- after a part's first word, where d levels are left; f reads what stands in it
   unfoldable pub partBehind : ℕ → ℕ → ℕ → ℕ → Reader (Counted (List (Timed A)))
   partBehind d n p e = do
     w ← timeOf s d over p e
@@ -170,7 +170,7 @@ oneInstant s c = do
 abbrev pub within : Scope → Table → Scope
 within c vs = record { types = c .types; objects = c .objects; predicates = c .predicates; functions = c .functions; variables = vs; inAction = true }
 
--- behind `:action` or `:durative-action` and the parameters
+-- after `:action` or `:durative-action` and the parameters
 unfoldable pub simpleBody : List ℕ → Scope → Entry → Reader Action
 simpleBody s c e = do
   cs ← whenField s ":precondition" (oneCondition s c)
@@ -187,7 +187,7 @@ durativeBody s c e = do
   _ ← closing s 14
   give (record { declared = e; lasting = rule x; conditions = cs; effects = es })
 
--- an action behind its section's word: "actions 32 of at most 4 parameters"
+-- an action after its section's word: "actions 32 of at most 4 parameters"
 unfoldable pub action : List ℕ → Scope → Bool → List Action → Reader (List Action)
 action s c durative as′ = do
   n ← newName s 14

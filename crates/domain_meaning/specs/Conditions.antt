@@ -1,4 +1,4 @@
--- Conditions as trees, and reading them. "An `and` holds conditions, and a condition may be an `and`; an empty one holds."
+-- Conditions as trees, and reading them. "An `and` holds conditions, and a condition may be an `and`; an empty one holds." RULES 4.
 use Prim.Native.Nat.{ℕ, zero, suc, _+_, _-_}
 use mathlib.Core.List.{List}
 use mathlib.Core.Bool.{Bool, true, false}
@@ -34,7 +34,7 @@ mutual
     none : Conds
     cons : Cond → Conds → Conds
 
--- ---- single conditions, of which n are left; "the first token behind `=` decides": a name or variable begins an equality of objects
+-- ---- single conditions, of which n are left; "the first token after `=` decides": a name or variable begins an equality of objects
 
 unfoldable pub atomAt : List ℕ → ℕ → Scope → Bool → ℕ → ℕ → ℕ → Reader (Counted Cond)
 atomAt s d c yes′ n p e = do
@@ -103,7 +103,7 @@ inNegation s d c n = do
   h ← token s
   onWord h (negatedHead s d c n) (wrong d h)
 
--- behind `not`, where d levels are left, to its closing bracket
+-- after `not`, where d levels are left, to its closing bracket
 unfoldable pub negation : List ℕ → ℕ → Scope → ℕ → Reader (Counted Cond)
 negation s d c n = do
   _ ← opening s d

@@ -1,4 +1,5 @@
 -- A domain, and reading its text: "In order, a domain has requirements, types, constants, predicates, functions, actions of both kinds, each optional".
+-- RULES 4.
 use Prim.Native.Nat.{ℕ, zero, suc, _+_}
 use mathlib.Core.List.{List, [], _∷_}
 use mathlib.Core.Bool.{true, false, cond, _&&_}
@@ -59,7 +60,7 @@ section s w none body = do
   o ← begins s w
   onOpened o (λ p. body) (give none)
 
--- the bracket that closes the text's first one, and behind it the end. A bracket opens a section, whose word is judged: none may follow
+-- the bracket that closes the text's first one, and after it the end. A bracket opens a section, whose word is judged: none may follow
 unfoldable pub ending : List ℕ → Reader ℕ
 ending s = do
   t ← token s

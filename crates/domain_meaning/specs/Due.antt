@@ -1,4 +1,4 @@
--- What is due at a place: a token, a bracket, a word. The number d is that of the levels of brackets that are left: "brackets 16 deep".
+-- What is due at a place: a token, a bracket, a word. The number d is that of the levels of brackets that are left: "brackets 16 deep". RULES 3.
 use Prim.Native.Nat.{ℕ}
 use mathlib.Core.List.{List}
 use mathlib.Core.Bool.{Bool, true, false, cond}

@@ -1,4 +1,4 @@
--- Effects as trees, and reading them: "effects `assign`, `increase`, `decrease`, atoms and their negations"; "Effects nest under `and`."
+-- Effects as trees, and reading them: "effects `assign`, `increase`, `decrease`, atoms and their negations"; "Effects nest under `and`." RULES 4.
 use Prim.Native.Nat.{ℕ, zero, suc, _+_, _-_}
 use mathlib.Core.List.{List, [], _∷_, _++_}
 use mathlib.Core.Bool.{Bool, true, false}
@@ -50,7 +50,7 @@ changeAt s d c how n p = do
   _ ← closing s d
   give (counts (changes how r x ∷ []) m)
 
--- behind `not`: an atom. "`not` around `and`", in effects too, is 11
+-- after `not`: an atom. "`not` around `and`", in effects too, is 11
 abbrev pub deletedWord : List ℕ → ℕ → Scope → ℕ → Word → ℕ → ℕ → Reader (Counted (List Effect))
 deletedWord s d c n W.Name p e = onName (headOf (part s p e)) (refuse 11 p) (becomesAt s d c false n p e) (becomesAt s d c false n p e)
 deletedWord s d c n W.Variable p e = refuse 3 p
@@ -69,7 +69,7 @@ deletion s d c n = do
   _ ← closing s d
   give x
 
--- ---- lists of effects, one behind the other: f reads one. The first number bounds the steps
+-- ---- lists of effects, one after the other: f reads one. The first number bounds the steps
 unfoldable pub effectsTo : ℕ → List ℕ → ℕ → (ℕ → Reader (Counted (List Effect))) → ℕ → Reader (Counted (List Effect))
 effectsTo zero s d f n = refuse 0 0
 effectsTo (suc k) s d f n = do

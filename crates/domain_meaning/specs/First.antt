@@ -1,4 +1,4 @@
--- The first facts and the first numbers: what init says, as the two arrays of a run.
+-- The first facts and the first numbers: what init says, as the two arrays of a run. RULES 8.
 use Prim.Native.Nat.{ℕ}
 use mathlib.Core.List.{List, [], _∷_}
 use lib.IntN.{ℤ, negsuc}

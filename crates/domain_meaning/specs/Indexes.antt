@@ -1,4 +1,4 @@
--- Where facts and numbers lie, with n objects. Init and every happening go by this one rule.
+-- Where facts and numbers lie, with n objects. Init and every happening go by this one rule. RULES 8.
 use Prim.Native.Nat.{ℕ, zero, suc, _+_, _*_, _^_}
 use mathlib.Core.List.{List, [], _∷_, map}
 use lib.ListN.{getD}
@@ -14,7 +14,7 @@ unfoldable pub sumOf : ℕ → Table → ℕ
 sumOf n [] = 0
 sumOf n (e ∷ t) = n ^ arity e + sumOf n t
 
--- the first index of each name of a table, behind those that make `sum`
+-- the first index of each name of a table, after those that make `sum`
 unfoldable pub basesFrom : ℕ → ℕ → Table → List ℕ
 basesFrom n sum [] = []
 basesFrom n sum (e ∷ t) = sum ∷ basesFrom n (sum + n ^ arity e) t
@@ -33,7 +33,7 @@ abbrev pub objectOf : List ℕ → Arg → ℕ
 objectOf os (object i) = i
 objectOf os (variable i) = getD os i 0
 
--- numbers read as digits in base n, "first argument highest", behind those that make acc
+-- numbers read as digits in base n, "first argument highest", after those that make acc
 unfoldable pub digits : ℕ → ℕ → List ℕ → ℕ
 digits n acc [] = acc
 digits n acc (x ∷ xs) = digits n (acc * n + x) xs

@@ -1,5 +1,5 @@
--- Typed lists: names, each group of them before its type; and declarations with typed arguments.
--- In a section's own list 14 levels of brackets are left, in a declaration or behind `:parameters (` 13: a bracket is never too deep there.
+-- Typed lists: names, each group of them before its type; and declarations with typed arguments. RULES 4.
+-- In a section's own list 14 levels of brackets are left, in a declaration or after `:parameters (` 13: a bracket is never too deep there.
 use Prim.Native.Nat.{ℕ, zero, suc, _+_}
 use mathlib.Core.List.{List, [], _∷_, _++_, map}
 use mathlib.Core.Bool.{Bool, true, false, cond, _||_}
@@ -44,7 +44,7 @@ typeDue s ts b = do
   t ← token s
   onWord t (typeOfWord s ts b) (onOpen t (typeOfOther s) (wrong 13 t))
 
--- behind a dash: the type of the names from number g on. A type's parent is a type before the group (`own`); any other name's type is one of ts
+-- after a dash: the type of the names from number g on. A type's parent is a type before the group (`own`); any other name's type is one of ts
 unfoldable pub group : List ℕ → Bool → Table → Table → ℕ → Reader Table
 group s own ts t g = do
   k ← typeDue s (cond own t ts) (cond own g (length ts))
@@ -121,7 +121,7 @@ typesTo s = typed (length s + 1) s false true [] 17 (entry (bytes "object") (0 �
 abbrev pub signature : List ℕ → Table → Entry
 signature w vs = entry w (length vs ∷ map typeOf vs)
 
--- behind the opening bracket of one declaration
+-- after the opening bracket of one declaration
 unfoldable pub declaration : List ℕ → Table → ℕ → ℕ → Table → Reader Table
 declaration s ts max most t = do
   n ← newName s 13

@@ -1,4 +1,4 @@
--- A problem, and reading its text: "a problem domain, objects, init, goal, the middle two optional".
+-- A problem, and reading its text: "a problem domain, objects, init, goal, the middle two optional". RULES 5.
 use Prim.Native.Nat.{ℕ, zero, suc, _+_}
 use mathlib.Core.List.{List, [], _∷_, _++_}
 use mathlib.Core.Bool.{Bool, true, false, cond, _&&_, _||_}
@@ -150,7 +150,7 @@ initAndGoal s c = do
   g ← goalTo s c
   give (record { objects = c .objects; init = x; goal = g })
 
--- what a problem has before init: the objects, behind the domain's constants
+-- what a problem has before init: the objects, after the domain's constants
 unfoldable pub premises : List ℕ → Domain → Reader Table
 premises s d = do
   _ ← heading s "problem"

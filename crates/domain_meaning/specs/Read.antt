@@ -1,4 +1,4 @@
--- Readers by place. A text is judged from left to right: the first token that a row refuses decides.
+-- Readers by place. A text is judged from left to right: the first token that a row refuses decides. RULES 3.
 use Prim.Native.Nat.{ℕ}
 
 -- what reading gives: a value and the place after what was read, or a refusal, its number and its place

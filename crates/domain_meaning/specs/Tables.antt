@@ -1,4 +1,4 @@
--- Tables of declared names.
+-- Tables of declared names. RULES 6.
 use Prim.Native.Nat.{ℕ, zero, suc}
 use mathlib.Core.List.{List, [], _∷_, map}
 use mathlib.Core.Bool.{Bool, cond, _||_}

@@ -1,4 +1,4 @@
--- Arguments, references to facts and numbers, and expressions: as trees, and reading them.
+-- Arguments, references to facts and numbers, and expressions: as trees, and reading them. RULES 4.
 use Prim.Native.Nat.{ℕ, zero, suc, _+_, _-_}
 use mathlib.Core.List.{List, [], _∷_}
 use mathlib.Core.Bool.{Bool, cond}
@@ -102,7 +102,7 @@ arguments s d c (want ∷ wants) = do
         as′ ← arguments s d c wants
         give (a ∷ as′))
 
--- behind its name: a reference to number i of a table, to its closing bracket
+-- after its name: a reference to number i of a table, to its closing bracket
 unfoldable pub reference : List ℕ → ℕ → Scope → Table → ℕ → Reader Ref
 reference s d c t i = do
   as′ ← arguments s d c (wantedOf (entryAt t i))
@@ -134,7 +134,7 @@ numberAt n z p = do
 abbrev pub leaf : ℕ → ℕ → Token → Reader (Counted Expr)
 leaf d n t = onNumber t (numberAt n) (wrong d t)
 
--- behind the last operand, n operators and operands being left: a number there is one too many, or not allowed
+-- after the last operand, n operators and operands being left: a number there is one too many, or not allowed
 unfoldable pub operandsEnd : List ℕ → ℕ → ℕ → Reader ℕ
 operandsEnd s d n = do
   t ← token s
@@ -205,7 +205,7 @@ functionAt s d c n p e = do
   r ← reference s d c (c .functions) i
   give (counts (value r) m)
 
--- what stands behind a bracket, by its head word from p to e
+-- what stands after a bracket, by its head word from p to e
 abbrev pub headed : List ℕ → ℕ → Scope → (ℕ → Reader (Counted Expr)) → ℕ → Word → ℕ → ℕ → Reader (Counted Expr)
 headed s d c f n W.Name p e = functionAt s d c n p e
 headed s d c f n W.Variable p e = refuse 3 p

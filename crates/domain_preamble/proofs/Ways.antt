@@ -77,7 +77,7 @@ declared-signed : (s w : List ℕ) (ts : Table) (max most : ℕ) → most ≤ 4 
     → AllSigned u
 declared-signed s w ts max most few at u n q = given-got (section-signed s w ts max most at few) q
 
--- ---- the sections behind the flags
+-- ---- the sections after the flags
 
 held : (m : ℕ) (rows : List ℕ) (a n : ℕ) (x : Read Table) (t : As m rows a n x) → Holds m rows (length (t .table)) (t .table)
 held m rows a n x t = rw (t .holds .count) at (t .holds)

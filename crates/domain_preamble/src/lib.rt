@@ -31,7 +31,7 @@ pub struct Section {
     pub n: usize,
 }
 
-// The declarations behind the flags of a domain whose name is from p to e, each kind in a table of its own.
+// The declarations after the flags of a domain whose name is from p to e, each kind in a table of its own.
 fn tables_at(
     text: &[u8],
     from: usize,

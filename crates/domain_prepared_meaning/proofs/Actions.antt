@@ -85,7 +85,7 @@ module _ (n : ℕ) (rows : List ℕ) (counted : byteAt rows 0 ≡ n) (ps fs : Li
           effects-at end _ (x .ended),
         ))
 
-  -- so are actions one behind the other, from number i on
+  -- so are actions one after the other, from number i on
   pub actions-read : (as′ : List Action) (u i : ℕ) → GoodActions as′ → PreparesActions n ps fs 4 as′ → u + length (actionsBytes n ps fs as′) ≤ 65536
       → Stands rows u (actionsBytes n ps fs as′) → Stands rows (1 + 12 * i) (allPlaces n ps fs u as′)
       → actionsAt rows i (map (λ (a : Action). a .declared) as′) ≡ map (actionOf n ps fs) as′

@@ -49,7 +49,7 @@ module _ (n k : ℕ) (rows : List ℕ) (most : k ≤ 4) (counted : 0 < k → byt
       rw (head-is s)
       (ap₂ _∷_ (share-read i (length as′) (h .0) (omega arith)) (shares-read as′ (at + 1) (omega arith) (h .1) (behind s)))
 
-  -- behind its tag
+  -- after its tag
   pub form-read : {tag : ℕ} (firsts : List ℕ) (r : Ref) (at : ℕ) → length (r .args) ≤ 3 → PreparesRef n firsts k r
       → Stands rows at (tag ∷ (twoBytes (formOf n firsts r .base) ++ shareBytes (r .args)))
       → formAt rows (at + 1) (length (shareBytes (r .args))) ≡ formOf n firsts r

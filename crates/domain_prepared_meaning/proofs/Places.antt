@@ -1,4 +1,4 @@
--- The six lists of an action that stand in rows one behind the other, and the six places that say where each begins. Assumes nothing.
+-- The six lists of an action that stand in rows one after the other, and the six places that say where each begins. Assumes nothing.
 use mathlib.Core.Path.{_≡_}
 use mathlib.Core.List.{List, [], _∷_, _++_}
 use Prim.Native.Nat.{ℕ, _+_, _*_, _<_}
@@ -45,7 +45,7 @@ places-read n ps fs rows i u k l m o p zs h s =
       ended = place-read rows i 5 (u + k + l + m + o + p) zs h s5;
     }
 
--- six lists one behind the other
+-- six lists one after the other
 pub record Six (rows : List ℕ) (u : ℕ) (a b c d e f : List ℕ) : Type 0 where
   pub lasting : Stands rows u a
   pub first : Stands rows (u + length a) b

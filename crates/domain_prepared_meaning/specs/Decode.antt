@@ -29,7 +29,7 @@ unfoldable pub sharesAt : List ℕ → ℕ → ℕ → List Share
 sharesAt rows at zero = []
 sharesAt rows at (suc v) = shareIn rows (byteAt rows at) ∷ sharesAt rows (at + 1) v
 
--- behind its tag, which says the count v of parameters
+-- after its tag, which says the count v of parameters
 unfoldable pub formAt : List ℕ → ℕ → ℕ → Form
 formAt rows at v = form (wordAt rows at) (sharesAt rows (at + 2) v)
 

@@ -127,7 +127,7 @@ module _ (n : ℕ) (ps fs : List ℕ) where
   open-join [] ys = refl
   open-join (x ∷ xs) ys = ap (λ (zs : List ℕ). effectBytes n ps fs x ++ zs) (open-join xs ys) ∙ sym (append-assoc (effectBytes n ps fs x) _ _)
 
-  -- those of several parts, and the 0 behind them
+  -- those of several parts, and the 0 after them
   open-parts : (ess : List (List Effect)) → allOf (openEffects n ps fs) ess ≡ openEffects n ps fs (allEffects ess)
   unfolding allOf openEffects allEffects
   open-parts [] = refl

@@ -51,7 +51,7 @@ goal-rows : testsBytes 2 indexes indexes (singles (two-doses .goal)) ≡ 16 ∷ 
 unfolding open-rows
 goal-rows = refl
 
--- with 3 objects and first index 10: object 1 before a parameter counts 3, behind one 1; a parameter before another argument has the stride 3
+-- with 3 objects and first index 10: object 1 before a parameter counts 3, after one 1; a parameter before another argument has the stride 3
 constant-first : formBytes 3 [] [] 4 (10 ∷ []) (record { head = 0; args = object 1 ∷ variable 0 ∷ [] }) ≡ 5 ∷ 13 ∷ 0 ∷ 0 ∷ []
 unfolding open-rows
 constant-first = refl

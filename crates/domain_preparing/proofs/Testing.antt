@@ -118,7 +118,7 @@ module _ (n : ℕ) (ps fs : List ℕ) where
   unfolding singles
   copies-group q c = rw q (record { stored = c .stored; ends = c .ends })
 
-  -- ---- those of several parts, and the 0 behind them
+  -- ---- those of several parts, and the 0 after them
 
   open-parts : (cs : List Cond) → allOf bytes cs ≡ openTests n ps fs (allSingles cs)
   unfolding allOf openTests allSingles

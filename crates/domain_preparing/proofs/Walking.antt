@@ -1,4 +1,4 @@
--- Lists of trees copied one after the other: what is left of the list, copied behind what was, is the whole. Assumes nothing.
+-- Lists of trees copied one after the other: what is left of the list, copied after what was, is the whole. Assumes nothing.
 use mathlib.Core.Path.{_≡_, refl}
 use mathlib.Core.List.{List, [], _++_}
 use Prim.Native.Nat.{ℕ}
@@ -21,7 +21,7 @@ module _ {A : Type 0} (bytes : A → List ℕ) (l₀ : List ℕ) (u₀ : ℕ) (a
         let v : Walk bytes l₀ u₀ all l u (decoded x n) = rw e at w in
         record { stored = toward-end l u l₀ u₀ (bytes (all .tree)) (toward-as b (v .toward)); ends = v .ends }
 
-    -- the first of what is left is a, and the rest is read by g behind it
+    -- the first of what is left is a, and the rest is read by g after it
     pub walk-step : {B : Type 0} (bytes₁ : B → List ℕ) {f : B → A → A} {a : Decoded B} (g : ℕ → Decoded A) → d ≡ both f a g
         → ((x : B) (y : A) → bytes (f x y) ≡ bytes₁ x ++ bytes y) → {l′ : List ℕ} {n v : ℕ} → Copies bytes₁ l u a l′ n v
         → Walk bytes l₀ u₀ all l′ v (g n)

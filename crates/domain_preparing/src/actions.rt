@@ -62,7 +62,7 @@ fn put_places(
     forms::put_word(rows, at + 10, f);
 }
 
-// The lists of action j, from `used` on, and their places: the first place behind the lists.
+// The lists of action j, from `used` on, and their places: the first place after the lists.
 fn put_action<'a>(
     code: &'a [u8],
     starts: &'a [usize],

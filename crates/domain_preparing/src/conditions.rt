@@ -153,7 +153,7 @@ fn put_conds<'a>(
     Copied { next: i, free: u }
 }
 
-// The single conditions for a time, among the parts from a place on: the first place behind them. A part for another time is copied past the
+// The single conditions for a time, among the parts from a place on: the first place after them. A part for another time is copied past the
 // end of the rows, where nothing is stored.
 fn put_parts<'a>(
     code: &'a [u8],

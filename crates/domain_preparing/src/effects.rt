@@ -16,7 +16,7 @@ ghost use Rattle.domain_preparing.specs.Written.{Copies, Room, Spent, al
 ghost use Rattle.domain_forms.specs.Stored.{countIn, predicatesIn, functionsIn, formIn};
 ghost use Rattle.domain_preparing.specs.Written.{exprIn, effectIn, effectsIn};
 
-// A number with k arguments that is assigned, raised or lowered, as the tag says, by the expression behind it.
+// A number with k arguments that is assigned, raised or lowered, as the tag says, by the expression after it.
 fn put_change<'a>(
     code: &'a [u8],
     firsts: &'a [u16],
@@ -107,7 +107,7 @@ fn put_part<'a>(
     Copied { next: i, free: u }
 }
 
-// The effects for a time, among the parts from a place on: the first place behind them. A part for another time is copied past the end of the
+// The effects for a time, among the parts from a place on: the first place after them. A part for another time is copied past the end of the
 // rows, where nothing is stored.
 fn put_parts<'a>(
     code: &'a [u8],

@@ -19,7 +19,7 @@ use Rattle.domain_init.specs.State.{Begins}
 use Rattle.domain_meaning.specs.First.{noFacts, noNumbers, factsFrom, numbersFrom, firstFacts, firstNumbers}
 use Rattle.domain_problem_text.specs.Parts.{Start, starting, startAt, Started}
 
--- where reading goes on behind the sums, they fit
+-- where reading goes on after the sums, they fit
 pub sums-fit : (c : Scope) (p at : ℕ) (r : Parsed) (a v : ℕ) → r ≡ answerOf (sumsAt c p at) → r ≡ Done a v → sumsFit c ≡ true
 sums-fit c p at r a v q e = go (sumsFit c) (sym q ∙ e)
   where

@@ -83,7 +83,7 @@ pub fn of_domain(text: &[u8], from: usize, name: &[u8]) -> Parsed
     Parsed::Refused(13, p)
 }
 
-// The objects, behind the domain's constants in the rows of `tables`: the place after them, and how many there are.
+// The objects, after the domain's constants in the rows of `tables`: the place after them, and how many there are.
 fn objects_section(text: &[u8], from: usize, tables: &mut [u8], counts: Counts) -> Parsed
     requires { ⌜ (from ≤ length (now text)) × Scopes (now tables) counts × (length (now tables) ≡ tablesLength) ⌝ }
     ensures { λ r. ⌜ ((d : Domain) → Scoped (now (tables .entry)) counts (scopeOf d (d .constants))

@@ -164,7 +164,7 @@ module _ (s : List ℕ) (c : Scope) where
       (λ es j o. given-then _ (closing-fits s 14 j)
       (λ q m t. fits (record { trees = record { lasting = l .good; conditions = v .good; effects = o .good }; own = refl }) (omega arith) (omega arith))))))
 
--- ---- actions one behind the other
+-- ---- actions one after the other
 
 -- a word that is due has all its bytes
 word-long : (s : List ℕ) (d at : ℕ) (w : List ℕ) → Given (λ _ n. at + length w ≤ n) Any (wordDue s d w at)

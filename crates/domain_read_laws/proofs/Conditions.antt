@@ -32,7 +32,7 @@ pub record CountedCond (c : Scope) (d n : ℕ) (x : Counted Cond) : Type 0 where
 abbrev sizeOf : Counted Cond → ℕ
 sizeOf x = condSize (x .tree)
 
--- ---- single conditions, which take one level, behind the bracket and the head word, of which two bytes are read already
+-- ---- single conditions, which take one level, after the bracket and the head word, of which two bytes are read already
 
 module _ (s : List ℕ) (c : Scope) (e : ℕ) where
   atom-fits : (d : ℕ) (yes′ : Bool) (n p i at : ℕ) → Fits (CountedCond c (suc e) n) sizeOf at 2 (atomAt s d c yes′ n p i at)

@@ -50,7 +50,7 @@ list-fits s c d f r (suc k) n at =
     (λ x i h. given-then _ (list-fits s c d f r k (x .left) i)
     (λ xs j u. fits (named-join c (x .tree) (xs .tree) (h .good) (u .good)) (omega arith) (omega (arith, effects-join (x .tree) (xs .tree))))))
 
--- ---- single effects, behind the bracket and the head word, of which two bytes are read already
+-- ---- single effects, after the bracket and the head word, of which two bytes are read already
 
 module _ (s : List ℕ) (c : Scope) where
   becomes-fits : (d : ℕ) (yes′ : Bool) (n p e at : ℕ) → Fits (NamedOf c) sizeOf at 2 (becomesAt s d c yes′ n p e at)

@@ -1,5 +1,5 @@
 -- Trees whose names a scope declares: each head stands in its table and has as many arguments as it was declared with, each object and each variable is
--- one of the scope's. In a scope with tables of document 01's sizes such trees are good. Assumes nothing.
+-- one of the scope's. In a scope with tables of the sizes of RULES 6 such trees are good. Assumes nothing.
 use mathlib.Core.Path.{_≡_}
 use mathlib.Core.List.{List, [], _∷_}
 use Prim.Native.Nat.{ℕ, zero, suc, _≤_, _<_}

@@ -120,7 +120,7 @@ module _ (d : Domain) (p : Problem) (g : Fitting d p) (ps fs : List ℕ) (facts 
       let few : length (c .variables) ≤ 0 = omega arith in
       cond-prepares c n ps fs 0 few (λ r k. omega (arith, fact-base c l r k)) (λ r k. omega (arith, number-base c l r k)) (p .goal) 16 (g .problem .named)
 
--- both prepare by the first indexes, also with zeros behind them as the model holds them
+-- both prepare by the first indexes, also with zeros after them as the model holds them
 pub record Prepared (d : Domain) (p : Problem) (ps fs : List ℕ) : Type 0 where
   pub actions : PreparesActions (length (p .objects)) ps fs 4 (d .actions)
   pub goal : PreparesCond (length (p .objects)) ps fs 0 (p .goal)

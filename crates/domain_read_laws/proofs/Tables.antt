@@ -86,7 +86,7 @@ object-typed =
     record { few = let z : 1 ≤ 17 = omega arith in z; short = (let z : 6 ≤ 32 = omega arith in z, tt); kept = (record { type = 0; is = refl }, tt) }
 
 module _ (s : List ℕ) where
-  -- behind those of a table, none of which goes
+  -- after those of a table, none of which goes
   pub names-fit : (ts t : Table) (at : ℕ) → Fit AllTyped 64 t → Gives (λ u. Fit AllTyped 64 u × (length t ≤ length u)) (namesTo s ts 64 t at)
   names-fit ts t at h =
       names-keep (λ u. Fit AllTyped 64 u × (length t ≤ length u)) 64 (λ g k u v. (again 64 g k u (v .0), rw (retype-length g k u) (v .1)))

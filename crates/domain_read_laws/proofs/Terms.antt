@@ -1,4 +1,4 @@
--- Arguments, references and expressions that are read: their names are declared, a reference has a byte for each argument and a bracket behind, the size
+-- Arguments, references and expressions that are read: their names are declared, a reference has a byte for each argument and a bracket after them, the size
 -- of an expression is at most one more than bytes were read, and its operators and operands are counted. Assumes nothing.
 use mathlib.Core.Path.{_≡_, refl}
 use mathlib.Core.List.{List, [], _∷_}
@@ -113,7 +113,7 @@ unfolding operandsEnd
 end-fits s d n at =
     close-gives s at _ _ (λ p e h i. fits tt (omega arith) (omega arith)) (number-gives s at _ _ (λ z p e q. either-gives (eqb n 0) _ _ e stops stops) stops)
 
--- f reads an operand of e levels; behind the bracket and the head word two bytes are read already
+-- f reads an operand of e levels; after the bracket and the head word two bytes are read already
 module _ (s : List ℕ) (c : Scope) (d e : ℕ) (f : ℕ → Reader (Counted Expr)) (r : (n at : ℕ) → Fits (CountedExpr c e n) sizeOf at 1 (f n at)) where
   plus-fits : (n at : ℕ) → Fits (CountedExpr c (suc e) (suc n)) sizeOf at 2 (plusOf s d f n at)
   unfolding exprSize exprCount NamedExpr

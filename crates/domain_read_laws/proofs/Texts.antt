@@ -93,7 +93,7 @@ pub record DomainRead (d : Domain) : Type 0 where
   pub rows : (n : ℕ) (ps fs : List ℕ) → length (actionsBytes n ps fs (d .actions)) ≤ 32768
 
 module _ (s : List ℕ) (c : Scope) where
-  -- an action, behind which f reads on
+  -- an action, after which f reads on
   next-fits : (durative : Bool) (as′ : List Action) (at a : ℕ) (f : List Action → Reader (List Action)) → at ≤ a → Acting c as′
       → ((bs : List Action) (b : ℕ) → Acting c bs → Fits (Acting c) actionsSize b (actionsSize bs) (f bs b))
       → Fits (Acting c) actionsSize at (actionsSize as′) (andThen (action s c durative as′ a) f)

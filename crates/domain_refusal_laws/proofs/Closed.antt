@@ -1,4 +1,4 @@
--- Arguments and references, to their closing bracket: they depend on nothing behind that bracket. Assumes nothing.
+-- Arguments and references, to their closing bracket: they depend on nothing after that bracket. Assumes nothing.
 use mathlib.Core.Path.{refl}
 use mathlib.Core.List.{List, [], _∷_}
 use mathlib.Core.Bool.{Bool, true, false, cond}
@@ -60,7 +60,7 @@ module _ {A : Type 0} {E : Edge} {F : ℕ → Type 0} {g : List ℕ → Given �
 
 -- ---- arguments to their closing bracket
 
--- what was read goes on behind the edge, and the bracket that ends it is not wholly before the edge
+-- what was read goes on after the edge, and the bracket that ends it is not wholly before the edge
 pub record Ended (E : Edge) (n : ℕ) : Type 0 where
   pub ends : E .edge < n
   pub over : Over E (next E) n

@@ -1,4 +1,4 @@
--- A domain's text depends on nothing behind what is reached. Assumes nothing.
+-- A domain's text depends on nothing after what is reached. Assumes nothing.
 use mathlib.Core.List.{List, []}
 use mathlib.Core.Path.{_≡_, refl}
 use mathlib.Core.Bool.{Bool, true, false, cond, _&&_}
@@ -114,7 +114,7 @@ flags-suffice s (suc j) (suc k) at ej ek = go (λ n a b. flags-suffice s j k n a
 
 -- ---- actions, and the whole
 
--- a section that was found has a bracket, and the next token stands behind it; else nothing was read
+-- a section that was found has a bracket, and the next token stands after it; else nothing was read
 abbrev Begun : List ℕ → ℕ → Opened → ℕ → Type 0
 Begun s at (opened p) e = (q : ℕ) × (m : ℕ) × (tokenAt s at ≡ T.Open q m) × (q < nextOf s e)
 Begun s at other e = e ≡ at

@@ -10,8 +10,8 @@ use Rattle.domain_meaning.specs.Problem.{readProblem}
 use Rattle.domain_meaning.proofs.Bench.{open-texts}
 use Rattle.domain_refusal_laws.specs.Lowest.{seen, reach, closed, reachInProblem}
 
--- a word at its end and the byte behind it; a bracket; a byte that is not allowed; the text's end; a bracket that is 12; one that is 3, and the
--- word, the bracket or the end behind it; 7 in a domain, and in a problem behind no argument and behind two
+-- a word at its end and the byte after it; a bracket; a byte that is not allowed; the text's end; a bracket that is 12; one that is 3, and the
+-- word, the bracket or the end after it; 7 in a domain, and in a problem after no argument and after two
 reaches : List ℕ
 reaches =
     reach (bytes "pump ; x") 8 0 ∷ reach (bytes ") a") 3 0 ∷ reach (bytes "\u{1}a") 2 0 ∷ reach (bytes "a ") 4 2 ∷ reach (bytes "- (b c)") 12 2
@@ -25,7 +25,7 @@ reached = refl
 
 -- ---- why two rows look further: texts that are the same to the end of the token, and are not refused in the same way
 
--- the bracket, and the token behind it
+-- the bracket, and the token after it
 either-decides : (readDomain (bytes "(define (domain d) (:types a - (b)))") ≡ refused 3 31)
     × (readDomain (bytes "(define (domain d) (:types a - (either b)))") ≡ refused 11 32)
 unfolding open-texts

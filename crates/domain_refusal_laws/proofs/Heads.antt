@@ -1,4 +1,4 @@
--- Brackets, fixed words and names, and what is asked of a name without reading on: they depend on nothing behind what they reach. Assumes nothing.
+-- Brackets, fixed words and names, and what is asked of a name without reading on: they depend on nothing after what they reach. Assumes nothing.
 use mathlib.Core.Path.{refl}
 use mathlib.Core.List.{List}
 use mathlib.Core.Bool.{Bool, true, false, cond}

@@ -1,5 +1,5 @@
--- Readers that depend on nothing behind what they reach: how such readers are put together. A text and an edge are given (Edge); another text
--- has the same tokens up to the edge (Agrees). Either both are read to the same, or the first is read on, or refused, behind the edge. Assumes nothing.
+-- Readers that depend on nothing after what they reach: how such readers are put together. A text and an edge are given (Edge); another text
+-- has the same tokens up to the edge (Agrees). Either both are read to the same, or the first is read on, or refused, after the edge. Assumes nothing.
 use mathlib.Core.Path.{_≡_, refl}
 use mathlib.Core.List.{List}
 use mathlib.Core.Bool.{Bool, true, false, cond}
@@ -63,11 +63,11 @@ agrees-bytes E u a = record { same = here }
           duration = spot-same s u (E .edge) a (bytes "?duration") duration-wordly at i;
         }
 
--- what was read goes on behind the edge: at a place of which fl says what comes next
+-- what was read goes on after the edge: at a place of which fl says what comes next
 pub record Over (E : Edge) (fl : ℕ → ℕ) (n : ℕ) : Type 0 where
   pub past : E .edge < seen (E .text) (fl n)
 
--- read on, or refused, behind the edge. (0 is no refusal's number: steps that ran out)
+-- read on, or refused, after the edge. (0 is no refusal's number: steps that ran out)
 unfoldable pub Far : {A : Type 0} → Edge → (ℕ → Type 0) → Read A → Type 0
 Far E F (got a n) = F n
 Far E F (refused k p) = 0 < k → E .edge < E .reaches k p
@@ -170,9 +170,9 @@ module _ {A : Type 0} {E : Edge} {fl : ℕ → ℕ} {F : ℕ → Type 0} where
           → Good E (fl at) F (m (length (E .text) + 1) (E .text) at) (m (length u + 1) u at)
       go u a at k i j = rw (f (E .text) at (length (E .text) + 1) k (omega arith) i, f u at (length u + 1) k (omega arith) j) (h k .good u a at)
 
--- ---- behind a token
+-- ---- after a token
 
--- what is known of a token of the text: of its bytes in the other text, where it ends, and that place n is at or behind it
+-- what is known of a token of the text: of its bytes in the other text, where it ends, and that place n is at or after it
 pub record Told (E : Edge) (u : List ℕ) (t : Token) (n : ℕ) : Type 0 where
   pub agrees : Agrees E u
   pub whole : part (E .text) (placeOf t) (afterOf t) ≡ part u (placeOf t) (afterOf t)

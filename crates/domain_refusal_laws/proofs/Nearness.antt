@@ -44,7 +44,7 @@ pub record Own (size k p : ℕ) : Type 0 where
 own : {size k p : ℕ} → 2 ≤ k → k ≤ 11 → Own size k p
 own h i = record { least = omega arith; most = i; long = λ e. absurd (let o : ⊥ = omega arith in o) }
 
--- a token is seen to its end, a run to the byte behind it
+-- a token is seen to its end, a run to the byte after it
 unfoldable pub Fits : List ℕ → Token → Type 0
 Fits s (T.Word k p e) = (seen s p ≡ e + 1) × (e ≤ length s) × (p < e)
 Fits s (T.Number z p e) = seen s p ≡ e + 1
@@ -161,7 +161,7 @@ token-stands s at h = rw (token-shape s at .place) (go (isPast (length s) (gapEn
 pub token-fits : (s : List ℕ) (at : ℕ) → Fits s (tokenAt s at)
 token-fits s at = token-shape s at .fits
 
--- a token ends behind its place, and no further than it is seen
+-- a token ends after its place, and no further than it is seen
 pub token-ends : (s : List ℕ) (t : Token) → Fits s t → (placeOf t ≤ afterOf t) × (afterOf t ≤ seen s (placeOf t))
 unfolding Fits
 token-ends s (T.Word k p e) h = omega (arith, seen-low s p)

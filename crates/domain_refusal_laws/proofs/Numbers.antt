@@ -1,4 +1,4 @@
--- Where `(f ..)` is closed: what was read to its closing bracket ends behind the first closing bracket. Assumes nothing.
+-- Where `(f ..)` is closed: what was read to its closing bracket ends after the first closing bracket. Assumes nothing.
 use mathlib.Core.Path.{_≡_, refl}
 use mathlib.Core.List.{List, [], _∷_}
 use mathlib.Core.Bool.{Bool, true, false, cond}
@@ -63,7 +63,7 @@ module _ (s : List ℕ) (d : ℕ) (c : Scope) where
   last at (suc k) n as′ (T.Refusal x p) e h l g = off (simp e at g)
   last at (suc k) n as′ (T.End p) e h l g = off (simp e at g)
 
-  -- an argument, and those behind it
+  -- an argument, and those after it
   module _ (want : ℕ) (wants : List ℕ) (on : (at k n : ℕ) (as′ : List Arg) → at ≤ length s → length s < k + at → arguments s d c wants at ≡ got as′ n
       → closed k s at ≡ n) where
     fitting : (g : Given) (at k n : ℕ) (as′ : List Arg) → at ≤ length s → length s < k + at → Held (g .place) at (fits c want g at)

@@ -1,4 +1,4 @@
--- Actions of both kinds depend on nothing behind what they reach. Assumes nothing.
+-- Actions of both kinds depend on nothing after what they reach. Assumes nothing.
 use mathlib.Core.Path.{_≡_, refl}
 use mathlib.Core.List.{List, [], _++_, map}
 use mathlib.Core.Bool.{Bool, true, false, cond, _&&_}

@@ -1,4 +1,4 @@
--- A problem's text depends on nothing behind what is reached, where 7 at a number's name reaches to the end of its `(f ..)`. Assumes nothing.
+-- A problem's text depends on nothing after what is reached, where 7 at a number's name reaches to the end of its `(f ..)`. Assumes nothing.
 use mathlib.Core.Path.{_≡_, refl}
 use mathlib.Core.List.{List}
 use mathlib.Core.Bool.{Bool, true, false, cond}

@@ -1,4 +1,4 @@
--- Typed lists and declarations depend on nothing behind what they reach. Assumes nothing.
+-- Typed lists and declarations depend on nothing after what they reach. Assumes nothing.
 use mathlib.Core.Path.{_≡_, refl}
 use mathlib.Core.List.{List, [], _∷_, _++_}
 use mathlib.Core.Bool.{Bool, true, false, cond, _||_}
@@ -72,7 +72,7 @@ type-word ts b W.Variable p e = refuses
 type-word ts b W.Keyword p e = refuses
 type-word ts b W.Operator p e = refuses
 
--- a bracket where a type is due is known by the token behind it
+-- a bracket where a type is due is known by the token after it
 bracket-behind : {E : Edge} {F : ℕ → Type 0} (p n : ℕ) → Behind E (T.Open p n) n F (λ v. typeOfOther v p)
 unfolding Far Fits
 bracket-behind {E} {F} p n = record { good = λ u r. go u r (decLe (seen (E .text) (next E (p + 1))) (E .edge)) }

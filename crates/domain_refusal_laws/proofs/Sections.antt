@@ -1,4 +1,4 @@
--- Sections: a section is known by the word behind its bracket, and so is what may stand in its place. Assumes nothing.
+-- Sections: a section is known by the word after its bracket, and so is what may stand in its place. Assumes nothing.
 use mathlib.Core.Path.{_≡_, refl, sym, _∙_}
 use mathlib.Core.List.{List}
 use mathlib.Core.Bool.{Bool, true, false, cond}
@@ -23,7 +23,7 @@ use Rattle.domain_refusal_laws.proofs.Nearness.{Fits, token-fits, token
 use Rattle.domain_refusal_laws.proofs.Local.{Edge, next, Agrees, agrees-self, Good, far, beyond, widen, Over, Local, gives, Told, Behind, look}
 use Rattle.domain_refusal_laws.proofs.Local.{token-then, after}
 
--- what is looked at first where a section may stand: the word behind a bracket, or what stands in the bracket's place
+-- what is looked at first where a section may stand: the word after a bracket, or what stands in the bracket's place
 abbrev pub word : Edge → ℕ → ℕ
 word E n = onOpen (tokenAt (E .text) n) (λ p. next E (p + 1)) (next E n)
 
@@ -110,7 +110,7 @@ pub section-local : {A : Type 0} {E : Edge} (w : String) (none : A) {m : List �
     → Section E (λ v. section v w none (m v))
 section-local w none h = begins-then (bytes w) _ (λ k p e. after h) gives
 
--- ---- a bracket that opens a section, and what stands behind it
+-- ---- a bracket that opens a section, and what stands after it
 
 module _ {A : Type 0} {E : Edge} {F : ℕ → Type 0} {g : List ℕ → Token → Reader A}
     (y : (p n : ℕ) → Local E (next E) F (λ v. g v (T.Open p n))) (o : (t : Token) → Behind E t (afterOf t) F (λ v. g v t)) where

@@ -145,7 +145,7 @@ module _ {A : Type 0} {s : List ℕ} {x from : ℕ} {Q : A → Type 0} where
           })
       go at (T.End p) l = listed refl (l .stands)
 
-  -- behind a token that ends at e
+  -- after a token that ends at e
   step : {c at e : ℕ} (m : Reader A) → Sound s x (from + 1) c Q m → from ≤ at → at < e → e ≤ length s → Ends s x (at + 1) Q (m e)
   step {e = e} m h i j k = lower (m e) (omega arith) (h .ends e (omega arith) k)
 
@@ -178,7 +178,7 @@ module _ {A : Type 0} {s : List ℕ} {x from : ℕ} {Q : A → Type 0} where
         go at (T.Refusal k p) i l = g .ends at (T.Refusal k p) i l
         go at (T.End p) i l = g .ends at (T.End p) i l
 
-    -- a bracket has a place behind it
+    -- a bracket has a place after it
     pub on-open : {f : ℕ → Reader A} → ((p : ℕ) → Stands s p → p < length s → Sound s x (from + 1) c Q (f p)) → After s x from Q o
         → After s x from Q (λ t. onOpen t f (o t))
     unfolding Within

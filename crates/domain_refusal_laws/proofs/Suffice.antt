@@ -63,7 +63,7 @@ pub held-at : {A : Type 0} {p m n : ℕ} {a : A} (x : Read A) → Held p n x →
 held-at x (stays b e) h = cc
 held-at x (stops k e) h = off (rw e at h)
 
--- a reader goes on no earlier than it begins: with an edge right before the first token, what it gives is read on behind that edge
+-- a reader goes on no earlier than it begins: with an edge right before the first token, what it gives is read on after that edge
 pub forward : {A : Type 0} {m : List ℕ → Reader A} → ((s : List ℕ) (q : ℕ) → Plain (edgeOf s q) m) → (s : List ℕ) (at n : ℕ) (a : A)
     → m s at ≡ got a n → seen s (nextOf s at) ≤ seen s (nextOf s n)
 unfolding Far
@@ -109,7 +109,7 @@ module _ (s : List ℕ) (at p e : ℕ) (h : tokenAt s at ≡ T.Open p e) where
       let i : nextOf s at < afterOf (tokenAt s at) = rw h (omega (arith, bracket-facts .0)) in
       rw h at (next-strict s at i)
 
-  -- behind a bracket, and behind what does not go back
+  -- after a bracket, and after what does not go back
   pub bracket-strict : (m n : ℕ) → p < nextOf s m → seen s (nextOf s m) ≤ seen s (nextOf s n) → (nextOf s at < length s) × (nextOf s at < nextOf s n)
   bracket-strict m n i j = rw h (bracket-in, go (decLe (suc p) (nextOf s n)))
     where

@@ -1,4 +1,4 @@
--- Expressions, conditions and effects depend on nothing behind what they reach. Assumes nothing.
+-- Expressions, conditions and effects depend on nothing after what they reach. Assumes nothing.
 use mathlib.Core.Path.{_≡_, refl}
 use mathlib.Core.List.{List, [], _∷_, _++_}
 use mathlib.Core.Bool.{Bool, true, false}

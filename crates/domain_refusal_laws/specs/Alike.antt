@@ -10,7 +10,7 @@ use Rattle.domain_meaning.specs.Due.{placeOf, afterOf}
 use Rattle.domain_meaning.specs.Domain.{Domain, readDomain}
 use Rattle.domain_meaning.specs.Problem.{readProblem}
 
--- what is looked at of the first token at or after a place: the token, its bytes, those behind its mark, its first byte, and whether it is
+-- what is looked at of the first token at or after a place: the token, its bytes, those after its mark, its first byte, and whether it is
 -- one of the two words that are asked for by name
 pub record SameAt (s u : List ℕ) (at : ℕ) : Type 0 where
   pub token : tokenAt s at ≡ tokenAt u at

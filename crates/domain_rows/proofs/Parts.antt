@@ -20,7 +20,7 @@ pub part-before : (vs l : List ℕ) (p e at : ℕ) → p ≤ e → e ≤ at → 
 part-before [] l p e at h k = refl
 part-before (v ∷ vs) l p e at h k = part-before vs (set l at v) p e (suc at) h (omega arith) ∙ before-set l p e at v h k
 
--- a part behind it
+-- a part after it
 pub part-behind : (vs l : List ℕ) (p e at : ℕ) → at + length vs ≤ p → part (sets l at vs) p e ≡ part l p e
 part-behind [] l p e at h = refl
 part-behind (v ∷ vs) l p e at h =

@@ -118,7 +118,7 @@ length-put (x ∷ t) (suc i) e h = ap suc (length-put t i e (omega arith))
 pub rows-long : (m : ℕ) (rows : List ℕ) (n : ℕ) (t : Table) → Holds m rows n t → length rows ≡ 38 * m
 rows-long m rows n t h = ap length (h .are) ∙ length-rows m t
 
--- the name of a row, behind its length and its numbers
+-- the name of a row, after its length and its numbers
 drop-info : (is w rest : List ℕ) → drop 5 ((padded 5 is ++ padded 32 w) ++ rest) ≡ padded 32 w ++ rest
 drop-info is w rest = ap (λ (l : List ℕ). drop 5 l) (append-assoc (padded 5 is) (padded 32 w) rest)
     ∙ drop-at (padded 5 is) (padded 32 w ++ rest) 5 (length-padded 5 is)

@@ -1,4 +1,4 @@
--- The bytes that hold a table of declared names. All of them are fixed by the table: behind a name, and behind the last one, stand zeros.
+-- The bytes that hold a table of declared names. All of them are fixed by the table: after a name, and after the last one, stand zeros.
 use mathlib.Core.Path.{_≡_}
 use Prim.Native.Nat.{ℕ, zero, suc, _≤_}
 use mathlib.Core.List.{List, [], _∷_, _++_}

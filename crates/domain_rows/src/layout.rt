@@ -1,4 +1,4 @@
-// Where the tables of a scope lie in one lent slice, one behind the other: 17 types, 64 objects, 32 predicates, 16 functions,
+// Where the tables of a scope lie in one lent slice, one after the other: 17 types, 64 objects, 32 predicates, 16 functions,
 // 4 variables, each in a row.
 use text_words::names::ROW;
 

@@ -31,7 +31,7 @@ use Rattle.domain_sections.specs.Openings.{openedOf, Further, titledOf, 
 use Rattle.domain_sections.specs.declared.Opened.the-variants.{At, Other}
 use Rattle.domain_sections.specs.declared.Titled.the-variants as H
 
--- the place behind a bracket
+-- the place after a bracket
 open-next : (s : List ℕ) (at p n : ℕ) → at ≤ length s → tokenAt s at ≡ T.Open p n → n ≡ p + 1
 unfolding Within
 open-next s at p n h e = let w = rw e at (token-within s at h) in w .1

@@ -39,7 +39,7 @@ pub fn begins_at(text: &[u8], from: usize, w: &[u8]) -> Opened
     Opened::Other
 }
 
-// The bracket that closes the text's first one, and behind it the end.
+// The bracket that closes the text's first one, and after it the end.
 pub fn ending_at(text: &[u8], from: usize) -> Parsed
     ensures { λ r. ⌜ r ≡ answerOf (ending (now (text .entry)) from) ⌝ }
 {

@@ -93,7 +93,7 @@ action-read a code u g s =
       effect-parts-read code (u + length ls + length cs) (a .effects) (g .effects) (after cs es t),
     )
 
--- so are actions one behind the other, from where the starts say
+-- so are actions one after the other, from where the starts say
 pub actions-read : (as′ : List Action) (code starts : List ℕ) (u j : ℕ) → GoodActions as′ → Stands code u (actionsCells as′)
     → Stands starts (3 * j) (startsOf u as′)
     → actionsAt code starts j (map (λ a. a .declared) as′) ≡ as′

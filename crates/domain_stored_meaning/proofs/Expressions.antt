@@ -34,7 +34,7 @@ args-length (a ∷ xs) = ap suc (args-length xs)
 pub ref-length : (tag : ℕ) (r : Ref) → length (refCells tag r) ≡ 2 + length (r .args)
 ref-length tag r = omega (arith, args-length (r .args))
 
--- behind the tag
+-- after the tag
 pub ref-read : {most tag : ℕ} (r : Ref) (code : List ℕ) (at : ℕ) → GoodRef most r → Stands code at (tag ∷ r .head ∷ argCells (r .args))
     → refAt code (at + 1) (length (r .args)) ≡ r
 unfolding refAt

@@ -22,7 +22,7 @@ use Rattle.domain_stored_meaning.specs.Decode.{decoded, littleAt, number
 use Rattle.domain_stored_meaning.proofs.Standing.{Stands, below, head-is}
 use Rattle.domain_meaning.specs.Terms.{number}
 
--- the byte at a place, and those behind it
+-- the byte at a place, and those after it
 byte-first : (code : List ℕ) (at : ℕ) → at < length code → drop at code ≡ byteAt code at ∷ drop (at + 1) code
 unfolding byteAt
 byte-first code at h = rw (lt-ltb at (length code) h, add-one at) (drop-cons code at 0 h)

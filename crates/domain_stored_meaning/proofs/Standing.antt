@@ -1,4 +1,4 @@
--- Cells that stand in the code at a place: the first, those behind it, and those behind a part. Assumes nothing.
+-- Cells that stand in the code at a place: the first, those after it, and those after a part. Assumes nothing.
 use mathlib.Core.Path.{_≡_, sym, ap, _∙_}
 use mathlib.Core.List.{List, _∷_, _++_, append-assoc}
 use mathlib.Core.Bool.{true}

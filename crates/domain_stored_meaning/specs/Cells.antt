@@ -31,7 +31,7 @@ unfoldable mutual
   condsCells (cons c cs) = condCells c ++ condsCells cs
 
 -- ---- effects: 4 to 7 a fact that becomes true, 8 to 11 false; from 12 on a number of none to two arguments that is assigned, from 15 raised,
--- from 18 lowered, by the expression behind it
+-- from 18 lowered, by the expression after it
 
 abbrev pub changeCell : Change → ℕ
 changeCell assign = 12
@@ -46,7 +46,7 @@ unfoldable pub effectsCells : List Effect → List ℕ
 effectsCells [] = []
 effectsCells (e ∷ es) = effectCells e ++ effectsCells es
 
--- ---- actions: the duration rule, behind 1, or 0 for none; the parts of the condition; those of the effect
+-- ---- actions: the duration rule, after 1, or 0 for none; the parts of the condition; those of the effect
 
 abbrev pub whenCell : When → ℕ
 whenCell start = 1
@@ -69,7 +69,7 @@ lastingCells (rule x) = 1 ∷ cellsOf x
 unfoldable pub actionCells : Action → List ℕ
 actionCells a = lastingCells (a .lasting) ++ (partsCells condCells (a .conditions) ++ partsCells listCells (a .effects))
 
--- the actions one behind the other
+-- the actions one after the other
 unfoldable pub actionsCells : List Action → List ℕ
 actionsCells [] = []
 actionsCells (a ∷ as′) = actionCells a ++ actionsCells as′

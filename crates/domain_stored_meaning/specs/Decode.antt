@@ -25,7 +25,7 @@ decoded x n = record { tree = x; next = n }
 abbrev pub mapped : {A B : Type 0} → (A → B) → Decoded A → Decoded B
 mapped f a = decoded (f (a .tree)) (a .next)
 
--- two trees, the second read by g behind the first
+-- two trees, the second read by g after the first
 abbrev pub both : {A B C : Type 0} → (A → B → C) → Decoded A → (ℕ → Decoded B) → Decoded C
 both f a g = mapped (f (a .tree)) (g (a .next))
 
@@ -38,11 +38,11 @@ unfoldable pub argsAt : List ℕ → ℕ → ℕ → List Arg
 argsAt code at zero = []
 argsAt code at (suc k) = argOf (byteAt code at) ∷ argsAt code (at + 1) k
 
--- behind its tag, which says the count k of arguments: the head's number, the arguments
+-- after its tag, which says the count k of arguments: the head's number, the arguments
 unfoldable pub refAt : List ℕ → ℕ → ℕ → Ref
 refAt code at k = record { head = byteAt code at; args = argsAt code (at + 1) k }
 
--- ---- numbers: behind the first cell its k bytes, lowest first
+-- ---- numbers: after the first cell its k bytes, lowest first
 
 unfoldable pub littleAt : List ℕ → ℕ → ℕ → ℕ
 littleAt code at zero = 0
@@ -125,7 +125,7 @@ abbrev pub conditionAt : List ℕ → ℕ → Decoded Cond
 conditionAt code at = condAt 16 code at
 
 -- ---- effects: 4 to 7 a fact that becomes true, 8 to 11 false; from 12 on a number of none to two arguments that is assigned, from 15 raised,
--- from 18 lowered, by the expression behind it
+-- from 18 lowered, by the expression after it
 
 abbrev pub becomesAt : List ℕ → ℕ → Bool → ℕ → Decoded Effect
 becomesAt code at yes′ k = decoded (becomes yes′ (refAt code (at + 1) k)) (at + 2 + k)
@@ -154,7 +154,7 @@ effectsAt (suc n) code at =
 abbrev pub effectListAt : List ℕ → ℕ → Decoded (List Effect)
 effectListAt code at = effectsAt (length code) code at
 
--- ---- actions: the duration rule, behind 1, or 0 for none; the parts of the condition, of the effect: 1 at the start, 2 over all, 3 at the end, 0 ends them
+-- ---- actions: the duration rule, after 1, or 0 for none; the parts of the condition, of the effect: 1 at the start, 2 over all, 3 at the end, 0 ends them
 
 unfoldable pub whenOf : ℕ → When
 whenOf tag = cond (eqb tag 1) start (cond (eqb tag 2) whole end)

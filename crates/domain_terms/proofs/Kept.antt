@@ -20,7 +20,7 @@ use Rattle.domain_meaning.specs.Indexes.{padded}
 use Rattle.domain_terms.specs.Raw.{keptIn, belowIn}
 use Rattle.domain_rows.proofs.Rows.{length-padded, length-rows, row}
 
--- a number of a row, behind the name's length
+-- a number of a row, after the name's length
 padded-at : (m j : ℕ) (xs : List ℕ) → j < m → getD (padded m xs) j 0 ≡ getD xs j 0
 unfolding padded
 padded-at zero j xs h = absurd (let z : ⊥ = omega arith in z)

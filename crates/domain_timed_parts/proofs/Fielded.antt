@@ -27,7 +27,7 @@ use Rattle.domain_expressions.proofs.Operands.{written-got, written-not}
 use Rattle.domain_timed_parts.specs.Bodies.{asIs, bodyOf, timedCells}
 use Rattle.domain_timed_parts.specs.Fields.{fieldFound, partsOf, fieldParts, endedCells, Onwards}
 
--- ---- what stands behind the word
+-- ---- what stands after the word
 
 instant : (code : List ℕ) (u : ℕ) (r : Progress) (m₁ m : List ℕ) (x : Read (Counted (List ℕ))) → m₁ ≡ set code u 1 → Written asIs m₁ (u + 1) r m x
     → Written timedCells code u r m (andThen x (λ y a. got (counts (atStart (y .tree) ∷ []) (y .left)) a))

@@ -1,4 +1,4 @@
--- The ways to a part, or to parts, by the word behind the bracket. Assumes nothing.
+-- The ways to a part, or to parts, by the word after the bracket. Assumes nothing.
 use mathlib.Core.Path.{_≡_}
 use mathlib.Core.List.{List, [], _∷_}
 use mathlib.Core.Bool.{Bool, true, false, cond}

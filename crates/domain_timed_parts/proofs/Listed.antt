@@ -1,4 +1,4 @@
--- Parts, one behind the other: what is read of the rest, from here, is read of the whole. Assumes nothing.
+-- Parts, one after the other: what is read of the rest, from here, is read of the whole. Assumes nothing.
 use mathlib.Core.Path.{_≡_, refl, sym, ap, _∙_}
 use mathlib.Core.List.{List, [], _∷_, _++_, append-assoc}
 use mathlib.Core.Bool.{Bool}

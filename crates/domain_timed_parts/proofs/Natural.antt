@@ -132,7 +132,7 @@ instant-each : {A B : Type 0} (g : A → B) (x : Read (Counted A))
 instant-each g (got y n) = refl
 instant-each g (refused k p) = refl
 
--- the field w, behind which the trees x are read, or their cells y
+-- the field w, after which the trees x are read, or their cells y
 field-each : {A : Type 0} (g : A → List ℕ) (s w : List ℕ) (x : Reader (List (Timed A))) (y : Reader (List (Timed (List ℕ))))
     → ((at : ℕ) → y at ≡ image (each g) (x at))
     → (code : List ℕ) (u : ℕ) (r : Parsed) (m : List ℕ) (at : ℕ) → Wrote endedCells code u r m (andThen (fieldOf s w at) (λ b. cond b y (give [])))

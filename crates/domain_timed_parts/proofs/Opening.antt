@@ -1,4 +1,4 @@
--- A bracket and the word behind it, by which the rest is read. Assumes nothing.
+-- A bracket and the word after it, by which the rest is read. Assumes nothing.
 use mathlib.Core.Path.{_≡_, ap}
 use mathlib.Core.List.{List, [], _∷_}
 use Prim.Native.Nat.{ℕ, zero, suc, _-_, _<_}

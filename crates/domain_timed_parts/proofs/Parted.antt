@@ -51,7 +51,7 @@ wrote-timed code u w y b x v l m₁ m cell q free left stored =
     let long : v ≡ u + suc (length (y .tree)) = omega (arith, free) in
     rw (append-nil (y .tree)) (rw (long, left) refl, stored ∙ rw (q, cell, add-one u))
 
--- ---- behind a part's first word, from p to e; f reads what stands in it
+-- ---- after a part's first word, from p to e; f reads what stands in it
 
 module _ (s : List ℕ) (over : Bool) (f : ℕ → ℕ → Reader (Counted (List ℕ))) (d n p e : ℕ) (code : List ℕ) (u : ℕ) where
   pub behind-untimed : (r : Parsed) (b : Progress) (k q : ℕ) → r ≡ whenAnswer (timeOf s d over p e e) → r ≡ A.Refused k q → b ≡ passed n r

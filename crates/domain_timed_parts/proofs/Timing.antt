@@ -25,7 +25,7 @@ use Rattle.domain_due.proofs.Dues.{not-word, answer-done, answer-refused}
 use Rattle.domain_timed_parts.specs.Times.{whenAnswer, behindAt, behindOver}
 use Rattle.domain_timed_parts.specs.Fields.{fieldFound, Farther}
 
--- ---- behind `at`
+-- ---- after `at`
 
 module _ (s : List ℕ) (d at : ℕ) where
   pub behind-else : (t : Token) (r : Parsed) → t ≡ tokenAt s at → OneOf (1 ∷ 2 ∷ 3 ∷ 4 ∷ 5 ∷ 6 ∷ []) (tagOf token-type.the-type t)
@@ -46,7 +46,7 @@ module _ (s : List ℕ) (d at : ℕ) where
     unfolding behindAt
     behind-other h j = rw (q, h, j)
 
-  -- ---- behind `over`
+  -- ---- after `over`
 
   pub over-refused : (r : Parsed) (k p : ℕ) → r ≡ answerOf (wordDue s d (bytes "all") at) → r ≡ Refused k p → r ≡ whenAnswer (behindOver s d at)
   unfolding behindOver

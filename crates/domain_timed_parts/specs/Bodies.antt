@@ -23,7 +23,7 @@ bodyOf false s c d n = mapped listCells (effect d s c n)
 abbrev pub asIs : List ℕ → List ℕ
 asIs cells = cells
 
--- parts, one behind the other
+-- parts, one after the other
 unfoldable pub timedCells : List (Timed (List ℕ)) → List ℕ
 timedCells [] = []
 timedCells (x ∷ xs) = whenCell (x .when) ∷ (x .what ++ timedCells xs)

@@ -22,7 +22,7 @@ unfoldable pub Farther : ℕ → ℕ → Place → Type 0
 Farther n at (At e) = (at < e) × (e ≤ n)
 Farther n at Nothing = Unit {0}
 
--- what stands behind the word: parts in a durative action, one condition or effect at its one instant in a simple one
+-- what stands after the word: parts in a durative action, one condition or effect at its one instant in a simple one
 unfoldable pub partsOf : Bool → Bool → List ℕ → Scope → ℕ → Reader (Counted (List (Timed (List ℕ))))
 partsOf true over s c n = parts s over (bodyOf over s c) 14 n
 partsOf false over s c n = do

@@ -13,13 +13,13 @@ abbrev pub whenAnswer : Read When → Parsed
 whenAnswer (got w n) = Done n (whenCell w)
 whenAnswer (refused k p) = Refused k p
 
--- the word behind `at`
+-- the word after `at`
 unfoldable pub behindAt : List ℕ → ℕ → Reader When
 behindAt s d = do
   t ← token s
   startOrEnd s d t
 
--- the word behind `over`
+-- the word after `over`
 unfoldable pub behindOver : List ℕ → ℕ → Reader When
 behindOver s d = do
   _ ← fixed s d "all"

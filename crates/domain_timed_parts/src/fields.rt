@@ -34,7 +34,7 @@ fn field_at(text: &[u8], from: usize, w: &[u8]) -> Place
     Place::Nothing
 }
 
-// Behind a field's word: the parts of a durative action, or the one condition or effect of a simple one, which is at its start.
+// After a field's word: the parts of a durative action, or the one condition or effect of a simple one, which is at its start.
 fn held_at(
     text: &[u8],
     from: usize,

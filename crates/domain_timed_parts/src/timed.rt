@@ -16,7 +16,7 @@ ghost use Rattle.domain_terms.specs.Scoped.{Scoped, Scopes};
 ghost use Rattle.domain_expressions.specs.Codes.{Written, Spent};
 ghost use Rattle.domain_timed_parts.specs.Bodies.{bodyOf, timedCells};
 
-// Behind a part's first word, which stands from p to e.
+// After a part's first word, which stands from p to e.
 fn part_behind(
     text: &[u8],
     p: usize,

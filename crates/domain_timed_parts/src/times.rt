@@ -11,7 +11,7 @@ ghost use Rattle.domain_due.specs.Answers.{Ahead};
 ghost use Rattle.domain_meaning.specs.Actions.{timeOf};
 ghost use Rattle.domain_timed_parts.specs.Times.{whenAnswer, behindAt, behindOver};
 
-// Behind `at`: the cell of `start` or `end`.
+// After `at`: the cell of `start` or `end`.
 fn behind_at(text: &[u8], from: usize, d: usize) -> Parsed
     requires { ⌜ from ≤ length (now text) ⌝ }
     ensures { λ r. ⌜ (r ≡ whenAnswer (behindAt (now (text .entry)) d from)) × Ahead (length (now (text .entry))) from r ⌝ }
@@ -29,7 +29,7 @@ fn behind_at(text: &[u8], from: usize, d: usize) -> Parsed
     Parsed::Refused(3, p)
 }
 
-// Behind `over`: the cell of `all`.
+// After `over`: the cell of `all`.
 fn behind_over(text: &[u8], from: usize, d: usize) -> Parsed
     requires { ⌜ from ≤ length (now text) ⌝ }
     ensures { λ r. ⌜ (r ≡ whenAnswer (behindOver (now (text .entry)) d from)) × Ahead (length (now (text .entry))) from r ⌝ }

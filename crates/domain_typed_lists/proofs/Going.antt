@@ -61,7 +61,7 @@ pub declare-stays : (max : ℕ) (t : Table) (p : ℕ) (w : List ℕ) (at : ℕ) 
 unfolding declare
 declare-stays max t p w at u a e = declared-stays (fresh max t p w at) (t ++ entry w (0 ∷ []) ∷ []) u a at (λ v b. fresh-stays max t p w at v b) e
 
--- ---- a group is typed, behind a dash at p
+-- ---- a group is typed, after a dash at p
 
 module _ (s : List ℕ) (own : Bool) (ts t : Table) (g p at : ℕ) where
   pub group-none : length t ≤ g → andThen (waiting t g p at) (λ _. group s own ts t g) ≡ refused 3 p
@@ -169,7 +169,7 @@ module _ (s : List ℕ) (var own : Bool) (ts : Table) (max : ℕ) (t₀ : Table)
     going-name-refused i c d k h = refuses max r rows′ i c _
         (whole (refused i c) (λ j _. typed-name j s var own ts max (o .table) g at p b e q ∙ simp (outcome-refused _ max r rows′ i c out d)) k h) d
 
--- ---- lists with a table of their own, or behind the names of one
+-- ---- lists with a table of their own, or after the names of one
 
 pub names-typed : (s : List ℕ) (ts : Table) (max : ℕ) (t : Table) (at n : ℕ) → n ≡ length t
     → namesTo s ts max t at ≡ typed (length s + 1) s false false ts max t n at

@@ -7,7 +7,7 @@ use Rattle.domain_due.specs.declared.Parsed.the-variants.{Refused}
 use Rattle.domain_typed_lists.specs.declared.items.Item.{Item}
 use Rattle.domain_typed_lists.specs.declared.items.Item.the-variants.{Close, Dash, Name, Other}
 
--- a name begins where it stands, that of a variable (`var`) behind its mark
+-- a name begins where it stands, that of a variable (`var`) after its mark
 abbrev pub itemFor : Bool → Read G.Item → Item
 itemFor var (got G.closes n) = Close n
 itemFor var (got (G.dash p) n) = Dash p n

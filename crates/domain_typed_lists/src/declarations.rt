@@ -38,7 +38,7 @@ fn signature_to(
     Parsed::Done(after, n)
 }
 
-// Behind the opening bracket of one declaration, of at most 3 variables.
+// After the opening bracket of one declaration, of at most 3 variables.
 fn declaration_at(
     text: &[u8],
     from: usize,

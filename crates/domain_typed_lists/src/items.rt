@@ -18,7 +18,7 @@ pub enum Item {
     Close(usize),
     // a dash's place and the place after it
     Dash(usize, usize),
-    // where it stands, where the name begins (behind a variable's mark) and ends
+    // where it stands, where the name begins (after a variable's mark) and ends
     Name(usize, usize, usize),
     // anything else: its refusal
     Other(Parsed),

@@ -66,7 +66,7 @@ fn declare_name(
     Parsed::Done(after, n + 1)
 }
 
-// Behind a dash: a type's parent stands before the group, any other type is in `types`.
+// After a dash: a type's parent stands before the group, any other type is in `types`.
 fn type_of_group(
     text: &[u8],
     from: usize,
@@ -88,7 +88,7 @@ fn type_of_group(
     types::type_due(text, from, types, tn, tn)
 }
 
-// Behind a dash at p: the group's names, where there are any, get their type.
+// After a dash at p: the group's names, where there are any, get their type.
 fn group_at(
     text: &[u8],
     p: usize,
@@ -160,7 +160,7 @@ pub fn typed_list(
     }
 }
 
-// Objects or constants, behind the `count` that are in the table.
+// Objects or constants, after the `count` that are in the table.
 pub fn names_to(
     text: &[u8],
     from: usize,
@@ -193,7 +193,7 @@ pub fn variables_to(
     typed_list(text, from, true, false, types, tn, rows, most, 0)
 }
 
-// The types of a domain, behind `object`.
+// The types of a domain, after `object`.
 pub fn types_to(text: &[u8], from: usize, rows: &mut [u8]) -> Parsed
     requires { ⌜ (from ≤ length (now text)) × (now rows ≡ rowsOf 17 []) ⌝ }
     ensures { λ r. ⌜ Outcome 17 r (now (rows .exit)) (typesTo (now (text .entry)) from) × Ahead (length (now (text .entry))) from r ⌝ }

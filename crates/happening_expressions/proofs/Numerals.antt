@@ -59,7 +59,7 @@ module _ (rows : List ℕ) (at k : ℕ) where
       let q : k - i ≡ k = omega arith in
       rw (p, q) at (r .is)
 
--- ---- the number behind its first byte
+-- ---- the number after its first byte
 
 abbrev pub amountAt : List ℕ → ℕ → ℕ → ℕ
 amountAt rows at tag = cond (isWhole tag) (littleAt rows at (sizeIn tag) * 1000) (littleAt rows at (sizeIn tag))

@@ -10,6 +10,6 @@ module _ {A : Type 0} {d : Decoded A} where
   pub end-same : {e : Decoded A} {n : ℕ} → d ≡ e → n ≡ e .next → n ≡ d .next
   end-same e n = rw e n
 
--- of two, the second read by f behind the first
+-- of two, the second read by f after the first
 pub end-behind : {A : Type 0} (f : ℕ → Decoded A) {m k n : ℕ} → m ≡ k → n ≡ f m .next → n ≡ f k .next
 end-behind f m n = rw m at n

@@ -1,4 +1,4 @@
-// The number behind its first byte, which says its size, its sign, and whether wholes are counted.
+// The number after its first byte, which says its size, its sign, and whether wholes are counted.
 ghost use mathlib.Core.Path.{_≡_};
 ghost use Prim.Native.Nat.{_+_, _-_, _%_, _≤_, _<_};
 ghost use lib.ListN.{length};
@@ -37,7 +37,7 @@ fn beyond(tag: usize) -> usize
     tag - 16
 }
 
-// The number behind its first byte `tag`.
+// The number after its first byte `tag`.
 pub fn literal_at(rows: &[u8], at: usize, tag: usize) -> i64
     requires { ⌜ (at ≤ length (now rows)) × ((tag - 16) % 8 ≤ 5) ⌝ }
     ensures { λ r. ⌜ r ≡ numberAt (now (rows .entry)) at tag ⌝ }

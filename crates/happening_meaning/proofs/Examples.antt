@@ -1,4 +1,4 @@
--- Worked examples: the traps of document 01's bench at one instant, by computation.
+-- Worked examples: the traps of the bench of RULES 14 at one instant, by computation.
 use mathlib.Core.Path.{_≡_, refl}
 use Prim.Native.Nat.{ℕ}
 use mathlib.Core.List.{List, [], _∷_, map}

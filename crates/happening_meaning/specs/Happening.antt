@@ -1,4 +1,4 @@
--- A happening: "All points of one time, by line number". What its points read and write, when two of them interfere, steps 1 to 5, and the goal.
+-- A happening: "All points of one time, by line number". What its points read and write, when two of them interfere, steps 1 to 5, and the goal. RULES 11.
 use Prim.Native.Nat.{ℕ, _+_}
 use mathlib.Core.List.{List, [], _∷_, _++_}
 use mathlib.Core.Bool.{Bool, true, false, cond, not, _&&_, _||_}
@@ -132,7 +132,7 @@ marks g p = marksOf g (objectsOf p) (effectsOf p)
 unfoldable pub apart : Grounds → Point → Outcome
 apart g p = cond (itself (marks g p)) (Itself (lineOf p)) Done
 
--- ---- step 3: interference, "Definition 12 of 000"
+-- ---- step 3: interference; RULES 11, step 3; Fox and Long, Definition 12
 
 unfoldable pub ruleReads : Grounds → List ℕ → ℕ → Lasting → Bool
 ruleReads g os x moment = false

@@ -1,4 +1,4 @@
--- A state, the numbers in it, and the place of a fact or number in it.
+-- A state, the numbers in it, and the place of a fact or number in it. RULES 8.
 use Prim.Native.Nat.{ℕ}
 use mathlib.Core.List.{List}
 use mathlib.Core.Bool.{Bool, cond, _&&_}

@@ -1,4 +1,4 @@
--- The value of an expression, and whether a condition holds.
+-- The value of an expression, and whether a condition holds. RULES 9.
 use Prim.Native.Nat.{ℕ}
 use mathlib.Core.List.{List, [], _∷_}
 use mathlib.Core.Bool.{Bool, true, false, not, _&&_}

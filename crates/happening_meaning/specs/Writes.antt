@@ -1,4 +1,4 @@
--- What expressions and conditions read, and what effects write.
+-- What expressions and conditions read, and what effects write. RULES 11.
 use Prim.Native.Nat.{ℕ}
 use mathlib.Core.List.{List, [], _∷_, map}
 use mathlib.Core.Bool.{Bool, true, false, cond, not, _&&_, _||_}

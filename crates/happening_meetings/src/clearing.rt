@@ -74,7 +74,7 @@ fn some_pair<'a>(
     r
 }
 
-// Point i and those behind it.
+// Point i and those after it.
 fn clear_all<'a>(
     rows: &'a [u8],
     points: &'a [usize; 256],

@@ -29,7 +29,7 @@ module _ (g : Grounds) (os : List ℕ) where
     condsMask none = 0
     condsMask (cons c cs) = bitOr (condMask c) (condsMask cs)
 
-  -- the bits of a list, behind those of m
+  -- the bits of a list, after those of m
   unfoldable pub maskFrom : ℕ → List Cond → ℕ
   maskFrom m [] = m
   maskFrom m (c ∷ cs) = maskFrom (bitOr m (condMask c)) cs

@@ -1,4 +1,4 @@
--- What is written by two lists of effects, one behind the other: the walks over the points of a happening. Assumes nothing.
+-- What is written by two lists of effects, one after the other: the walks over the points of a happening. Assumes nothing.
 use mathlib.Core.Path.{_≡_, refl, sym, ap, _∙_}
 use mathlib.Core.List.{List, [], _∷_, _++_}
 use mathlib.Core.Bool.{Bool, true, false, _||_, or-assoc, true≢false}

@@ -40,7 +40,7 @@ unfolding maskFrom
 not-before w x [] h = h
 not-before w x (m ∷ ms) h = not-first w (markBit m) x (not-before (bitOr w (markBit m)) x ms h)
 
--- of the mask of a mark and those behind it
+-- of the mask of a mark and those after it
 not-here : (w x : ℕ) (m : Mark) (ms : List Mark) → has (maskFrom (bitOr w (markBit m)) ms) x ≡ false → has (markBit m) x ≡ false
 not-here w x m ms h = not-second w (markBit m) x (not-before (bitOr w (markBit m)) x ms h)
 

@@ -14,7 +14,7 @@ markBit (Fact true x) = factBit x
 markBit (Fact false x) = factBit x
 markBit (Number assigned x) = numberBit x
 
--- behind the bits of w
+-- after the bits of w
 unfoldable pub maskFrom : ℕ → List Mark → ℕ
 maskFrom w [] = w
 maskFrom w (m ∷ ms) = maskFrom (bitOr w (markBit m)) ms

@@ -3,7 +3,7 @@ ghost use mathlib.Core.Path.{_≡_};
 ghost use Rattle.happening_writes.specs.Rows.{rowAt};
 
 // What stands at a place of a list: its end; a fact, added or deleted, with how many of its arguments are parameters and the place after it; or a
-// number, assigned (0), raised (1) or lowered (2), with how many are parameters and the place of its right side. Its form is behind the first byte.
+// number, assigned (0), raised (1) or lowered (2), with how many are parameters and the place of its right side. Its form is after the first byte.
 pub enum Row {
     End,
     Fact(bool, usize, usize),

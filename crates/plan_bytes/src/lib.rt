@@ -4,7 +4,7 @@ pub mod bytes;
 use plan_feeding::PlanProgress;
 use plan_waiting::Queue;
 
-// What is kept behind a part: the points that wait, and the rest.
+// What is kept after a part: the points that wait, and the rest.
 pub struct Taken {
     pub queue: Queue,
     pub progress: PlanProgress,

@@ -31,7 +31,7 @@ module _ (R : Rules State Act Outcome) (s t : State) (q : Queue) (p : PlanProgre
 
   module _ (D : Reader Act Refused) (still : p .refused ≡ false) (line : List ℕ) (r : Queue) (new : PlanProgress)
       (taken : checkIn t r new ≡ M.take R limits (checkIn s q p) (D .line (p .number) (p .start) line)) where
-    -- what the plan comes to is what its check comes to behind the last line
+    -- what the plan comes to is what its check comes to after the last line
     closes : close R limits D (reading (checkIn s q p) (p .number) line) ≡ finish R limits (checkIn t r new)
     closes = rw (taken, check-going s q p still)
 

@@ -23,7 +23,7 @@ use Rattle.plan_running.specs.declared.Past.{Past}
 use Rattle.plan_feeding.specs.declared.PlanProgress.{PlanProgress}
 use Rattle.plan_feeding.specs.Feeding.{checkIn, refusing, going}
 
--- ---- the points of a step behind those that wait
+-- ---- the points of a step after those that wait
 
 pub points-few : (x : Step) → length (pointsOf (stepIn x)) ≤ 2
 points-few x = go (x .duration) refl

@@ -156,7 +156,7 @@ module _ (tables : List ℕ) (c : Counts) (heads : List ℕ) (acting : ℕ) (row
 abbrev made : ℕ → ℕ → ℕ → List ℕ → List ℕ → Span → Step Act
 made n start i s os d = record { line = n; start = start; span = d; act = record { action = i; objects = padded 4 os; width = length s } }
 
--- behind the action's name: the objects, and how long it lasts, which l reads
+-- after the action's name: the objects, and how long it lasts, which l reads
 abbrev behind : List ℕ → Known → ℕ → ℕ → ℕ → List ℕ → Reader Span → Reader (Step Act)
 behind s k n start i wants l at = andThen (objectsTo s k wants at) (λ os b. andThen (l b) (λ d e. got (made n start i s os d) e))
 

@@ -26,7 +26,7 @@ use Rattle.plan_lines.proofs.Marks.{not-mark}
 pub amount-refused : (r : Parsed) (k p : ℕ) → r ≡ Refused k p → amountAnswer r
 amount-refused r k p e = rw e tt
 
--- ---- behind the bracket
+-- ---- after the bracket
 
 module _ (s : List ℕ) (at : ℕ) where
   pub duration-else : (t : Token) (r : Parsed) → t ≡ planTokenAt s at → OneOf (0 ∷ 2 ∷ 3 ∷ 4 ∷ 5 ∷ 6 ∷ []) (tagOf token-type.the-type t)

@@ -74,7 +74,7 @@ named-read s names at a v h = token-named s names (planTokenAt s at) a v (rw (na
 pub named-below : (s : List ℕ) (names : Table) (t : Token) (a v : ℕ) → answerOf (namedBy s names t (afterOf t)) ≡ Done a v → v < length names
 named-below s names t a v h = let w = token-named s names t a v h in found-below names (w .read .word) v (w .found)
 
--- a name is read, looked for, and what comes behind it is read
+-- a name is read, looked for, and what comes after it is read
 pub named-then : {A : Type 0} (s : List ℕ) (names : Table) (f : ℕ → Reader A) (at : ℕ)
     → andThen (name s at) (λ w n. andThen (declared names (w .place) (w .word) n) f) ≡ andThen (namedAction s names at) f
 unfolding namedAction

@@ -151,7 +151,7 @@ pub fn start_at(t: Token, before: usize) -> Parsed
     Parsed::Done(next, n)
 }
 
-// A duration behind its opening bracket, to the line's end. "17 bracket .. holding 0: .. the number"
+// A duration after its opening bracket, to the line's end. "17 bracket .. holding 0: .. the number"
 fn duration_at(text: &[u8], from: usize) -> Parsed
     ensures { λ r. ⌜ (r ≡ spanAnswer (durationIn (now (text .entry)) from)) × amountAnswer r ⌝ }
 {

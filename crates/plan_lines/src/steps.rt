@@ -23,7 +23,7 @@ fn refused(a: Parsed) -> Line
     }
 }
 
-// The action with its objects and its duration, behind the colon's place.
+// The action with its objects and its duration, after the colon's place.
 fn act_at<'a>(
     text: &'a [u8],
     from: usize,

@@ -125,7 +125,7 @@ something e = absurd (let z : _≡_ {A = ℕ} 0 1 = cc in let y : ⊥ = omega ar
 the-same : {A : Type 0} {x y : A} → some x ≡ some y → x ≡ y
 the-same e = cc
 
--- the answer of line n, and those of the lines behind it
+-- the answer of line n, and those of the lines after it
 behind-line : (n : ℕ) (a : Answer Act Refused) (before : List (Step Act)) (rest : List (Answer Act Refused)) (e : Refused) → n ≤ 1000001 → Says n a
     → ((xs : List (Step Act)) → firstRefusal limits xs rest ≡ some e → TextRefusal e) → firstRefusal limits before (a ∷ rest) ≡ some e → TextRefusal e
 unfolding firstRefusal

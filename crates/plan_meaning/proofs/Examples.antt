@@ -1,4 +1,4 @@
--- Worked examples: the starred cases of document 01's bench and K9, from the plan's bytes to the verdict, and lines that are refused.
+-- Worked examples: the cases of RULES 14, from the plan's bytes to the verdict, and lines that are refused.
 use mathlib.Core.Path.{_≡_, refl}
 use Prim.Native.Nat.{ℕ, zero, suc}
 use Prim.Native.String.{String}
@@ -43,7 +43,7 @@ rules = rulesOf (promises grounds (two-doses .goal)) (bench .actions) first
 abbrev known : Known
 known = record { types = bench .types; objects = two-doses .objects; actions = bench .actions }
 
--- document 01's number, line and column of a refusal; or the verdict, its time
+-- number, line and column of a refusal; or the verdict, its time
 pub data Shown : Type 0 where
   refuses : ℕ → ℕ → ℕ → Shown
   says : Outcome → ℕ → Shown

@@ -1,4 +1,4 @@
--- Plan lines: "One step a line: `start: (action objects) [duration]`, the bracket for durative actions only. Blank lines and comments pass."
+-- Plan lines: "One step a line: `start: (action objects) [duration]`, the bracket for durative actions only. Blank lines and comments pass." RULES 10.
 use Prim.Native.Nat.{ℕ, _+_}
 use Prim.Native.Char.{code}
 use mathlib.Core.List.{List, [], _∷_, map}
@@ -114,7 +114,7 @@ objectsTo s k (want ∷ wants) = do
 
 -- ---- the duration: "17 bracket missing, not wanted, or holding 0: line end, `[`, the number"
 
--- behind `[`
+-- after `[`
 unfoldable pub durationIn : List ℕ → Reader Span
 durationIn s = do
   t ← token s
@@ -141,7 +141,7 @@ spanOf s l = do
 abbrev pub declarations : List Action → Table
 declarations as′ = map (λ (a : Action). a .declared) as′
 
--- behind the start: n is the line's number
+-- after the start: n is the line's number
 unfoldable pub actAt : List ℕ → Known → ℕ → ℕ → Reader (Step Act)
 actAt s k n start = do
   _ ← mark s (code ":")

@@ -1,4 +1,4 @@
--- The plan part of document 01's table of answers: which numbers a plan can be refused by, and at which places. Tests of numbers.
+-- The plan part of the table of RULES 7: which numbers a plan can be refused by, and at which places. Tests of numbers.
 use Prim.Native.Nat.{ℕ}
 use mathlib.Core.List.{List, [], _∷_}
 use mathlib.Core.Bool.{Bool, cond, _&&_}

@@ -1,4 +1,4 @@
--- What a plan means, over the whole plan at once. Nothing here speaks of parts, or of what a checker keeps while it waits.
+-- What a plan means, over the whole plan at once. Nothing here speaks of parts, or of what a checker keeps while it waits. RULES 11.
 use Prim.Native.Nat.{ℕ, zero, suc, _+_, max}
 use mathlib.Core.Bool.{Bool, false, cond, _&&_}
 use mathlib.Core.List.{List, [], _∷_, _++_}

@@ -1,4 +1,4 @@
--- What a plan's text means, over the whole text at once: its lines, what each says, and what they come to.
+-- What a plan's text means, over the whole text at once: its lines, what each says, and what they come to. RULES 10.
 use Prim.Native.Nat.{ℕ, suc}
 use mathlib.Core.Bool.{Bool, true, false, cond, _&&_, _||_}
 use mathlib.Core.List.{List, [], _∷_, _++_}
@@ -24,12 +24,12 @@ abbrev pub onto : ℕ → List (List ℕ) → List (List ℕ)
 onto b [] = (b ∷ []) ∷ []
 onto b (l ∷ ls) = (b ∷ l) ∷ ls
 
--- the lines of a text: what stands before, between and behind its LFs
+-- the lines of a text: what stands before, between and after its LFs
 abbrev pub lines : List ℕ → List (List ℕ)
 lines [] = [] ∷ []
 lines (b ∷ bs) = cond (eqb b 10) ([] ∷ lines bs) (onto b (lines bs))
 
--- there is a byte, an LF counted, in a line or behind it
+-- there is a byte, an LF counted, in a line or after it
 abbrev pub someByte : List ℕ → List (List ℕ) → Bool
 someByte [] [] = false
 someByte [] (m ∷ ls) = true
@@ -46,7 +46,7 @@ module _ {A E : Type 0} (D : Reader A E) where
   abbrev pub says : ℕ → ℕ → List ℕ → Answer A E
   says n s l = cond (ltb (D .width) (length l)) (refusal (D .long n s (take (suc (D .width)) l))) (D .line n s l)
 
-  -- the same, with the lines behind it: past the last line that may be, a byte is refused
+  -- the same, with the lines after it: past the last line that may be, a byte is refused
   abbrev pub answer : ℕ → ℕ → List ℕ → List (List ℕ) → Answer A E
   answer n s l ls = cond (ltb (D .most) n && someByte l ls) (refusal (D .beyond n)) (says n s l)
 

@@ -64,7 +64,7 @@ module _ (n : ℕ) (ps fs : List ℕ) where
     abbrev as-prepared : Known
     as-prepared = known ts os (preparing n ps fs as′)
 
-    -- a line behind its start, by the names of the actions, the reader of each one's objects and the reader of its duration
+    -- a line after its start, by the names of the actions, the reader of each one's objects and the reader of its duration
     abbrev actBy : List ℕ → ℕ → ℕ → Table → (ℕ → Reader (List ℕ)) → (ℕ → Reader Span) → Reader (Step Act)
     actBy s m start names objects span = do
       _ ← mark s (code ":")

@@ -106,7 +106,7 @@ next-there l n k (v ∷ vs) (suc m) h room =
     let e : suc k + m ≡ k + suc m = omega arith in
     rw (← e) (next-there (set l (n + k) v) n (suc k) vs m (omega arith) (simp length-set (omega arith)))
 
--- a first number at n, and more behind it
+-- a first number at n, and more after it
 module _ (l : List ℕ) (n v : ℕ) (vs : List ℕ) where
   abbrev run : List ℕ
   run = next (set l n v) n 1 vs
@@ -242,7 +242,7 @@ module _ (words objects : List ℕ) (i : ℕ) (h : i < 64) where
       ≡ max (time (pointIn (slotIn words objects (getD words (384 + i) 0 % 64)))) (latest (waiting (queueIn words objects i)))
   latest-place = rw (← slot-there words objects i h) (latest-more (queueIn words objects 0 .slots) i (omega (arith, slots-long words objects)))
 
--- ---- a point more behind those of a queue
+-- ---- a point more after those of a queue
 
 module _ (q r : Queue) (s : Slot) (there : used r ≡ used q ++ s ∷ []) where
   pub grown-waits : waiting r ≡ waiting q ++ pointIn s ∷ []

@@ -1,4 +1,4 @@
--- The places of a queue: those of a list, one filled more, and zeros behind. Assumes nothing.
+-- The places of a queue: those of a list, one filled more, and zeros after them. Assumes nothing.
 use Prim.Native.Nat.{ℕ, suc, _+_, _-_, _≤_, _<_}
 use mathlib.Core.Bool.{true}
 use mathlib.Core.List.{List, _++_, map}
@@ -30,7 +30,7 @@ sound-queue n l h k = rw (queue-waits l k, queue-count l) (k, h)
 
 -- ---- a place filled
 
--- the first i places of l, and zeros behind
+-- the first i places of l, and zeros after them
 abbrev pub cleaned : List Slot → ℕ → List Slot
 cleaned l i = take i l ++ replicate (64 - i) noSlot
 

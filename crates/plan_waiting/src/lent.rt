@@ -1,5 +1,5 @@
 // The points that wait, as numbers in lent arrays: within a call they change in place. Each lies in one of 64 places, six words (line, action, time in the
-// action, duration, start, width) and four objects, and stays there. Behind the places' words stand the places as they came, the free ones, and the keys.
+// action, duration, start, width) and four objects, and stays there. After the places' words stand the places as they came, the free ones, and the keys.
 use crate::Queue;
 use plan_meaning::Slot;
 use plan_meaning::Step;

@@ -1,4 +1,4 @@
-// The header of a record: three lengths and perhaps the size of parts, in decimal, parted by single spaces and ended by LF.
+// The header of a record: three lengths and perhaps the size of parts, in decimal, separated by single spaces and ended by LF.
 use program_records::input;
 use text_words::bytes;
 ghost use Prim.Native.Nat.{_≤_};

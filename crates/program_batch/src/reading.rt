@@ -10,7 +10,7 @@ pub struct Stored {
     pub whole: bool,
 }
 
-// Reads a text of so many bytes into a block. One of more than 32,850 bytes is enough for document 01's answer (crates/domain_holding/proofs/Reading.antt).
+// Reads a text of so many bytes into a block. One of more than 32,850 bytes is enough for the answer (RULES 1; crates/domain_holding/proofs/Reading.antt).
 pub fn read(block: &mut [u8], total: usize) -> Stored {
     let mut piece = [0u8; 65536];
     let mut held = domain_holding::nothing();

@@ -1,4 +1,4 @@
-// The program for a technician: checks one plan from files, answers with document 01's line and says on standard error what that means.
+// The program for a technician: checks one plan from files, answers with the line of RULES 12 and says on standard error what that means.
 mod plan;
 mod reply;
 mod texts;

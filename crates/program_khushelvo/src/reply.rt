@@ -1,4 +1,4 @@
-// What goes to standard output: document 01's line and, if asked for, the last facts and numbers, as digits or with their names.
+// What goes to standard output: the line of RULES 12 and, if asked for, the last facts and numbers, as digits or with their names.
 use check_calls::Answer;
 use check_calls::Check;
 use domain_load::LoadAnswer;

@@ -1,4 +1,4 @@
-// What each refusal number means, in a technician's words, true to document 01's table.
+// What each refusal number means, in a technician's words, true to the table of RULES 7.
 use program_limits::Limit;
 use program_quotes::stderr;
 

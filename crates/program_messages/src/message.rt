@@ -127,7 +127,7 @@ pub fn of_plan(
     }
 }
 
-// How much of a refused line is quoted: of one behind the millionth only the byte that is refused, since no more of it was read.
+// How much of a refused line is quoted: of one after the millionth only the byte that is refused, since no more of it was read.
 fn quoted_length(number: u8, length: usize) -> usize {
     if number == 15 {
         return 1;

@@ -22,7 +22,7 @@ pub fn say_value(z: i64) {
     output::flush(&out, used);
 }
 
-// Document 01's number of an answer, 0 for none.
+// The number of an answer (RULES 7, RULES 13), 0 for none.
 fn number_of(answer: Answer) -> usize
     ensures { λ r. ⌜ r ≡ numberOf answer ⌝ }
 {

@@ -12,7 +12,7 @@ unfoldable pub lineEnds : List ℕ → ℕ
 lineEnds [] = 0
 lineEnds (b ∷ s) = cond (eqb b 10) (suc (lineEnds s)) (lineEnds s)
 
--- how many bytes stand behind the last LF, or behind the beginning if there is none; k of them stand before s
+-- how many bytes stand after the last LF, or after the beginning if there is none; k of them stand before s
 unfoldable pub behind : ℕ → List ℕ → ℕ
 behind k [] = k
 behind k (b ∷ s) = cond (eqb b 10) (behind 0 s) (behind (suc k) s)

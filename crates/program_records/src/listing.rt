@@ -20,7 +20,7 @@ pub fn facts(values: &[u8], out: &mut [u8], used: usize) -> usize {
     output::put(out, at, 10)
 }
 
-// The first n numbers: a line of numbers parted by spaces.
+// The first n numbers: a line of numbers separated by spaces.
 pub fn numbers(values: &[i64], n: usize, out: &mut [u8], used: usize) -> usize {
     let mut at = used;
     let mut i = 0;

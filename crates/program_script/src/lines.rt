@@ -19,7 +19,7 @@ pub fn find(text: &[u8], byte: u8, from: usize) -> usize
     i
 }
 
-// Where the line behind the one at a place begins.
+// Where the line after the one at a place begins.
 pub fn behind(text: &[u8], at: usize) -> usize
     requires { ⌜ at < length (now text) ⌝ }
     ensures { λ r. ⌜ at < r ⌝ }
@@ -36,7 +36,7 @@ pub fn first(line: &[u8]) -> &[u8] {
     runs::part_of(line, 0, find(line, b' ', 0))
 }
 
-// What stands behind a line's first space.
+// What stands after a line's first space.
 pub fn rest(line: &[u8]) -> &[u8] {
     let end = find(line, b' ', 0);
     let n = line.len();

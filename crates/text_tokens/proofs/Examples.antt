@@ -180,7 +180,7 @@ longTexts : (tokenAt (replicate 32768 (code " ")) 0 ≡ T.End 32768) × (tokenAt
 unfolding open-tokens
 longTexts = (refl, refl, refl, refl)
 
--- `either` behind a bracket, and `?duration` in its rule
+-- `either` after a bracket, and `?duration` in its rule
 spots : (spotAt (bytes "( Either a b)") 1 (bytes "either") ≡ P.At 2 8) × (spotAt (bytes "(or a)") 1 (bytes "either") ≡ P.Other)
     × (spotAt (bytes "?Duration 5") 0 (bytes "?duration") ≡ P.At 0 9) × (spotAt (bytes "either") 6 (bytes "either") ≡ P.Other)
 unfolding open-tokens

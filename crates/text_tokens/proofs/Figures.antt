@@ -151,7 +151,7 @@ module _ (stop : ℕ) (h : 58 ≤ stop) where
       go true e ih = rw (digit-runs stop b h e) (omega (arith, ih))
       go false e ih = omega arith
 
-  -- the run at p goes as far as the one behind its digits, and has the same digits
+  -- the run at p goes as far as the one after its digits, and has the same digits
   pub runs-behind : (s : List ℕ) (p : ℕ) → runEnd s stop p ≡ runEnd s stop (digitsEnd s p)
   unfolding runEnd digitsEnd
   runs-behind s p = rw (← drop-drop (leading (drop p s)) p s) (omega (arith, run-leading (drop p s)))

@@ -137,7 +137,7 @@ unfolding leading
 leading-most [] = le-refl 0
 leading-most (b ∷ bs) = count-le (isDigit (kindOf b)) (leading bs) (length bs) (leading-most bs)
 
--- digits end behind their beginning, and within the word if there are any
+-- digits end after their beginning, and within the word if there are any
 pub digits-bounds : (w : List ℕ) (p : ℕ) → (p ≤ digitsEnd w p) × (p < digitsEnd w p → digitsEnd w p ≤ length w)
 unfolding digitsEnd
 digits-bounds w p = (omega arith, λ h. omega (arith, leading-most (drop p w), length-drop p w))

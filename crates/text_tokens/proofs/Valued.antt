@@ -107,7 +107,7 @@ pub number-value : (s : List ℕ) (at : ℕ) (z : ℤ) (p e : ℕ) → tokenAt s
 unfolding tokenAt Valued
 number-value s at z p e q = rw q at (from-valued s (gapEnd s at))
 
--- ---- how large a number of n bytes is: wholes, or behind a point thousandths
+-- ---- how large a number of n bytes is: wholes, or after a point thousandths
 
 pub data Extent (n m : ℕ) : Type 0 where
   wholes : (v : ℕ) → m ≡ v * 1000 → v + 1 ≤ 10 ^ n → 1 ≤ n → Extent n m

@@ -1,4 +1,4 @@
--- What a run of bytes is, by itself. Document 01, "Bytes and words".
+-- What a run of bytes is, by itself. RULES 2.
 use Prim.Native.Nat.{ℕ}
 use mathlib.Core.List.{List, [], _∷_}
 use mathlib.Core.Bool.{Bool, false, cond, _&&_, _||_}

@@ -19,7 +19,7 @@ abbrev pub withEnd : Numeral → ℕ → Figure
 withEnd (N.Thousandths m) e = F.Thousandths m e
 withEnd N.Malformed e = F.Malformed
 
--- behind a whole part and its point, to the end of the run at p
+-- after a whole part and its point, to the end of the run at p
 unfoldable pub decimalsAt : List ℕ → ℕ → ℕ → ℕ → Figure
 decimalsAt s stop whole p = withEnd (fractionOf whole (part s p (runEnd s stop p))) (runEnd s stop p)
 

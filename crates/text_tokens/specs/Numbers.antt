@@ -1,4 +1,4 @@
--- "A number is 1 to 9 digits, perhaps a point and 1 to 3 digits, and outside plans perhaps a leading minus. It counts thousandths"
+-- "A number is 1 to 9 digits, perhaps a point and 1 to 3 digits, and outside plans perhaps a leading minus. It counts thousandths". RULES 2.
 use Prim.Native.Nat.{ℕ, suc, _+_, _-_, _*_, _<_}
 use mathlib.Core.List.{List, [], _∷_}
 use mathlib.Core.Bool.{Bool, true, false, cond, _&&_}
@@ -21,7 +21,7 @@ leading (b ∷ bs) = cond (isDigit (kindOf b)) (suc (leading bs)) 0
 unfoldable pub digitsEnd : List ℕ → ℕ → ℕ
 digitsEnd w p = p + leading (drop p w)
 
--- the value of digits, behind those that make v
+-- the value of digits, after those that make v
 unfoldable pub decimal : ℕ → List ℕ → ℕ
 decimal v [] = v
 decimal v (b ∷ bs) = decimal (v * 10 + (b - code "0")) bs
@@ -30,14 +30,14 @@ decimal v (b ∷ bs) = decimal (v * 10 + (b - code "0")) bs
 unfoldable pub scaleOf : ℕ → ℕ
 scaleOf n = cond (eqb n 1) 100 (cond (eqb n 2) 10 1)
 
--- behind the point
+-- after the point
 unfoldable pub fractionOf : ℕ → List ℕ → Numeral
 fractionOf whole ds =
     cond (between 1 (length ds) 3 && leb (length ds) (leading ds))
     (N.Thousandths (whole * 1000 + decimal 0 ds * scaleOf (length ds)))
     N.Malformed
 
--- behind the digits of the whole part
+-- after the digits of the whole part
 abbrev pub restOf : ℕ → List ℕ → Numeral
 restOf whole [] = N.Thousandths (whole * 1000)
 restOf whole (b ∷ ds) = cond (eqb b (code ".")) (fractionOf whole ds) N.Malformed

@@ -1,4 +1,4 @@
--- Gaps between tokens, and runs of bytes. A place is the number of bytes before it. Document 01, "Bytes and words".
+-- Gaps between tokens, and runs of bytes. A place is the number of bytes before it. RULES 2.
 use Prim.Native.Nat.{ℕ, suc, _+_, _-_}
 use mathlib.Core.List.{List, [], _∷_}
 use mathlib.Core.Bool.{Bool, true, false, cond}

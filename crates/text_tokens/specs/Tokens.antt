@@ -1,4 +1,4 @@
--- "Each token read is a word, a number, a bracket or a refusal." Document 01, "Bytes and words".
+-- "Each token read is a word, a number, a bracket or a refusal." RULES 2.
 use Prim.Native.Nat.{ℕ, _+_, _-_}
 use mathlib.Core.List.{List, []}
 use mathlib.Core.Bool.{Bool, false, cond, _||_}
@@ -73,7 +73,7 @@ endOf s stop p = runEnd s stop (p + 1)
 abbrev pub domainRun : List ℕ → ℕ → ℕ → Token
 domainRun s p e = domainWord (part s p e) p e
 
--- what stands at p, behind a gap. "2 byte not allowed"; 1 is for what begins past the most bytes
+-- what stands at p, after a gap. "2 byte not allowed"; 1 is for what begins past the most bytes
 abbrev pub tokenFrom : List ℕ → ℕ → Token
 tokenFrom s p =
     cond (isPast (length s) p) (T.Refusal 1 32768)
@@ -84,7 +84,7 @@ tokenFrom s p =
 unfoldable pub tokenAt : List ℕ → ℕ → Token
 tokenAt s from = tokenFrom s (gapEnd s from)
 
--- where the next token is a given word, whatever token that is: `either` behind a bracket, `?duration` in its rule
+-- where the next token is a given word, whatever token that is: `either` after a bracket, `?duration` in its rule
 abbrev pub spotFrom : List ℕ → ℕ → ℕ → List ℕ → Spot
 spotFrom s p e w =
     cond (isPast (length s) p || leb (length s) p) P.Other (cond (sameWord (part s p e) w) (P.At p e) P.Other)

@@ -82,7 +82,7 @@ fn scale(n: usize) -> usize
     1
 }
 
-// The decimals from `from` on, behind a whole part and its point, to the run's end: 1 to 3 digits.
+// The decimals from `from` on, after a whole part and its point, to the run's end: 1 to 3 digits.
 fn decimals_at(text: &[u8], stop: u8, whole: usize, from: usize) -> Figure
     requires { ⌜ (58 ≤ stop) × (from ≤ length (now text)) × (whole < 230000000000) ⌝ }
     ensures { λ r. ⌜ r ≡ decimalsAt (now (text .entry)) stop whole from ⌝ }
@@ -125,7 +125,7 @@ pub fn figure_at(text: &[u8], stop: u8, from: usize) -> Figure
     decimals_at(text, stop, d.value, end + 1)
 }
 
-// The number that a word is from `from` on: `from` is 1 behind a minus.
+// The number that a word is from `from` on: `from` is 1 after a minus.
 fn number_from(w: &[u8], from: usize) -> Numeral
     requires { ⌜ from ≤ length (now w) ⌝ }
     ensures { λ r. ⌜ r ≡ numberFrom (drop from (now (w .entry))) ⌝ }

@@ -94,7 +94,7 @@ pub space-within : (l : List ℕ) (p : ℕ) → p ≤ length l → (p ≤ spaceF
 unfolding spaceFrom
 space-within l p h = omega (arith, unspaced-most (drop p l), length-drop p l)
 
--- the words behind the space at the front
+-- the words after the space at the front
 abbrev behind : List ℕ → List (List ℕ)
 behind [] = []
 behind (b ∷ bs) = wordsOf bs
@@ -119,7 +119,7 @@ behind-at l p h = elim (decLe (length l) p) [
   | no k ↦ rw (at-cons l p (omega arith), le-leb (p + 1) (length l) (omega arith))
 ]
 
--- the word at p, and the words behind it
+-- the word at p, and the words after it
 pub words-at : (l : List ℕ) (p : ℕ) → p ≤ length l → wordsAt l p ≡ take (spaceFrom l p - p) (drop p l) ∷ wordsAt l (spaceFrom l p + 1)
 unfolding spaceFrom
 words-at l p h =
@@ -150,7 +150,7 @@ pub names-short : (rows : List ℕ) (at n m : ℕ) → n ≡ suc m → length ro
 unfolding namesOf
 names-short rows at n m e h = rw (e, length-drop at rows, lt-ltb (length rows - at) 38 h)
 
--- the name at a place, and the names behind it
+-- the name at a place, and the names after it
 pub names-at : (rows : List ℕ) (at n m : ℕ) → n ≡ suc m → at + 38 ≤ length rows
     → namesOf n (drop at rows) ≡ take (min (getD rows at 0) 32) (drop (at + 6) rows) ∷ namesOf m (drop (at + 38) rows)
 unfolding namesOf nameOf
@@ -215,7 +215,7 @@ module _ (rows w : List ℕ) (n i at : ℕ) where
         let size : length v ≡ k = simp (length-take, length-drop) (omega arith) in
         find-other (same-length v w (λ q. d (sym size ∙ q)))
 
--- ---- a place behind the last word that is asked for
+-- ---- a place after the last word that is asked for
 
 pub not-yet : (k i : ℕ) → k ≤ i → (i ≡ k → ⊥) → k + 1 ≤ i
 not-yet k i h n = omega arith

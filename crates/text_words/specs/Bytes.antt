@@ -1,4 +1,4 @@
--- What a byte is, and a letter without its case. Document 01, "Bytes and words".
+-- What a byte is, and a letter without its case. RULES 2.
 use Prim.Native.Nat.{ℕ, _+_}
 use mathlib.Core.List.{List, [], _∷_}
 use mathlib.Core.Bool.{Bool, true, false, cond, _&&_, _||_}

@@ -1,4 +1,4 @@
--- The words that document 01 fixes, by its letter.
+-- The fixed words, listed as RULES 2, RULES 4 and RULES 6 list them.
 use Prim.Native.Nat.{ℕ}
 use mathlib.Core.List.{List, [], _∷_}
 use mathlib.Core.Bool.{Bool}

@@ -1,4 +1,4 @@
--- Words: equal without case, names, and the place of a word in a list of words.
+-- Words: equal without case, names, and the place of a word in a list of words. RULES 2.
 use Prim.Native.Nat.{ℕ, suc, _+_}
 use mathlib.Core.List.{List, [], _∷_}
 use mathlib.Core.Bool.{Bool, true, false, cond, _&&_, _||_}

@@ -1,4 +1,4 @@
-// The words that document 01 fixes: heads, flags, the words of refusal 11, and those that can't be declared.
+// The fixed words (RULES 2, RULES 4, RULES 6): heads, flags, the words of refusal 11, and those that can't be declared.
 use crate::spelling;
 use crate::spelling::Place;
 ghost use mathlib.Core.Path.{_≡_};

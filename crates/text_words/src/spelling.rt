@@ -50,7 +50,7 @@ fn is_small(b: u8) -> bool
     b <= b'z'
 }
 
-// Whether a byte may stand in a name, behind its first letter. Most are small letters or digits: these are tested first.
+// Whether a byte may stand in a name, after its first letter. Most are small letters or digits: these are tested first.
 fn is_name_byte(b: u8) -> bool
     ensures { λ r. ⌜ r ≡ nameByte b ⌝ }
 {
@@ -84,7 +84,7 @@ pub fn name_end(w: &[u8], from: usize) -> usize
     at
 }
 
-// Whether the bytes from `from` on are a name: `from` is 1 behind the mark of a variable or a keyword.
+// Whether the bytes from `from` on are a name: `from` is 1 after the mark of a variable or a keyword.
 pub fn is_name(w: &[u8], from: usize) -> bool
     ensures { λ r. ⌜ r ≡ isName (drop from (now (w .entry))) ⌝ }
 {
@@ -111,7 +111,7 @@ fn space_from(list: &[u8], from: usize) -> usize
     at
 }
 
-// Which word of a list it is. The list is written as document 01 writes it, with single spaces.
+// Which word of a list it is. The list is written as docs/RULES.md writes it, with single spaces.
 pub fn word_in(list: &[u8], w: &[u8]) -> Place
     ensures { λ r. ⌜ r ≡ wordIn (now (list .entry)) (now (w .entry)) ⌝ }
 {

@@ -13,7 +13,7 @@ use Rattle.plan_bytes.proofs.bytes.take_part.Tie as tie
 abbrev start : tie.After-lend → tie.Start
 start c = c .before .before .before .before .before .before .before .before .before
 
--- the points that wait, as they are lent, and behind the part
+-- the points that wait, as they are lent, and after the part
 abbrev lent : tie.After-lend → Queue
 lent c = queueIn (c .lend .last .1 .0) (c .lend .last .1 .1 .0) (start c .args .queue .count)
 

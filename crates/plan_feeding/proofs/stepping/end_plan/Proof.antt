@@ -45,14 +45,14 @@ rules c s = rulesIn (now (c .args .rows)) (goal c) (heads c) s
 abbrev reads : tie.Start → Reader Act Refused
 reads c = reader (knownIn (now (c .args .tables)) (c .args .counts) (now (c .args .heads)) (c .args .acting) (now (c .args .rows)))
 
--- the state before the last line, and behind it
+-- the state before the last line, and after it
 abbrev first : tie.Start → State
 first c = stateIn (now (c .args .facts)) (now (c .args .numbers))
 
 abbrev there : tie.After-take-line → State
 there c = stateIn (c .take-line .last .1 .1 .1 .1 .1 .0) (c .take-line .last .1 .1 .1 .1 .1 .1 .0)
 
--- the queue as it is lent, and behind the last line
+-- the queue as it is lent, and after the last line
 abbrev lent : tie.After-lend → Queue
 lent c = queueIn (c .lend .last .1 .0) (c .lend .last .1 .1 .0) (c .before .before .before .before .before .before .before .before .before .args .queue .count)
 
