@@ -9,7 +9,7 @@ use lib.Seq.{sets}
 use Rattle.domain_meaning.specs.Terms.{Arg, object, variable, Ref}
 use Rattle.domain_prepared_meaning.specs.Rows.{formBytes}
 
--- bytes were stored from `used` on, and u is the first place behind them
+-- bytes were stored from `used` on, and u is the first place after them
 pub record Stored (rows : List ℕ) (used : ℕ) (bytes rows′ : List ℕ) (u : ℕ) : Type 0 where
   pub are : rows′ ≡ sets rows used bytes
   pub free : u ≡ used + length bytes

@@ -89,7 +89,7 @@ module _ (R : Rules State Act Outcome) (k : Known) (s : State) (line : List ℕ)
           )
           (sym (feed-long R limits (reader k) _ _ _ (p .number) low j rest (take (p .used) line) more (omega (arith, so-far))))
 
-      -- a line that ends was taken: what is left behind its LF leads where all that was left led
+      -- a line that ends was taken: what is left after its LF leads where all that was left led
       pub held-line : (end : ℕ) → end ≡ lineEnd rest → end < length rest → p .used + end ≤ 256
           → (s′ : State) (line′ : List ℕ) (q′ : Queue) (p′ : PlanProgress)
           → checkIn s′ q′ p′ ≡ M.take R limits (checkIn s q p) (reader k .line (p .number) (p .start) (take (p .used) line ++ take end rest))

@@ -48,7 +48,7 @@ fn ground_of(tables: &[u8], off: usize, count: usize, n: usize, i: usize) -> Gro
     Ground { head, rest }
 }
 
-// The object that is the argument with `behind` more behind it: a digit in base n.
+// The object that is the argument with `behind` more after it: a digit in base n.
 fn argument(rest: usize, n: usize, behind: usize) -> usize
     ensures { λ r. ⌜ (0 < n → 0 < countOf n behind → r ≡ rest / countOf n behind % n) ⌝ }
 {
