@@ -48,11 +48,11 @@ fn ground_of(tables: &[u8], off: usize, count: usize, n: usize, i: usize) -> Gro
     Ground { head, rest }
 }
 
-// The object that is the argument with `behind` more after it: a digit in base n.
-fn argument(rest: usize, n: usize, behind: usize) -> usize
-    ensures { λ r. ⌜ (0 < n → 0 < countOf n behind → r ≡ rest / countOf n behind % n) ⌝ }
+// The object that is the argument with `later` more after it: a digit in base n.
+fn argument(rest: usize, n: usize, later: usize) -> usize
+    ensures { λ r. ⌜ (0 < n → 0 < countOf n later → r ≡ rest / countOf n later % n) ⌝ }
 {
-    let size = count_of(n, behind);
+    let size = count_of(n, later);
     if 0 < size {
         if 0 < n {
             return rest / size % n;
