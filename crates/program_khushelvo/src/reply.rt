@@ -4,7 +4,6 @@ use check_calls::Check;
 use domain_load::LoadAnswer;
 use program_arguments::arguments::Options;
 use program_arguments::files;
-use program_naming::state;
 use program_records::listing;
 use program_records::output;
 use text_tokens::runs;
@@ -34,6 +33,12 @@ pub fn refuse(options: Options, load: LoadAnswer) {
     write_line(options, told, &line);
 }
 
+fn list_facts(values: &[u8]) {
+    let mut out = [0u8; 4096];
+    let used = listing::facts(values, &mut out, 0);
+    output::flush(&out, used);
+}
+
 // The last facts, with names or as digits.
 fn write_facts(check: Check, named: bool) {
     let mut facts = [0u8; 16384];
@@ -43,13 +48,16 @@ fn write_facts(check: Check, named: bool) {
         return;
     };
     let values = runs::part_of(&facts, 0, n);
-    let counts = check.model.counts;
+    if named {
+        program_naming::write_facts(&check.model.tables, check.model.counts, values);
+        return;
+    }
+    list_facts(values);
+}
+
+fn list_numbers(values: &[i64], n: usize) {
     let mut out = [0u8; 4096];
-    let used = if named {
-        state::put_facts(&check.model.tables, counts, values, &mut out)
-    } else {
-        listing::facts(values, &mut out, 0)
-    };
+    let used = listing::numbers(values, n, &mut out, 0);
     output::flush(&out, used);
 }
 
@@ -61,14 +69,11 @@ fn write_numbers(check: Check, named: bool) {
     let Answer::Done(n) = answer else {
         return;
     };
-    let counts = check.model.counts;
-    let mut out = [0u8; 4096];
-    let used = if named {
-        state::put_numbers(&check.model.tables, counts, &numbers, n, &mut out)
-    } else {
-        listing::numbers(&numbers, n, &mut out, 0)
-    };
-    output::flush(&out, used);
+    if named {
+        program_naming::write_numbers(&check.model.tables, check.model.counts, &numbers, n);
+        return;
+    }
+    list_numbers(&numbers, n);
 }
 
 // The line of a finished check; then, unless the plan is refused, the facts and the numbers with `--state`, and the same with names with `--names`.
