@@ -1,4 +1,5 @@
 // A part that ends no line: its bytes are added to the line, and nothing else changes.
+use plan_bytes::bytes;
 use plan_feeding::PlanProgress;
 ghost use mathlib.Core.Path.{_≡_};
 ghost use mathlib.Core.Bool.{true};
@@ -12,7 +13,7 @@ pub struct Added {
     pub whole: bool,
 }
 
-// Adds the bytes of a part to a line, up to the first that ends the line or is refused.
+// Adds the bytes of a part to a line, if none of them ends the line or is refused.
 pub fn add_part(line: &mut [u8; 257], p: PlanProgress, part: &[u8]) -> Added
     requires { ⌜ length (now line) ≡ 257 ⌝ }
     ensures { λ r. ⌜
@@ -20,20 +21,18 @@ pub fn add_part(line: &mut [u8; 257], p: PlanProgress, part: &[u8]) -> Added
         × (r .whole ≡ true → Adds p (now (line .entry)) (now (part .entry)) (now (line .exit)) (r .used))
         ⌝ }
 {
-    let mut used = p.used;
+    let used = p.used;
     let refused = p.refused;
     if refused || 1000000 < p.number {
         return Added { used, whole: false };
     }
-    let mut i = 0;
-    while i < part.len() {
-        let b = part[i];
-        if b == b'\n' || 256 <= used {
-            return Added { used, whole: false };
-        }
-        line[used] = b;
-        used += 1;
-        i += 1;
+    let end = bytes::line_end(part);
+    if end < part.len() || 256 < used || 256 - used < end {
+        return Added { used, whole: false };
     }
-    Added { used, whole: true }
+    domain_rows::copy(line, used, part);
+    Added {
+        used: used + part.len(),
+        whole: true,
+    }
 }

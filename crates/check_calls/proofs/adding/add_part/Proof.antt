@@ -1,68 +1,65 @@
 -- `check_calls::adding::add_part` meets its contract. Assumes nothing.
-use Prim.Native.Nat.{_-_, _<_}
+use Prim.Native.Nat.{_-_, _≤_}
 use mathlib.Core.Bool.{false≢true}
-use mathlib.Core.Path.{refl}
+use mathlib.Core.Path.{ap, _∙_}
 use native.Mathlib.Omega.{arith}
+use denote.Ref.{now}
 use lib.ListN.{length}
+use lib.Seq.{length-sets}
 use borrow.Author.Needs.{needs}
-use borrow.Author.Tests.{ltb-false, leb-false}
-use Rattle.check_calls.proofs.Longer.{Added, added-none, added-more, added-all}
+use borrow.Author.Tests.{ltb-false}
+use Rattle.plan_bytes.specs.Ends.{lineEnd}
+use Rattle.check_calls.proofs.Longer.{added}
 use Rattle.check_calls.proofs.adding.add_part.Statement.{statement}
 use Rattle.check_calls.proofs.adding.add_part.Tie as tie
 
-abbrev Inv-loop : tie.InvT-loop
-Inv-loop line₀ part used₀ refused i₀ line used i = Added line₀ part used₀ line used i
+abbrev start : tie.Else5 → tie.Start
+start c = c .before .before .before .before .before .before .before .before
 
-abbrev μ-loop : tie.MeasureT-loop
-μ-loop line₀ part used₀ refused i₀ line used i = length part - i
+-- the part ends no line, and has room
+none-ends : (c : tie.Else5) → (let part = now (start c .args .part) in length part ≤ lineEnd part)
+none-ends c =
+    let e = c .before .before .before .line-end in
+    omega (arith, c .before .before .if3 .left, e .ensures)
 
--- the byte has a place
-room : (c : tie.Else4 Inv-loop μ-loop) → c .before .before .before .before .loop .used < 256
-room c = leb-false 256 (c .before .before .before .before .loop .used) (c .if4 .left)
+room : (c : tie.Else5) → lineEnd (now (start c .args .part)) ≤ 256 - start c .args .p .used
+room c =
+    let e = c .before .before .before .line-end in
+    omega (arith, ltb-false (256 - start c .args .p .used) (e .result) (c .if5 .left), e .ensures)
 
-returns : tie.Need-returns Inv-loop μ-loop
-returns c = (c .before .pre, λ e. absurd (false≢true e))
+few : (c : tie.Else5) → start c .args .p .used ≤ 256
+few c = ltb-false 256 (start c .args .p .used) (c .before .if4 .left)
 
-loop-holds : tie.Need-loop-holds Inv-loop μ-loop
-loop-holds c = added-none _ _ _ (c .before .before .before .pre)
+returns : tie.Need-returns
+returns c = (c .before .before .pre, λ e. absurd (false≢true e))
 
-shared-slice-read-b : tie.Need-shared-slice-read-b Inv-loop μ-loop
-shared-slice-read-b c = search needs
+line-end-requires : tie.Need-line-end-requires
+line-end-requires c κs = search needs
 
-returns-2 : tie.Need-returns-2 Inv-loop μ-loop
-returns-2 c = (c .before .before .before .loop .inv .long, λ e. absurd (false≢true e))
+sub-if5 : tie.Need-sub-if5
+sub-if5 c = search needs
 
-element-write-line : tie.Need-element-write-line Inv-loop μ-loop
-element-write-line c = omega (arith, room c)
+returns-2 : tie.Need-returns-2
+returns-2 c = (c .before .before .before .before .before .before .pre, λ e. absurd (false≢true e))
 
-add-used : tie.Need-add-used Inv-loop μ-loop
-add-used c = omega (arith, room c)
+copy-requires : tie.Need-copy-requires
+copy-requires c κs = omega (arith, none-ends (c .before), room (c .before), few (c .before), start (c .before) .pre)
 
-add-i : tie.Need-add-i Inv-loop μ-loop
-add-i c = search needs
+add-t17 : tie.Need-add-t17
+add-t17 c = omega (arith, none-ends (c .before .before), room (c .before .before), few (c .before .before))
 
-loop-less : tie.Need-loop-less Inv-loop μ-loop
-loop-less c = omega (arith, c .before .before .before .loop-test .taken)
-
-loop-again : tie.Need-loop-again Inv-loop μ-loop
-loop-again c = added-more _ _ _ _ _ _ (c .before .before .before .before .loop .inv) (c .before .before .before .loop-test .taken) (c .before .if3 .left) (room c)
-
-returns-3 : tie.Need-returns-3 Inv-loop μ-loop
-returns-3 c = (c .before .loop .inv .long, λ _. added-all _ _ _ _ _ _ (c .before .loop .inv) (c .loop-test .left) (c .before .before .before .before .before .args .p) (c .before .before .before .before .if1 .left) (ltb-false _ _ (c .before .before .if2 .left)) refl)
+returns-3 : tie.Need-returns-3
+returns-3 c =
+    let k = c .before .before in
+    let s = start k in
+    let a = s .args in
+    let low = ltb-false 1000000 (a .p .number) (k .before .before .before .before .if2 .left) in (
+      ap length (c .copy .ensures) ∙ length-sets (now (a .line)) (a .p .used) (now (a .part)) ∙ s .pre,
+      λ _. added (a .p) (now (a .line)) (now (a .part)) (c .copy .last .0) (k .before .before .before .before .before .before .if1 .left) low (few k) (s .pre)
+          (none-ends k) (room k) (c .copy .ensures),
+    )
 
 pub add-part-spec : {M : Type 1} → statement M
 add-part-spec =
     tie.close
-    (tie.spec
-    Inv-loop
-    μ-loop
-    returns
-    loop-holds
-    shared-slice-read-b
-    returns-2
-    element-write-line
-    add-used
-    add-i
-    loop-less
-    loop-again
-    returns-3)
+    (tie.spec returns line-end-requires sub-if5 returns-2 copy-requires add-t17 returns-3)
