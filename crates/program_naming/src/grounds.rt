@@ -4,7 +4,7 @@ use domain_rows::layout;
 use program_records::output;
 ghost use mathlib.Core.Path.{_≡_};
 ghost use Prim.Native.Nat.{_+_, _/_, _%_, _<_};
-ghost use Rattle.program_naming.specs.Grounds.{countOf, firstIn};
+ghost use Rattle.program_naming.specs.Grounds.{arityIn, countOf, firstIn};
 
 // A predicate or function, by its number, and an index among its own.
 pub struct Ground {
@@ -33,7 +33,8 @@ fn count_of(n: usize, k: usize) -> usize
 
 // Index i, with n objects, among those of the table from `off` on, which has `count` names.
 fn ground_of(tables: &[u8], off: usize, count: usize, n: usize, i: usize) -> Ground
-    ensures { λ r. ⌜ firstIn (now (tables .entry)) off n (r .head) + r .rest ≡ i ⌝ }
+    ensures { λ r. ⌜ (firstIn (now (tables .entry)) off n (r .head) + r .rest ≡ i)
+        × (r .head < count → r .rest < countOf n (arityIn (now (tables .entry)) off (r .head))) ⌝ }
 {
     let mut head = 0;
     let mut rest = i;

@@ -1,10 +1,10 @@
 -- `program_naming::grounds::ground_of` meets its contract. Assumes nothing.
-use mathlib.Core.Path.{_≡_, refl}
+use mathlib.Core.Path.{_≡_}
 use Prim.Native.Nat.{_+_, _-_}
 use native.Mathlib.Numerals.{add-one}
 use native.Mathlib.Omega.{arith}
 use borrow.Author.Needs.{needs}
-use Rattle.program_naming.specs.Grounds.{firstIn, countOf, arityIn}
+use Rattle.program_naming.specs.Grounds.{firstIn}
 use Rattle.program_naming.proofs.grounds.ground_of.Statement.{statement}
 use Rattle.program_naming.proofs.grounds.ground_of.Tie as tie
 
@@ -25,7 +25,7 @@ count-of-requires : tie.Need-count-of-requires Inv-loop μ-loop
 count-of-requires c κs = search needs
 
 returns : tie.Need-returns Inv-loop μ-loop
-returns c = search needs
+returns c = (c .before .before .before .before .loop .inv, λ h. rw (← c .before .before .arity .ensures, ← c .before .count-of .ensures) (c .if1 .taken))
 
 add-head : tie.Need-add-head Inv-loop μ-loop
 add-head c = search needs
@@ -38,7 +38,7 @@ unfolding firstIn
 loop-again c = rw (add-one, ← c .before .before .arity .ensures, ← c .before .count-of .ensures) (omega arith)
 
 returns-2 : tie.Need-returns-2 Inv-loop μ-loop
-returns-2 c = search needs
+returns-2 c = (c .before .loop .inv, λ h. omega arith)
 
 pub ground-of-spec : {M : Type 1} → statement M
 ground-of-spec =
