@@ -10,7 +10,7 @@ use Rattle.domain_meaning.specs.Actions.{Action}
 use Rattle.domain_rows.specs.Held.{byteAt}
 use Rattle.domain_stored_meaning.proofs.Standing.{Stands, stored, head-is}
 use Rattle.domain_prepared_meaning.specs.Rows.{placesFrom, actionBytes, allPlaces}
-use Rattle.domain_preparing.proofs.Storing.{sets-before}
+use Rattle.domain_forms.proofs.Storing.{sets-before}
 
 -- each action has six places of two bytes
 pub places-long : (n : ℕ) (ps fs : List ℕ) (u : ℕ) (as′ : List Action) → length (allPlaces n ps fs u as′) ≡ 12 * length as′
