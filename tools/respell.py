@@ -18,6 +18,7 @@ TOKEN = re.compile(r"--[^\n]*|\"(?:[^\"\\]|\\.)*\"|" + PART + "+")
 SOURCE = re.compile(r"//[^\n]*|b?\"(?:[^\"\\]|\\.)*\"|b?'(?:[^'\\\n]|\\.)'|" + PART + "+")
 QUOTED = re.compile(r"`([^`\n]+)`")
 IMPORT = re.compile(r"^(?:ghost )?(?:pub )?use ([^\s.;]+)((?:\.[^\s.{};]+)*)\.\{([^}]*)\}", re.M)
+ALIAS = re.compile(r"^(?:pub )?use \S+ as (\S+)$", re.M)
 FACTS = {"amountAnswer": "AmountAnswer", "Found-by": "FoundBy", "Add-up": "AddUp", "Done-so": "DoneSo"}
 # names that are bound, and not declared
 BOUND = {"factCount": "fact_count", "numberCount": "number_count"}
@@ -42,6 +43,20 @@ def declared(text):
     return [it[1] for it in map(DECLARED.match, text.split("\n")) if it]
 
 
+def fields(text):
+    """The names that a file declares as fields of a record."""
+    found, depth = [], None
+    for line in re.sub(r"--[^\n]*", "", text).split("\n"):
+        indent = len(line) - len(line.lstrip())
+        if re.match(r"\s*(?:(?:abbrev|unfoldable|pub)\s+)*record\s", line):
+            depth = indent
+        elif line.strip() and depth is not None and indent <= depth:
+            depth = None
+        if depth is not None and indent > depth and (it := DECLARED.match(line)):
+            found.append(it[1])
+    return found
+
+
 def snake(name):
     if name in FACTS:
         return FACTS[name]
@@ -53,10 +68,15 @@ def snake(name):
 
 def table(root):
     where = collections.defaultdict(set)
+    labels = set()
     for path in files(root, ".antt"):
         if os.path.basename(path) != "Proof.antt":
-            for name in declared(read(path)):
+            text = read(path)
+            labels.update(fields(text))
+            for name in declared(text):
                 where[name].add(path)
+    # a field may have the name of a definition
+    labels = {it for it in labels if not any(it in set(declared(read(p))) - set(fields(read(p))) for p in where[it])}
     spelled = collections.defaultdict(set)
     for name in where:
         spelled[snake(name)].add(name)
@@ -68,7 +88,7 @@ def table(root):
         if len(first) > 1:
             sys.exit(f"two definitions would have the name {new}: {first}")
         for old in olds:
-            out[old] = new if old == first[0] else new + "_lem"
+            out[old] = new if old == first[0] or old in labels else new + "_lem"
     return BOUND | FACTS | {old: new for old, new in out.items() if old != new}, set(where)
 
 
@@ -82,9 +102,14 @@ def imported(text, crates):
     return names
 
 
-def turned(text, names, kept, token):
+def turned(text, names, kept, token, walk):
     def word(it):
         found = it[0]
+        if walk is not None and it.string[it.start() - 1 : it.start()] == "." and re.fullmatch(r"[a-z0-9_-]+", found):
+            # a step of the code, unless a module stands before the dot
+            before = re.search("(" + PART + r"+)\.$", it.string[: it.start()])
+            if not before or before[1] not in walk:
+                return found
         if found.startswith("--") or found.startswith("//"):
             return QUOTED.sub(lambda q: "`" + token.sub(word, q[1]) + "`", found)
         return names.get(found, found) if found not in kept else found
@@ -106,11 +131,14 @@ def main(root):
         for path in files(root, end):
             text = read(path)
             kept = imported(text, crates)
+            if end == ".rt":
+                # a name of the source keeps its spelling: a clause cites definitions alone, and no name of the source has a capital or a dash inside
+                kept |= {it for it in names if re.fullmatch(r"[a-z0-9_]+", it)}
             if os.path.basename(path) == "Proof.antt":
                 kept |= set(declared(text))
             for clash in clashes(path, text, names, kept, token):
                 print(f"look: {path}: {clash}")
-            new = turned(text, names, kept, token)
+            new = turned(text, names, kept, token, set(ALIAS.findall(text)) if os.path.basename(path) == "Proof.antt" else None)
             if new != text:
                 with open(path, "w", encoding="utf-8") as it:
                     it.write(new)

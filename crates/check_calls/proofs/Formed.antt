@@ -30,8 +30,8 @@ pub record Sizes (counts : Counts) (acting fact_count number_count : ℕ) : Type
   pub types : counts.types ≤ 17
   pub objects : counts.objects ≤ 64
   pub actions : acting ≤ 32
-  pub few_facts_lem : fact_count ≤ 16384
-  pub few_numbers_lem : number_count ≤ 1024
+  pub few_facts : fact_count ≤ 16384
+  pub few_numbers : number_count ≤ 1024
 
 pub record Formed (p : PlanProgress) (counts : Counts) (acting fact_count number_count : ℕ) (q : Queue) : Type 0 where
   pub counters : Counters p
@@ -119,8 +119,8 @@ sizes_parts counts acting fact_count number_count h =
       types = leb-true counts.types 17 (and_left a b ab);
       objects = leb-true counts.objects 64 (and_right a b ab);
       actions = leb-true acting 32 (and_right (a && b) c abc);
-      few_facts_lem = leb-true fact_count 16384 (and_right (a && b && c) d abcd);
-      few_numbers_lem = leb-true number_count 1024 (and_right (a && b && c && d) e h);
+      few_facts = leb-true fact_count 16384 (and_right (a && b && c) d abcd);
+      few_numbers = leb-true number_count 1024 (and_right (a && b && c && d) e h);
     }
 
 -- ---- from the parts
@@ -151,8 +151,8 @@ sizes_of_lem counts acting fact_count number_count h =
       le-leb counts.types 17 h.types,
       le-leb counts.objects 64 h.objects,
       le-leb acting 32 h.actions,
-      le-leb fact_count 16384 h.few_facts_lem,
-      le-leb number_count 1024 h.few_numbers_lem,
+      le-leb fact_count 16384 h.few_facts,
+      le-leb number_count 1024 h.few_numbers,
     )
 
 -- ---- the whole

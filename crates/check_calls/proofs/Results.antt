@@ -50,10 +50,10 @@ module _ (c : Check) (good : well_formed c ≡ true) where
   parts = formed_parts c.progress c.model.counts c.model.acting c.model.sizes.facts c.model.sizes.numbers c.queue good
 
   pub few_facts : length c.facts ≡ 16384 → c.model.sizes.facts ≤ length c.facts
-  few_facts h = omega (arith, h, parts.sizes.few_facts_lem)
+  few_facts h = omega (arith, h, parts.sizes.few_facts)
 
   pub few_numbers : length c.numbers ≡ 1024 → c.model.sizes.numbers ≤ length c.numbers
-  few_numbers h = omega (arith, h, parts.sizes.few_numbers_lem)
+  few_numbers h = omega (arith, h, parts.sizes.few_numbers)
 
 module _ {X : Type 0} (c : Check) (out : List X) (least : ℕ) (w : List X) (good : well_formed c ≡ true) (f : c.finished ≡ true)
     (r : c.progress.refused ≡ false) where

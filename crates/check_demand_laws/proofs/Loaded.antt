@@ -47,8 +47,8 @@ module _ (s t : List ℕ) (d : Domain) (p : Problem) (m n : ℕ) (e : read_domai
         types = h.domain.types.few;
         objects = h.problem.objects.few;
         actions = omega (arith, h.domain.heads.few, length-map d.actions (λ a. a.declared));
-        few_facts_lem = g.0;
-        few_numbers_lem = g.1;
+        few_facts = g.0;
+        few_numbers = g.1;
       }
 
   pub loaded_open : Open loaded

@@ -95,7 +95,7 @@ fn reads_any<'a>(
             }
             written::Row::Fact(_, v, next) => {
                 let x = happening_forms::index(rows, objects, j, at + 1, v);
-                if reads_fact_lem(rows, points, objects, i, x) {
+                if reads_fact(rows, points, objects, i, x) {
                     return true;
                 }
                 at = next;

@@ -32,7 +32,7 @@ pub enum Limit {
 }
 
 // At a name or an operator that is in no expression.
-fn by_name_lem(field: Field) -> Limit
+fn by_name(field: Field) -> Limit
     ensures { result ≡ by_name field }
 {
     match field {
@@ -73,7 +73,7 @@ fn by_head(field: Field, calculates: bool) -> Limit
     if calculates {
         return Limit::Expression;
     }
-    by_name_lem(field)
+    by_name(field)
 }
 
 // At a keyword: facts and ground numbers are counted at the same one.

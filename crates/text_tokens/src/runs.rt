@@ -13,7 +13,7 @@ pub enum Gap {
     Token,
 }
 
-fn gap_step_lem(comment: bool, b: u8) -> Gap
+fn gap_step(comment: bool, b: u8) -> Gap
     ensures { result ≡ gap_step comment b }
 {
     if comment {
@@ -41,7 +41,7 @@ pub fn gap_end(text: &[u8], from: usize) -> usize
     let mut at = from;
     let mut comment = false;
     while at < text.len() {
-        match gap_step_lem(comment, text[at]) {
+        match gap_step(comment, text[at]) {
             Gap::Plain => comment = false,
             Gap::Comment => comment = true,
             Gap::Token => return at,

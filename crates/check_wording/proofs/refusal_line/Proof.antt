@@ -27,7 +27,7 @@ same_length c = search rules
 
 returns : tie.Need-returns
 unfolding bytes
-returns c = let c2 = c.before.before in let c6 = c2.before.before.before.before in refusal_put _ _ _ _ _ c6.before.before.before.before.before.before.before.before.put_word.ensures c6.before.before.before.before.put-word2.ensures c6.put-spaced.ensures c2.put_end.ensures
+returns c = let c2 = c.before.before in let c6 = c2.before.before.before.before in refusal_put _ _ _ _ _ c6.before.before.before.before.before.before.before.before.put_word.ensures c6.before.before.before.before.put-word2.ensures c6.put-spaced.ensures c2.put-end.ensures
 
 pub refusal-line-spec : {M : Type 1} → statement M
 refusal-line-spec =

@@ -27,7 +27,7 @@ same_length : tie.Need-same-length
 same_length c = search rules
 
 returns : tie.Need-returns
-returns c = let c2 = c.before.before in let c4 = c2.before.before in let c8 = c4.before.before.before.before in verdict_put _ _ _ c8.before.before.before.before.before.before.before.before.put-verdict.ensures c8.before.before.before.before.put_byte.ensures c8.put-time.ensures (rw (c4.line_of.ensures, c2.before.second-of.ensures) at c2.put_end.ensures)
+returns c = let c2 = c.before.before in let c4 = c2.before.before in let c8 = c4.before.before.before.before in verdict_put _ _ _ c8.before.before.before.before.before.before.before.before.put-verdict.ensures c8.before.before.before.before.put_byte.ensures c8.put-time.ensures (rw (c4.line_of.ensures, c2.before.second-of.ensures) at c2.put-end.ensures)
 
 pub verdict-line-spec : {M : Type 1} → statement M
 verdict-line-spec =

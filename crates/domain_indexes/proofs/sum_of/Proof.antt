@@ -10,7 +10,7 @@ first-of-requires : tie.Need-first-of-requires
 first-of-requires c κs = search rules
 
 returns : tie.Need-returns
-returns c = λ m to t h g. c.first_of_lem.ensures.0 m to t h g ∙ rw h.count (first_all _ t)
+returns c = λ m to t h g. c.first-of.ensures.0 m to t h g ∙ rw h.count (first_all _ t)
 
 pub sum-of-spec : {M : Type 1} → statement M
 sum-of-spec = tie.close (tie.spec first-of-requires returns)

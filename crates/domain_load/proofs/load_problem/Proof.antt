@@ -76,7 +76,7 @@ returns : tie.Need-returns
 returns c = λ d k. no_problem c.before.before.before.before.before.before.before.before.before.before.before.before.before.before.before.before.before.before.before.args.problem.now d _ c.before.before.before.before.before.before.before.before.problem-at.result _ _ _ _ _ (c.before.before.before.before.before.before.before.before.problem-at.ensures d k.scope k.named) _ _ _ c.before.before.p.given.1 c.fixed.ensures
 
 returns-2 : tie.Need-returns-2
-returns-2 c = λ d k. let u = understands c.before.before.before.before.before.before.before.before.before.before.before.before.before.before.before.before.before.before.before.before.before.before.before.before.before.before.before.before.before.before.before.args.problem.now d _ c.before.before.before.before.before.before.before.before.before.before.before.before.before.before.before.before.before.before.before.before.problem-at.result _ _ _ _ _ (c.before.before.before.before.before.before.before.before.before.before.before.before.before.before.before.before.before.before.before.before.problem-at.ensures d k.scope k.named) _ _ c.before.before.before.before.before.before.before.before.before.before.before.before.before.before.p2.given.1 in both_read c.before.before.before.before.before.before.before.before.before.before.before.before.before.before.before.before.before.before.before.before.before.before.before.before.before.before.before.before.before.before.before.args.problem.now c.before.before.before.before.before.before.before.before.before.before.before.before.before.before.before.before.before.before.before.before.before.before.before.before.before.before.before.before.before.before.before.args.name.now c.before.before.before.before.before.before.before.before.before.before.before.before.before.before.before.before.before.before.before.before.before.before.before.before.before.before.before.before.before.before.before.args.code.now c.before.before.before.before.before.before.before.before.before.before.before.before.before.before.before.before.before.before.before.before.before.before.before.before.before.before.before.before.before.before.before.args.starts.now d c.before.before.before.before.before.before.before.before.before.before.before.before.before.before.before.before.before.before.before.before.before.before.before.before.before.before.before.before.before.before.before.args.model k u.problem _ u.is _ _ _ _ _ _ _ _ u.objects u.scope u.long u.aimed (rows_prepared (length u.problem.objects) d.predicates d.functions _ (c.before.before.before.before.before.before.before.before.before.before.before.firsts-of.ensures (scope_of d u.problem.objects) u.scope) _ _ (c.before.before.before.before.before.before.prepare.ensures (declarations d.actions) (declared_acting d c.before.before.before.before.before.before.before.before.before.before.before.before.before.before.before.before.before.before.before.before.before.before.before.before.before.before.before.before.before.before.before.args.name.now c.before.before.before.before.before.before.before.before.before.before.before.before.before.before.before.before.before.before.before.before.before.before.before.before.before.before.before.before.before.before.before.args.code.now c.before.before.before.before.before.before.before.before.before.before.before.before.before.before.before.before.before.before.before.before.before.before.before.before.before.before.before.before.before.before.before.args.starts.now c.before.before.before.before.before.before.before.before.before.before.before.before.before.before.before.before.before.before.before.before.before.before.before.before.before.before.before.before.before.before.before.args.model k))) (goal_prepared (length u.problem.objects) d.predicates d.functions _ (c.before.before.before.before.before.before.before.before.before.before.before.firsts-of.ensures (scope_of d u.problem.objects) u.scope) _ _ c.before.prepare-goal.ensures) (c.before.before.before.before.before.before.before.before.before.sizes_of_lem.ensures (scope_of d u.problem.objects) u.scope) u.facted u.numbered
+returns-2 c = λ d k. let u = understands c.before.before.before.before.before.before.before.before.before.before.before.before.before.before.before.before.before.before.before.before.before.before.before.before.before.before.before.before.before.before.before.args.problem.now d _ c.before.before.before.before.before.before.before.before.before.before.before.before.before.before.before.before.before.before.before.before.problem-at.result _ _ _ _ _ (c.before.before.before.before.before.before.before.before.before.before.before.before.before.before.before.before.before.before.before.before.problem-at.ensures d k.scope k.named) _ _ c.before.before.before.before.before.before.before.before.before.before.before.before.before.before.p2.given.1 in both_read c.before.before.before.before.before.before.before.before.before.before.before.before.before.before.before.before.before.before.before.before.before.before.before.before.before.before.before.before.before.before.before.args.problem.now c.before.before.before.before.before.before.before.before.before.before.before.before.before.before.before.before.before.before.before.before.before.before.before.before.before.before.before.before.before.before.before.args.name.now c.before.before.before.before.before.before.before.before.before.before.before.before.before.before.before.before.before.before.before.before.before.before.before.before.before.before.before.before.before.before.before.args.code.now c.before.before.before.before.before.before.before.before.before.before.before.before.before.before.before.before.before.before.before.before.before.before.before.before.before.before.before.before.before.before.before.args.starts.now d c.before.before.before.before.before.before.before.before.before.before.before.before.before.before.before.before.before.before.before.before.before.before.before.before.before.before.before.before.before.before.before.args.model k u.problem _ u.is _ _ _ _ _ _ _ _ u.objects u.scope u.long u.aimed (rows_prepared (length u.problem.objects) d.predicates d.functions _ (c.before.before.before.before.before.before.before.before.before.before.before.firsts-of.ensures (scope_of d u.problem.objects) u.scope) _ _ (c.before.before.before.before.before.before.prepare.ensures (declarations d.actions) (declared_acting d c.before.before.before.before.before.before.before.before.before.before.before.before.before.before.before.before.before.before.before.before.before.before.before.before.before.before.before.before.before.before.before.args.name.now c.before.before.before.before.before.before.before.before.before.before.before.before.before.before.before.before.before.before.before.before.before.before.before.before.before.before.before.before.before.before.before.args.code.now c.before.before.before.before.before.before.before.before.before.before.before.before.before.before.before.before.before.before.before.before.before.before.before.before.before.before.before.before.before.before.before.args.starts.now c.before.before.before.before.before.before.before.before.before.before.before.before.before.before.before.before.before.before.before.before.before.before.before.before.before.before.before.before.before.before.before.args.model k))) (goal_prepared (length u.problem.objects) d.predicates d.functions _ (c.before.before.before.before.before.before.before.before.before.before.before.firsts-of.ensures (scope_of d u.problem.objects) u.scope) _ _ c.before.prepare-goal.ensures) (c.before.before.before.before.before.before.before.before.before.sizes-of.ensures (scope_of d u.problem.objects) u.scope) u.facted u.numbered
 
 pub load-problem-spec : {M : Type 1} → statement M
 load-problem-spec =

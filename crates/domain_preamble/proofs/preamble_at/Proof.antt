@@ -36,7 +36,7 @@ enum-known-k-2 c = search rules
 
 returns : tie.Need-returns
 unfolding bytes
-returns c = let c3 = c.before.before.before in flags_refused _ _ _ _ _ _ _ _ _ c3.before.before.before.before.heading-at.ensures.0 c3.before.before.behind.given.1 c3.flags_section_lem.ensures.0 c.before.k2.given.1
+returns c = let c3 = c.before.before.before in flags_refused _ _ _ _ _ _ _ _ _ c3.before.before.before.before.heading-at.ensures.0 c3.before.before.behind.given.1 c3.flags-section.ensures.0 c.before.k2.given.1
 
 slice-aggregate-tables-at : tie.Need-slice-aggregate-tables-at
 slice-aggregate-tables-at c = search rules
@@ -52,7 +52,7 @@ slice-aggregate-tables-at-4 c = search rules
 
 tables-at-requires : tie.Need-tables-at-requires
 unfolding rows_of padded
-tables-at-requires c κs = let b = onwards_done _ _ _ _ _ c.before.before.before.before.before.from.given.1 c.before.before.before.before.before.before.before.flags_section_lem.ensures.1 in (b.1, refl, refl, refl, refl)
+tables-at-requires c κs = let b = onwards_done _ _ _ _ _ c.before.before.before.before.before.from.given.1 c.before.before.before.before.before.before.before.flags-section.ensures.1 in (b.1, refl, refl, refl, refl)
 
 slice-aggregate-store : tie.Need-slice-aggregate-store
 slice-aggregate-store c = search rules
@@ -78,7 +78,7 @@ same_length c = search rules
 
 returns-3 : tie.Need-returns-3
 unfolding bytes
-returns-3 c = let c2 = c.before.before in let c12 = c2.before.before.before.before.before.before.before.before.before.before in let c18 = c12.before.before.before.before.before.before in let c20 = c18.before.before in let b = onwards_done _ _ _ _ _ c18.from.given.1 c20.flags_section_lem.ensures.1 in declares _ _ _ _ _ _ _ _ _ _ _ _ _ c20.before.before.before.before.before.before.before.before.requires c2.store.ensures _ c20.before.before.before.before.heading-at.ensures.0 c20.before.before.behind.given.1 (answer_done _ _ _ (sym c20.flags_section_lem.ensures.0 ∙ c18.from.given.1)) b.0 c12.tables-at.ensures
+returns-3 c = let c2 = c.before.before in let c12 = c2.before.before.before.before.before.before.before.before.before.before in let c18 = c12.before.before.before.before.before.before in let c20 = c18.before.before in let b = onwards_done _ _ _ _ _ c18.from.given.1 c20.flags-section.ensures.1 in declares _ _ _ _ _ _ _ _ _ _ _ _ _ c20.before.before.before.before.before.before.before.before.requires c2.store.ensures _ c20.before.before.before.before.heading-at.ensures.0 c20.before.before.behind.given.1 (answer_done _ _ _ (sym c20.flags-section.ensures.0 ∙ c18.from.given.1)) b.0 c12.tables-at.ensures
 
 pub preamble-at-spec : {M : Type 1} → statement M
 preamble-at-spec =

@@ -31,7 +31,7 @@ returns : tie.Need-returns
 returns c = rw c.before.enum_told.given.1 c.by-sum.ensures
 
 returns-2 : tie.Need-returns-2
-returns-2 c = rw c.before.enum-told2.given.1 c.by_variable_lem.ensures
+returns-2 c = rw c.before.enum-told2.given.1 c.by-variable.ensures
 
 returns-3 : tie.Need-returns-3
 returns-3 c = rw c.before.enum-told3.given.1 c.by-head.ensures

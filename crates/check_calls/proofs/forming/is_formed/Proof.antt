@@ -26,7 +26,7 @@ returns c =
       sym c.before.before.before.before.before.before.answers-fit.ensures ∙ c.before.before.before.before.before.if2.true,
       sym c.before.before.before.before.sizes-fit.ensures ∙ c.before.before.before.if3.true,
       le-leb c.before.before.before.before.before.before.before.before.before.args.queue.count 64 c.before.if4.true,
-    ) c.slots_fit_lem.ensures
+    ) c.slots-fit.ensures
 
 returns-2 : tie.Need-returns-2
 unfolding formed

@@ -40,10 +40,10 @@ same-length-3 : tie.Need-same-length-3 invariant-loop decreases-loop
 same-length-3 c = c.before.before.before.loop.invariant.6
 
 returns : tie.Need-returns invariant-loop decreases-loop
-returns c = let c2 = c.before.before in (λ x k h e. onward_last _ x k _ _ _ _ _ _ _ _ _ (c2.before.loop.invariant.3 x k h e) _ c.enum_told.given.1 (c2.begun_at.ensures.0 ((c2.before.loop.invariant.3 x k h e).fuel - 1) x (c2.before.loop.invariant.3 x k h e).before) (omega (arith, c2.before.loop.invariant.1, c2.before.loop.invariant.2)), later_by _ _ _ _ c2.before.loop.invariant.0 c2.before.loop.invariant.1)
+returns c = let c2 = c.before.before in (λ x k h e. onward_last _ x k _ _ _ _ _ _ _ _ _ (c2.before.loop.invariant.3 x k h e) _ c.enum_told.given.1 (c2.begun-at.ensures.0 ((c2.before.loop.invariant.3 x k h e).fuel - 1) x (c2.before.loop.invariant.3 x k h e).before) (omega (arith, c2.before.loop.invariant.1, c2.before.loop.invariant.2)), later_by _ _ _ _ c2.before.loop.invariant.0 c2.before.loop.invariant.1)
 
 action-at-requires : tie.Need-action-at-requires invariant-loop decreases-loop
-action-at-requires c κs = let c4 = c.before.before.before.before in let c6 = c4.before.before in let c13 = c6.before.before.before.before.before.before.before in let f = further_at _ _ _ _ _ c4.b.given.1 c6.begun_at.ensures.1 in let o = c6.before.loop.invariant.3 c13.requires.2.0 (length c13.args.text.now + 1) c13.requires.2.1 (omega arith) in (f.1, c13.requires.2, c13.requires.3, (declarations o.before, o.rowed), omega (arith, f.0, f.1, c6.before.loop.invariant.2))
+action-at-requires c κs = let c4 = c.before.before.before.before in let c6 = c4.before.before in let c13 = c6.before.before.before.before.before.before.before in let f = further_at _ _ _ _ _ c4.b.given.1 c6.begun-at.ensures.1 in let o = c6.before.loop.invariant.3 c13.requires.2.0 (length c13.args.text.now + 1) c13.requires.2.1 (omega arith) in (f.1, c13.requires.2, c13.requires.3, (declarations o.before, o.rowed), omega (arith, f.0, f.1, c6.before.loop.invariant.2))
 
 enum-known-a : tie.Need-enum-known-a invariant-loop decreases-loop
 enum-known-a c = c.match2.keys1
@@ -61,16 +61,16 @@ same-length-6 : tie.Need-same-length-6 invariant-loop decreases-loop
 same-length-6 c = c.before.before.before.starts.given ∙ c.before.before.before.before.before.before.before.before.before.before.before.before.before.before.before.before.loop.invariant.6
 
 returns-2 : tie.Need-returns-2 invariant-loop decreases-loop
-returns-2 c = let c8 = c.before.before.before.before.before.before.before.before in let c13 = c8.before.before.before.before.before in let c15 = c13.before.before in (λ x k h e. onward_refused _ x k _ _ _ _ _ _ _ _ _ (c15.before.loop.invariant.3 x k h e) _ _ _ c13.b.given.1 (c15.begun_at.ensures.0 ((c15.before.loop.invariant.3 x k h e).fuel - 1) x (c15.before.loop.invariant.3 x k h e).before) _ _ _ _ (c8.action_at_lem.ensures.0 x (c15.before.loop.invariant.3 x k h e).before h (c15.before.loop.invariant.3 x k h e).rowed) _ _ c.enum-told2.given.1, later_refused _ _ _ _ _ c.enum-told2.given.1)
+returns-2 c = let c8 = c.before.before.before.before.before.before.before.before in let c13 = c8.before.before.before.before.before in let c15 = c13.before.before in (λ x k h e. onward_refused _ x k _ _ _ _ _ _ _ _ _ (c15.before.loop.invariant.3 x k h e) _ _ _ c13.b.given.1 (c15.begun-at.ensures.0 ((c15.before.loop.invariant.3 x k h e).fuel - 1) x (c15.before.loop.invariant.3 x k h e).before) _ _ _ _ (c8.action-at.ensures.0 x (c15.before.loop.invariant.3 x k h e).before h (c15.before.loop.invariant.3 x k h e).rowed) _ _ c.enum-told2.given.1, later_refused _ _ _ _ _ c.enum-told2.given.1)
 
 add-n : tie.Need-overflow-add-n invariant-loop decreases-loop
 add-n c = let c17 = c.before.before.before.before.before.before.before.before.before.before.before.before.before.before.before.before.before in let c23 = c17.before.before.before.before.before.before in let o = c17.loop.invariant.3 c23.requires.2.0 (length c23.args.text.now + 1) c23.requires.2.1 (omega arith) in omega (arith, o.rowed.fits)
 
 loop-less : tie.Need-loop-smaller invariant-loop decreases-loop
-loop-less c = let c9 = c.before.before.before.before.before.before.before.before.before in let f = further_at _ _ _ _ _ c9.before.before.before.before.before.b.given.1 c9.before.before.before.before.before.before.before.begun_at.ensures.1 in let z = ended_at 0 _ _ _ _ _ _ c.before.a.given.1 c9.action_at_lem.ensures.1 in omega (arith, f.0, z.0, z.1)
+loop-less c = let c9 = c.before.before.before.before.before.before.before.before.before in let f = further_at _ _ _ _ _ c9.before.before.before.before.before.b.given.1 c9.before.before.before.before.before.before.before.begun-at.ensures.1 in let z = ended_at 0 _ _ _ _ _ _ c.before.a.given.1 c9.action-at.ensures.1 in omega (arith, f.0, z.0, z.1)
 
 loop-again : tie.Need-loop-preserved invariant-loop decreases-loop
-loop-again c = let c1 = c.before in let c4 = c1.before.before.before in let c6 = c4.before.before in let c8 = c6.before.before in let c9 = c8.before in let c14 = c9.before.before.before.before.before in let c16 = c14.before.before in let c17 = c16.before in let f = further_at _ _ _ _ _ c14.b.given.1 c16.begun_at.ensures.1 in let z = ended_at 0 _ _ _ _ _ _ c1.a.given.1 c9.action_at_lem.ensures.1 in (omega (arith, f.0, z.0, c17.loop.invariant.0), z.1, omega (arith, f.0, z.0, z.3, c17.loop.invariant.2), λ x k h e. onward_more _ x k _ _ _ _ _ _ _ _ _ (c17.loop.invariant.3 x k h e) _ _ _ c14.b.given.1 (c16.begun_at.ensures.0 ((c17.loop.invariant.3 x k h e).fuel - 1) x (c17.loop.invariant.3 x k h e).before) _ _ _ _ (c9.action_at_lem.ensures.0 x (c17.loop.invariant.3 x k h e).before h (c17.loop.invariant.3 x k h e).rowed) _ _ c1.a.given.1 (omega (arith, f.0, z.0)) z.1, c8.rows.given ∙ c17.loop.invariant.4, c6.code.given ∙ c17.loop.invariant.5, c4.starts.given ∙ c17.loop.invariant.6)
+loop-again c = let c1 = c.before in let c4 = c1.before.before.before in let c6 = c4.before.before in let c8 = c6.before.before in let c9 = c8.before in let c14 = c9.before.before.before.before.before in let c16 = c14.before.before in let c17 = c16.before in let f = further_at _ _ _ _ _ c14.b.given.1 c16.begun-at.ensures.1 in let z = ended_at 0 _ _ _ _ _ _ c1.a.given.1 c9.action-at.ensures.1 in (omega (arith, f.0, z.0, c17.loop.invariant.0), z.1, omega (arith, f.0, z.0, z.3, c17.loop.invariant.2), λ x k h e. onward_more _ x k _ _ _ _ _ _ _ _ _ (c17.loop.invariant.3 x k h e) _ _ _ c14.b.given.1 (c16.begun-at.ensures.0 ((c17.loop.invariant.3 x k h e).fuel - 1) x (c17.loop.invariant.3 x k h e).before) _ _ _ _ (c9.action-at.ensures.0 x (c17.loop.invariant.3 x k h e).before h (c17.loop.invariant.3 x k h e).rowed) _ _ c1.a.given.1 (omega (arith, f.0, z.0)) z.1, c8.rows.given ∙ c17.loop.invariant.4, c6.code.given ∙ c17.loop.invariant.5, c4.starts.given ∙ c17.loop.invariant.6)
 
 pub actions-to-spec : {M : Type 1} → statement M
 actions-to-spec =

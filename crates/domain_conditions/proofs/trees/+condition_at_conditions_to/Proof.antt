@@ -77,40 +77,40 @@ condition-at-put-requires : (t : ℕ) → condition-at-lts.Need-put-requires (co
 condition-at-put-requires t c κs = omega arith
 
 condition-at-sub-conditions-to : (t : ℕ) → condition-at-lts.Need-overflow-sub-conditions-to (condition-at-claims t) (condition-at-at t) condition-at.Post
-condition-at-sub-conditions-to t c = let w = and_place _ _ _ _ _ _ c.before.before.before.before.before.h.given.1 c.before.before.before.before.before.before.before.begun_at.ensures.1 in omega (arith, w.2)
+condition-at-sub-conditions-to t c = let w = and_place _ _ _ _ _ _ c.before.before.before.before.before.h.given.1 c.before.before.before.before.before.before.before.begun-at.ensures.1 in omega (arith, w.2)
 
 condition-at-add-conditions-to : (t : ℕ) → condition-at-lts.Need-overflow-add-conditions-to (condition-at-claims t) (condition-at-at t) condition-at.Post
 condition-at-add-conditions-to t c = omega (arith, c.before.before.before.before.before.before.before.before.before.before.before.before.requires.1.2)
 
 condition-at-conditions-to-requires : (t : ℕ) → condition-at-lts.Need-conditions-to-requires (condition-at-claims t) (condition-at-at t) condition-at.Post
-condition-at-conditions-to-requires t c κs = let c6 = c.before.before.before.before.before.before in let c8 = c6.before.before in let c12 = c8.before.before.before.before in let w = and_place _ _ _ _ _ _ c6.h.given.1 c8.begun_at.ensures.1 in (omega (arith, c12.requires.0, w.0, w.1), (w.1, c12.requires.1.1, omega (arith, w.0, w.1, c12.requires.1.2)))
+condition-at-conditions-to-requires t c κs = let c6 = c.before.before.before.before.before.before in let c8 = c6.before.before in let c12 = c8.before.before.before.before in let w = and_place _ _ _ _ _ _ c6.h.given.1 c8.begun-at.ensures.1 in (omega (arith, c12.requires.0, w.0, w.1), (w.1, c12.requires.1.1, omega (arith, w.0, w.1, c12.requires.1.2)))
 
 condition-at-enum-known-h-2 : (t : ℕ) → condition-at-lts.Need-enum-known-h-2 (condition-at-claims t) (condition-at-at t) condition-at.Post
 condition-at-enum-known-h-2 t c = c.match.keys2
 
 condition-at-sub-negation-at : (t : ℕ) → condition-at-lts.Need-overflow-sub-negation-at (condition-at-claims t) (condition-at-at t) condition-at.Post
-condition-at-sub-negation-at t c = let w = not_place _ _ _ _ _ _ c.before.h2.given.1 c.before.before.before.begun_at.ensures.1 in omega (arith, w.2)
+condition-at-sub-negation-at t c = let w = not_place _ _ _ _ _ _ c.before.h2.given.1 c.before.before.before.begun-at.ensures.1 in omega (arith, w.2)
 
 condition-at-negation-at-requires : (t : ℕ) → condition-at-lts.Need-negation-at-requires (condition-at-claims t) (condition-at-at t) condition-at.Post
-condition-at-negation-at-requires t c κs = let c2 = c.before.before in let c8 = c2.before.before.before.before.before.before in let w = not_place _ _ _ _ _ _ c2.h2.given.1 c2.before.before.begun_at.ensures.1 in (w.1, c8.requires.1.1, omega (arith, w.0, w.1, c8.requires.1.2))
+condition-at-negation-at-requires t c κs = let c2 = c.before.before in let c8 = c2.before.before.before.before.before.before in let w = not_place _ _ _ _ _ _ c2.h2.given.1 c2.before.before.begun-at.ensures.1 in (w.1, c8.requires.1.1, omega (arith, w.0, w.1, c8.requires.1.2))
 
 condition-at-enum-known-h-3 : (t : ℕ) → condition-at-lts.Need-enum-known-h-3 (condition-at-claims t) (condition-at-at t) condition-at.Post
 condition-at-enum-known-h-3 t c = c.match.keys3
 
 condition-at-sub-atom-at : (t : ℕ) → condition-at-lts.Need-overflow-sub-atom-at (condition-at-claims t) (condition-at-at t) condition-at.Post
-condition-at-sub-atom-at t c = let w = atom_place _ _ _ _ _ _ c.before.h3.given.1 c.before.before.before.begun_at.ensures.1 in omega (arith, w.2)
+condition-at-sub-atom-at t c = let w = atom_place _ _ _ _ _ _ c.before.h3.given.1 c.before.before.before.begun-at.ensures.1 in omega (arith, w.2)
 
 condition-at-atom-at-requires : (t : ℕ) → condition-at-lts.Need-atom-at-requires (condition-at-claims t) (condition-at-at t) condition-at.Post
-condition-at-atom-at-requires t c κs = let c2 = c.before.before in let c8 = c2.before.before.before.before.before.before in let w = atom_place _ _ _ _ _ _ c2.h3.given.1 c2.before.before.begun_at.ensures.1 in (w.1, c8.requires.1.1, omega (arith, w.0, w.1, c8.requires.1.2))
+condition-at-atom-at-requires t c κs = let c2 = c.before.before in let c8 = c2.before.before.before.before.before.before in let w = atom_place _ _ _ _ _ _ c2.h3.given.1 c2.before.before.begun-at.ensures.1 in (w.1, c8.requires.1.1, omega (arith, w.0, w.1, c8.requires.1.2))
 
 condition-at-enum-known-h-4 : (t : ℕ) → condition-at-lts.Need-enum-known-h-4 (condition-at-claims t) (condition-at-at t) condition-at.Post
 condition-at-enum-known-h-4 t c = c.match.keys4
 
 condition-at-sub-compared-at : (t : ℕ) → condition-at-lts.Need-overflow-sub-compared-at (condition-at-claims t) (condition-at-at t) condition-at.Post
-condition-at-sub-compared-at t c = let w = compared_place _ _ _ _ _ _ _ c.before.h4.given.1 c.before.before.before.begun_at.ensures.1 in omega (arith, w.2)
+condition-at-sub-compared-at t c = let w = compared_place _ _ _ _ _ _ _ c.before.h4.given.1 c.before.before.before.begun-at.ensures.1 in omega (arith, w.2)
 
 condition-at-compared-at-requires : (t : ℕ) → condition-at-lts.Need-compared-at-requires (condition-at-claims t) (condition-at-at t) condition-at.Post
-condition-at-compared-at-requires t c κs = let c2 = c.before.before in let c8 = c2.before.before.before.before.before.before in let w = compared_place _ _ _ _ _ _ _ c2.h4.given.1 c2.before.before.begun_at.ensures.1 in (w.1, c8.requires.1.1, omega (arith, w.0, w.1, c8.requires.1.2), w.3)
+condition-at-compared-at-requires t c κs = let c2 = c.before.before in let c8 = c2.before.before.before.before.before.before in let w = compared_place _ _ _ _ _ _ _ c2.h4.given.1 c2.before.before.begun-at.ensures.1 in (w.1, c8.requires.1.1, omega (arith, w.0, w.1, c8.requires.1.2), w.3)
 
 condition-at-enum-known-h-5 : (t : ℕ) → condition-at-lts.Need-enum-known-h-5 (condition-at-claims t) (condition-at-at t) condition-at.Post
 condition-at-enum-known-h-5 t c = c.match.keys5
@@ -122,28 +122,28 @@ condition-at-same-length : (t : ℕ) → condition-at-lts.Need-same-length (cond
 condition-at-same-length t c = search rules
 
 condition-at-returns : (t : ℕ) → condition-at-lts.Need-returns (condition-at-claims t) (condition-at-at t) condition-at.Post
-condition-at-returns t c = let c2 = c.before.before in let c6 = c2.before.before.before.before in let c9 = c6.before.before.before in let c11 = c9.before.before in let c15 = c11.before.before.before.before in let w = and_place _ _ _ _ _ _ c9.h.given.1 c11.begun_at.ensures.1 in (λ x g. rw (condition_and c15.args.text.now c15.args.d x c15.args.left c15.args.from c11.begun_at.result (c11.begun_at.ensures.0 x true _ _) _ _ c9.h.given.1) (conjunction_written c15.args.text.now (c15.args.d - 1) (condition (c15.args.d - 1) c15.args.text.now x) c15.args.left _ c15.args.code.now c15.args.used c2.conditions-to.result _ (rw c6.put.ensures at (c2.conditions-to.ensures.0 x (length c15.args.text.now + 1) g (omega arith)))), spent_behind c2.conditions-to.result 0 _ _ _ _ _ (omega (arith, w.0)) (omega arith) (omega (arith, w.0)) c2.conditions-to.ensures.1)
+condition-at-returns t c = let c2 = c.before.before in let c6 = c2.before.before.before.before in let c9 = c6.before.before.before in let c11 = c9.before.before in let c15 = c11.before.before.before.before in let w = and_place _ _ _ _ _ _ c9.h.given.1 c11.begun-at.ensures.1 in (λ x g. rw (condition_and c15.args.text.now c15.args.d x c15.args.left c15.args.from c11.begun-at.result (c11.begun-at.ensures.0 x true _ _) _ _ c9.h.given.1) (conjunction_written c15.args.text.now (c15.args.d - 1) (condition (c15.args.d - 1) c15.args.text.now x) c15.args.left _ c15.args.code.now c15.args.used c2.conditions-to.result _ (rw c6.put.ensures at (c2.conditions-to.ensures.0 x (length c15.args.text.now + 1) g (omega arith)))), spent_behind c2.conditions-to.result 0 _ _ _ _ _ (omega (arith, w.0)) (omega arith) (omega (arith, w.0)) c2.conditions-to.ensures.1)
 
 condition-at-same-length-2 : (t : ℕ) → condition-at-lts.Need-same-length-2 (condition-at-claims t) (condition-at-at t) condition-at.Post
 condition-at-same-length-2 t c = search rules
 
 condition-at-returns-2 : (t : ℕ) → condition-at-lts.Need-returns-2 (condition-at-claims t) (condition-at-at t) condition-at.Post
-condition-at-returns-2 t c = let c2 = c.before.before in let c5 = c2.before.before.before in let w = not_place _ _ _ _ _ _ c5.h2.given.1 c5.before.before.begun_at.ensures.1 in (λ x g. rw (condition_not _ _ x c5.before.before.before.before.before.before.args.left _ _ (c5.before.before.begun_at.ensures.0 x true _ _) _ _ c5.h2.given.1) (c2.negation-at.ensures.0 x g), spent_behind _ 0 _ _ _ _ _ (omega (arith, w.0)) (omega arith) (omega (arith, w.0)) c2.negation-at.ensures.1)
+condition-at-returns-2 t c = let c2 = c.before.before in let c5 = c2.before.before.before in let w = not_place _ _ _ _ _ _ c5.h2.given.1 c5.before.before.begun-at.ensures.1 in (λ x g. rw (condition_not _ _ x c5.before.before.before.before.before.before.args.left _ _ (c5.before.before.begun-at.ensures.0 x true _ _) _ _ c5.h2.given.1) (c2.negation-at.ensures.0 x g), spent_behind _ 0 _ _ _ _ _ (omega (arith, w.0)) (omega arith) (omega (arith, w.0)) c2.negation-at.ensures.1)
 
 condition-at-same-length-3 : (t : ℕ) → condition-at-lts.Need-same-length-3 (condition-at-claims t) (condition-at-at t) condition-at.Post
 condition-at-same-length-3 t c = search rules
 
 condition-at-returns-3 : (t : ℕ) → condition-at-lts.Need-returns-3 (condition-at-claims t) (condition-at-at t) condition-at.Post
-condition-at-returns-3 t c = let c2 = c.before.before in let c5 = c2.before.before.before in let w = atom_place _ _ _ _ _ _ c5.h3.given.1 c5.before.before.begun_at.ensures.1 in (λ x g. rw (condition_atom _ _ x c5.before.before.before.before.before.before.args.left _ _ (c5.before.before.begun_at.ensures.0 x true _ _) _ _ c5.h3.given.1) (c2.atom-at.ensures.0 x g), spent_behind _ 0 _ _ _ _ _ (omega (arith, w.0)) (omega arith) (omega (arith, w.0)) c2.atom-at.ensures.1)
+condition-at-returns-3 t c = let c2 = c.before.before in let c5 = c2.before.before.before in let w = atom_place _ _ _ _ _ _ c5.h3.given.1 c5.before.before.begun-at.ensures.1 in (λ x g. rw (condition_atom _ _ x c5.before.before.before.before.before.before.args.left _ _ (c5.before.before.begun-at.ensures.0 x true _ _) _ _ c5.h3.given.1) (c2.atom-at.ensures.0 x g), spent_behind _ 0 _ _ _ _ _ (omega (arith, w.0)) (omega arith) (omega (arith, w.0)) c2.atom-at.ensures.1)
 
 condition-at-same-length-4 : (t : ℕ) → condition-at-lts.Need-same-length-4 (condition-at-claims t) (condition-at-at t) condition-at.Post
 condition-at-same-length-4 t c = search rules
 
 condition-at-returns-4 : (t : ℕ) → condition-at-lts.Need-returns-4 (condition-at-claims t) (condition-at-at t) condition-at.Post
-condition-at-returns-4 t c = let c2 = c.before.before in let c5 = c2.before.before.before in let w = compared_place _ _ _ _ _ _ _ c5.h4.given.1 c5.before.before.begun_at.ensures.1 in (λ x g. rw (condition_comparison _ _ x c5.before.before.before.before.before.before.args.left _ _ (c5.before.before.begun_at.ensures.0 x true _ _) _ _ _ c5.h4.given.1) (c2.compared_at.ensures.0 x g), spent_behind _ 2 _ _ _ _ _ (omega (arith, w.0)) (omega arith) (omega (arith, w.0)) c2.compared_at.ensures.1)
+condition-at-returns-4 t c = let c2 = c.before.before in let c5 = c2.before.before.before in let w = compared_place _ _ _ _ _ _ _ c5.h4.given.1 c5.before.before.begun-at.ensures.1 in (λ x g. rw (condition_comparison _ _ x c5.before.before.before.before.before.before.args.left _ _ (c5.before.before.begun-at.ensures.0 x true _ _) _ _ _ c5.h4.given.1) (c2.compared_at.ensures.0 x g), spent_behind _ 2 _ _ _ _ _ (omega (arith, w.0)) (omega arith) (omega (arith, w.0)) c2.compared_at.ensures.1)
 
 condition-at-returns-5 : (t : ℕ) → condition-at-lts.Need-returns-5 (condition-at-claims t) (condition-at-at t) condition-at.Post
-condition-at-returns-5 t c = let c2 = c.before.before in let c4 = c2.before.before in let c8 = c4.before.before.before.before in (λ x g. condition_other _ _ x c8.args.left _ _ (c4.begun_at.ensures.0 x true _ _) _ _ _ _ _ c2.h5.given.1 c.progress-of.ensures, let x = c8.requires.1.1.0 in condition_ended _ _ x c8.args.left _ _ (c4.begun_at.ensures.0 x true _ _) _ _ _ _ _ _ c2.h5.given.1 c.progress-of.ensures)
+condition-at-returns-5 t c = let c2 = c.before.before in let c4 = c2.before.before in let c8 = c4.before.before.before.before in (λ x g. condition_other _ _ x c8.args.left _ _ (c4.begun-at.ensures.0 x true _ _) _ _ _ _ _ c2.h5.given.1 c.progress-of.ensures, let x = c8.requires.1.1.0 in condition_ended _ _ x c8.args.left _ _ (c4.begun-at.ensures.0 x true _ _) _ _ _ _ _ _ c2.h5.given.1 c.progress-of.ensures)
 
 abbrev conditions-to-Inv-loop : conditions-to-lts.invariant-loop
 conditions-to-Inv-loop text from d tables counts code₀ used left at₀ u₀ l₀ code at u l = (from ≤ at) × (at ≤ length text) × (length code ≡ length code₀) × (used ≤ u) × (u + from ≤ used + at) × ((x : Scope) → Scoped tables counts x → Onward text d (condition d text x) from code₀ used left code at u l)

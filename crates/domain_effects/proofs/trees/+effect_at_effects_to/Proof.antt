@@ -64,37 +64,37 @@ effect-at-enum-known-b : (t : ℕ) → effect-at-lts.Need-enum-known-b (effect-a
 effect-at-enum-known-b t c = c.match.keys1
 
 effect-at-sub-effects-to : (t : ℕ) → effect-at-lts.Need-overflow-sub-effects-to (effect-at-claims t) (effect-at-at t) effect-at.Post
-effect-at-sub-effects-to t c = let w = all_place _ _ _ _ _ c.before.b.given.1 c.before.before.before.begun_at.ensures.1 in omega (arith, w.2)
+effect-at-sub-effects-to t c = let w = all_place _ _ _ _ _ c.before.b.given.1 c.before.before.before.begun-at.ensures.1 in omega (arith, w.2)
 
 effect-at-effects-to-requires : (t : ℕ) → effect-at-lts.Need-effects-to-requires (effect-at-claims t) (effect-at-at t) effect-at.Post
-effect-at-effects-to-requires t c κs = let c2 = c.before.before in let c4 = c2.before.before in let c8 = c4.before.before.before.before in let w = all_place _ _ _ _ _ c2.b.given.1 c4.begun_at.ensures.1 in (omega (arith, c8.requires.0, w.0, w.1), (w.1, c8.requires.1.1, omega (arith, w.0, w.1, c8.requires.1.2)))
+effect-at-effects-to-requires t c κs = let c2 = c.before.before in let c4 = c2.before.before in let c8 = c4.before.before.before.before in let w = all_place _ _ _ _ _ c2.b.given.1 c4.begun-at.ensures.1 in (omega (arith, c8.requires.0, w.0, w.1), (w.1, c8.requires.1.1, omega (arith, w.0, w.1, c8.requires.1.2)))
 
 effect-at-enum-known-b-2 : (t : ℕ) → effect-at-lts.Need-enum-known-b-2 (effect-at-claims t) (effect-at-at t) effect-at.Post
 effect-at-enum-known-b-2 t c = c.match.keys2
 
 effect-at-sub-deletion-at : (t : ℕ) → effect-at-lts.Need-overflow-sub-deletion-at (effect-at-claims t) (effect-at-at t) effect-at.Post
-effect-at-sub-deletion-at t c = let w = not_place _ _ _ _ _ c.before.b2.given.1 c.before.before.before.begun_at.ensures.1 in omega (arith, w.2)
+effect-at-sub-deletion-at t c = let w = not_place _ _ _ _ _ c.before.b2.given.1 c.before.before.before.begun-at.ensures.1 in omega (arith, w.2)
 
 effect-at-deletion-at-requires : (t : ℕ) → effect-at-lts.Need-deletion-at-requires (effect-at-claims t) (effect-at-at t) effect-at.Post
-effect-at-deletion-at-requires t c κs = let c2 = c.before.before in let c8 = c2.before.before.before.before.before.before in let w = not_place _ _ _ _ _ c2.b2.given.1 c2.before.before.begun_at.ensures.1 in (w.1, c8.requires.1.1, omega (arith, w.0, w.1, c8.requires.1.2))
+effect-at-deletion-at-requires t c κs = let c2 = c.before.before in let c8 = c2.before.before.before.before.before.before in let w = not_place _ _ _ _ _ c2.b2.given.1 c2.before.before.begun-at.ensures.1 in (w.1, c8.requires.1.1, omega (arith, w.0, w.1, c8.requires.1.2))
 
 effect-at-enum-known-b-3 : (t : ℕ) → effect-at-lts.Need-enum-known-b-3 (effect-at-claims t) (effect-at-at t) effect-at.Post
 effect-at-enum-known-b-3 t c = c.match.keys3
 
 effect-at-sub-change-at : (t : ℕ) → effect-at-lts.Need-overflow-sub-change-at (effect-at-claims t) (effect-at-at t) effect-at.Post
-effect-at-sub-change-at t c = let w = change_place _ _ _ _ _ _ _ c.before.b3.given.1 c.before.before.before.begun_at.ensures.1 in omega (arith, w.2)
+effect-at-sub-change-at t c = let w = change_place _ _ _ _ _ _ _ c.before.b3.given.1 c.before.before.before.begun-at.ensures.1 in omega (arith, w.2)
 
 effect-at-change-at-requires : (t : ℕ) → effect-at-lts.Need-change-at-requires (effect-at-claims t) (effect-at-at t) effect-at.Post
-effect-at-change-at-requires t c κs = let c2 = c.before.before in let c8 = c2.before.before.before.before.before.before in let w = change_place _ _ _ _ _ _ _ c2.b3.given.1 c2.before.before.begun_at.ensures.1 in (w.1, c8.requires.1.1, w.3, omega (arith, w.0, w.1, c8.requires.1.2))
+effect-at-change-at-requires t c κs = let c2 = c.before.before in let c8 = c2.before.before.before.before.before.before in let w = change_place _ _ _ _ _ _ _ c2.b3.given.1 c2.before.before.begun-at.ensures.1 in (w.1, c8.requires.1.1, w.3, omega (arith, w.0, w.1, c8.requires.1.2))
 
 effect-at-enum-known-b-4 : (t : ℕ) → effect-at-lts.Need-enum-known-b-4 (effect-at-claims t) (effect-at-at t) effect-at.Post
 effect-at-enum-known-b-4 t c = c.match.keys4
 
 effect-at-sub-becomes-at : (t : ℕ) → effect-at-lts.Need-overflow-sub-becomes-at (effect-at-claims t) (effect-at-at t) effect-at.Post
-effect-at-sub-becomes-at t c = let w = fact_place _ _ _ _ _ _ c.before.b4.given.1 c.before.before.before.begun_at.ensures.1 in omega (arith, w.2)
+effect-at-sub-becomes-at t c = let w = fact_place _ _ _ _ _ _ c.before.b4.given.1 c.before.before.before.begun-at.ensures.1 in omega (arith, w.2)
 
 effect-at-becomes-at-requires : (t : ℕ) → effect-at-lts.Need-becomes-at-requires (effect-at-claims t) (effect-at-at t) effect-at.Post
-effect-at-becomes-at-requires t c κs = let c2 = c.before.before in let c8 = c2.before.before.before.before.before.before in let w = fact_place _ _ _ _ _ _ c2.b4.given.1 c2.before.before.begun_at.ensures.1 in (w.1, c8.requires.1.1, omega arith, omega (arith, w.0, w.1, c8.requires.1.2))
+effect-at-becomes-at-requires t c κs = let c2 = c.before.before in let c8 = c2.before.before.before.before.before.before in let w = fact_place _ _ _ _ _ _ c2.b4.given.1 c2.before.before.begun-at.ensures.1 in (w.1, c8.requires.1.1, omega arith, omega (arith, w.0, w.1, c8.requires.1.2))
 
 effect-at-enum-known-b-5 : (t : ℕ) → effect-at-lts.Need-enum-known-b-5 (effect-at-claims t) (effect-at-at t) effect-at.Post
 effect-at-enum-known-b-5 t c = c.match.keys5
@@ -106,28 +106,28 @@ effect-at-same-length : (t : ℕ) → effect-at-lts.Need-same-length (effect-at-
 effect-at-same-length t c = search rules
 
 effect-at-returns : (t : ℕ) → effect-at-lts.Need-returns (effect-at-claims t) (effect-at-at t) effect-at.Post
-effect-at-returns t c = let c2 = c.before.before in let c5 = c2.before.before.before in let c7 = c5.before.before in let w = all_place _ _ _ _ _ c5.b.given.1 c7.begun_at.ensures.1 in (λ x h. whole_all _ _ x (effect _ _ x) c7.before.before.before.before.args.left _ _ (c7.begun_at.ensures.0 x c7.before.before.before.before.args.left) _ _ _ _ _ c5.b.given.1 (c2.effects-to.ensures.0 x _ h (omega arith)), spent_from _ _ _ _ _ _ _ _ (omega (arith, w.0)) (omega arith) (omega (arith, w.0)) c2.effects-to.ensures.1)
+effect-at-returns t c = let c2 = c.before.before in let c5 = c2.before.before.before in let c7 = c5.before.before in let w = all_place _ _ _ _ _ c5.b.given.1 c7.begun-at.ensures.1 in (λ x h. whole_all _ _ x (effect _ _ x) c7.before.before.before.before.args.left _ _ (c7.begun-at.ensures.0 x c7.before.before.before.before.args.left) _ _ _ _ _ c5.b.given.1 (c2.effects-to.ensures.0 x _ h (omega arith)), spent_from _ _ _ _ _ _ _ _ (omega (arith, w.0)) (omega arith) (omega (arith, w.0)) c2.effects-to.ensures.1)
 
 effect-at-same-length-2 : (t : ℕ) → effect-at-lts.Need-same-length-2 (effect-at-claims t) (effect-at-at t) effect-at.Post
 effect-at-same-length-2 t c = search rules
 
 effect-at-returns-2 : (t : ℕ) → effect-at-lts.Need-returns-2 (effect-at-claims t) (effect-at-at t) effect-at.Post
-effect-at-returns-2 t c = let c2 = c.before.before in let c5 = c2.before.before.before in let c7 = c5.before.before in let w = not_place _ _ _ _ _ c5.b2.given.1 c7.begun_at.ensures.1 in (λ x h. whole_not _ _ x (effect _ _ x) c7.before.before.before.before.args.left _ _ (c7.begun_at.ensures.0 x c7.before.before.before.before.args.left) _ _ _ _ _ c5.b2.given.1 (c2.deletion-at.ensures.0 x h), spent_from _ _ _ _ _ _ _ _ (omega (arith, w.0)) (omega arith) (omega (arith, w.0)) c2.deletion-at.ensures.1)
+effect-at-returns-2 t c = let c2 = c.before.before in let c5 = c2.before.before.before in let c7 = c5.before.before in let w = not_place _ _ _ _ _ c5.b2.given.1 c7.begun-at.ensures.1 in (λ x h. whole_not _ _ x (effect _ _ x) c7.before.before.before.before.args.left _ _ (c7.begun-at.ensures.0 x c7.before.before.before.before.args.left) _ _ _ _ _ c5.b2.given.1 (c2.deletion-at.ensures.0 x h), spent_from _ _ _ _ _ _ _ _ (omega (arith, w.0)) (omega arith) (omega (arith, w.0)) c2.deletion-at.ensures.1)
 
 effect-at-same-length-3 : (t : ℕ) → effect-at-lts.Need-same-length-3 (effect-at-claims t) (effect-at-at t) effect-at.Post
 effect-at-same-length-3 t c = search rules
 
 effect-at-returns-3 : (t : ℕ) → effect-at-lts.Need-returns-3 (effect-at-claims t) (effect-at-at t) effect-at.Post
-effect-at-returns-3 t c = let c2 = c.before.before in let c5 = c2.before.before.before in let c7 = c5.before.before in let w = change_place _ _ _ _ _ _ _ c5.b3.given.1 c7.begun_at.ensures.1 in (λ x h. whole_change _ _ x (effect _ _ x) c7.before.before.before.before.args.left _ _ (c7.begun_at.ensures.0 x c7.before.before.before.before.args.left) _ _ _ _ _ _ _ c5.b3.given.1 (λ y q. c2.change-at.ensures.0 x y h q), spent_from _ _ _ _ _ _ _ _ (omega (arith, w.0)) (omega arith) (omega (arith, w.0)) c2.change-at.ensures.1)
+effect-at-returns-3 t c = let c2 = c.before.before in let c5 = c2.before.before.before in let c7 = c5.before.before in let w = change_place _ _ _ _ _ _ _ c5.b3.given.1 c7.begun-at.ensures.1 in (λ x h. whole_change _ _ x (effect _ _ x) c7.before.before.before.before.args.left _ _ (c7.begun-at.ensures.0 x c7.before.before.before.before.args.left) _ _ _ _ _ _ _ c5.b3.given.1 (λ y q. c2.change-at.ensures.0 x y h q), spent_from _ _ _ _ _ _ _ _ (omega (arith, w.0)) (omega arith) (omega (arith, w.0)) c2.change-at.ensures.1)
 
 effect-at-same-length-4 : (t : ℕ) → effect-at-lts.Need-same-length-4 (effect-at-claims t) (effect-at-at t) effect-at.Post
 effect-at-same-length-4 t c = search rules
 
 effect-at-returns-4 : (t : ℕ) → effect-at-lts.Need-returns-4 (effect-at-claims t) (effect-at-at t) effect-at.Post
-effect-at-returns-4 t c = let c2 = c.before.before in let c5 = c2.before.before.before in let c7 = c5.before.before in let w = fact_place _ _ _ _ _ _ c5.b4.given.1 c7.begun_at.ensures.1 in (λ x h. whole_fact _ _ x (effect _ _ x) c7.before.before.before.before.args.left _ _ (c7.begun_at.ensures.0 x c7.before.before.before.before.args.left) _ _ _ _ _ _ c5.b4.given.1 (c2.becomes-at.ensures.0 x true h refl), spent_from _ _ _ _ _ _ _ _ (omega (arith, w.0)) (omega arith) (omega (arith, w.0)) c2.becomes-at.ensures.1)
+effect-at-returns-4 t c = let c2 = c.before.before in let c5 = c2.before.before.before in let c7 = c5.before.before in let w = fact_place _ _ _ _ _ _ c5.b4.given.1 c7.begun-at.ensures.1 in (λ x h. whole_fact _ _ x (effect _ _ x) c7.before.before.before.before.args.left _ _ (c7.begun-at.ensures.0 x c7.before.before.before.before.args.left) _ _ _ _ _ _ c5.b4.given.1 (c2.becomes-at.ensures.0 x true h refl), spent_from _ _ _ _ _ _ _ _ (omega (arith, w.0)) (omega arith) (omega (arith, w.0)) c2.becomes-at.ensures.1)
 
 effect-at-returns-5 : (t : ℕ) → effect-at-lts.Need-returns-5 (effect-at-claims t) (effect-at-at t) effect-at.Post
-effect-at-returns-5 t c = let c2 = c.before.before in let c4 = c2.before.before in let c8 = c4.before.before.before.before in (λ x h. whole_other c8.args.text.now (c8.args.d - 1) x (effect (c8.args.d - 1) c8.args.text.now x) c8.args.left c4.begun_at.result _ (c4.begun_at.ensures.0 x c8.args.left) c8.args.code.now c8.args.used c.progress-of.result _ c2.b5.given.0.0 _ c2.b5.given.1 c.progress-of.ensures, let x = c8.requires.1.1.0 in spent_other c8.args.text.now (c8.args.d - 1) x (effect (c8.args.d - 1) c8.args.text.now x) c8.args.left c4.begun_at.result _ (c4.begun_at.ensures.0 x c8.args.left) c8.args.code.now c8.args.used c.progress-of.result c8.args.code.now c2.b5.given.0.0 _ 0 _ _ c2.b5.given.1 c.progress-of.ensures)
+effect-at-returns-5 t c = let c2 = c.before.before in let c4 = c2.before.before in let c8 = c4.before.before.before.before in (λ x h. whole_other c8.args.text.now (c8.args.d - 1) x (effect (c8.args.d - 1) c8.args.text.now x) c8.args.left c4.begun-at.result _ (c4.begun-at.ensures.0 x c8.args.left) c8.args.code.now c8.args.used c.progress-of.result _ c2.b5.given.0.0 _ c2.b5.given.1 c.progress-of.ensures, let x = c8.requires.1.1.0 in spent_other c8.args.text.now (c8.args.d - 1) x (effect (c8.args.d - 1) c8.args.text.now x) c8.args.left c4.begun-at.result _ (c4.begun-at.ensures.0 x c8.args.left) c8.args.code.now c8.args.used c.progress-of.result c8.args.code.now c2.b5.given.0.0 _ 0 _ _ c2.b5.given.1 c.progress-of.ensures)
 
 abbrev effects-to-Inv-loop : effects-to-lts.invariant-loop
 effects-to-Inv-loop text from d tables counts code₀ used left at₀ u₀ n₀ code at u n = (from ≤ at) × (at ≤ length text) × (length code ≡ length code₀) × (used ≤ u) × (u + from ≤ used + at) × ((x : Scope) (k : ℕ) → Scoped tables counts x → length text - from < k → Onward text d (effect d text x) code₀ used left from k code u n at)

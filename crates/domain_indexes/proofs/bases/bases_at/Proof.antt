@@ -29,7 +29,7 @@ first-of-requires : tie.Need-first-of-requires invariant-loop decreases-loop
 first-of-requires c κs = (c.before.before.before.before.requires.0.0, c.before.before.before.before.requires.1, omega arith)
 
 cast-out : tie.Need-overflow-cast-out invariant-loop decreases-loop
-cast-out c = let c2 = c.before.before in let c5 = c2.before.before.before in let s = c5.requires.0.0 in omega (arith, c5.requires.0.1, c.first_of_lem.ensures.0 s.rows s.to s.table s.holds s.signed, first_low c5.args.n s.table c2.loop.i (omega (arith, s.holds.count)))
+cast-out c = let c2 = c.before.before in let c5 = c2.before.before.before in let s = c5.requires.0.0 in omega (arith, c5.requires.0.1, c.first-of.ensures.0 s.rows s.to s.table s.holds s.signed, first_low c5.args.n s.table c2.loop.i (omega (arith, s.holds.count)))
 
 add-out : tie.Need-overflow-add-out invariant-loop decreases-loop
 add-out c = omega (arith, c.before.loop-test.true, c.before.before.before.before.before.requires.2)
@@ -47,7 +47,7 @@ loop-less : tie.Need-loop-smaller invariant-loop decreases-loop
 loop-less c = omega arith
 
 loop-again : tie.Need-loop-preserved invariant-loop decreases-loop
-loop-again c = let c2 = c.before.before in (omega arith, simp length-set c2.loop.invariant.1, λ m to t h g. bases_step c2.loop.out c2.before.before.before.args.at c2.before.before.before.args.n t c2.loop.i _ (omega (arith, h.count, c.before.loop-test.true)) (c.first_of_lem.ensures.0 m to t h g) ∙ c2.loop.invariant.2 m to t h g)
+loop-again c = let c2 = c.before.before in (omega arith, simp length-set c2.loop.invariant.1, λ m to t h g. bases_step c2.loop.out c2.before.before.before.args.at c2.before.before.before.args.n t c2.loop.i _ (omega (arith, h.count, c.before.loop-test.true)) (c.first-of.ensures.0 m to t h g) ∙ c2.loop.invariant.2 m to t h g)
 
 same_length : tie.Need-same-length invariant-loop decreases-loop
 same_length c = search rules

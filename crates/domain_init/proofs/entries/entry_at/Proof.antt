@@ -71,7 +71,7 @@ same-length-2 : tie.Need-same-length-2
 same-length-2 c = search rules
 
 returns-4 : tie.Need-returns-4
-returns-4 c = let c2 = c.before.before in let c4 = c2.before.before in let c7 = c4.before.before.before in let c9 = c7.before.before in let c11 = c9.before.before in (λ x y k o f st. entry_fact _ x y _ _ c11.before.before.opening.ensures.0 _ _ _ _ c11.o.given.1 _ _ _ (sym c9.token-at.ensures ∙ c7.t.given.1) _ c4.enum-told2.given.1 (c2.fact_at_lem.ensures.0 x y _ k o st), let v = ahead_done _ _ _ _ _ c11.o.given.1 c11.before.before.opening.ensures.1 in let u = word_in _ _ v.1 _ _ _ (sym c9.token-at.ensures ∙ c7.t.given.1) in ahead_later _ _ _ _ (omega (arith, u.0, u.1, v.0)) c2.fact_at_lem.ensures.1)
+returns-4 c = let c2 = c.before.before in let c4 = c2.before.before in let c7 = c4.before.before.before in let c9 = c7.before.before in let c11 = c9.before.before in (λ x y k o f st. entry_fact _ x y _ _ c11.before.before.opening.ensures.0 _ _ _ _ c11.o.given.1 _ _ _ (sym c9.token-at.ensures ∙ c7.t.given.1) _ c4.enum-told2.given.1 (c2.fact-at.ensures.0 x y _ k o st), let v = ahead_done _ _ _ _ _ c11.o.given.1 c11.before.before.opening.ensures.1 in let u = word_in _ _ v.1 _ _ _ (sym c9.token-at.ensures ∙ c7.t.given.1) in ahead_later _ _ _ _ (omega (arith, u.0, u.1, v.0)) c2.fact-at.ensures.1)
 
 returns-5 : tie.Need-returns-5
 unfolding bytes

@@ -34,10 +34,10 @@ first-of-requires : tie.Need-first-of-requires
 first-of-requires c κs = let c10 = c.before.before.before.before.before.before.before.before.before.before in (c10.requires.2, omega (arith, c10.requires.1.1.objects.fits), omega (arith, c10.requires.3))
 
 add-t20 : tie.Need-overflow-add-t20
-add-t20 c = omega (arith, c.before.numeral-of.ensures.1, c.first_of_lem.ensures.1)
+add-t20 c = omega (arith, c.before.numeral-of.ensures.1, c.first-of.ensures.1)
 
 returns-2 : tie.Need-returns-2
-returns-2 c = let c1 = c.before in let c4 = c1.before.before.before in let c7 = c4.before.before.before in let c11 = c7.before.before.before.before in (λ x m to t k o h g. let few = wanted_few t c11.args.i g (omega (arith, c11.requires.3, h.count)) in behind_done c11.args.text.now c11.args.d x t c11.args.i c11.args.from o _ c7.arguments-at.result _ _ _ c11.args.counts.objects c.first_of_lem.result c1.numeral-of.result refl few (omega (arith, c11.requires.3, h.count)) (c7.arguments-at.ensures.0 x m to t k h g) c4.a.given.1 k.objects.count (c.first_of_lem.ensures.0 m to t h g) c1.numeral-of.ensures.0, let w = ahead_done _ _ _ _ _ c4.a.given.1 c7.arguments-at.ensures.1 in ahead_by _ _ _ _ w.0 w.1)
+returns-2 c = let c1 = c.before in let c4 = c1.before.before.before in let c7 = c4.before.before.before in let c11 = c7.before.before.before.before in (λ x m to t k o h g. let few = wanted_few t c11.args.i g (omega (arith, c11.requires.3, h.count)) in behind_done c11.args.text.now c11.args.d x t c11.args.i c11.args.from o _ c7.arguments-at.result _ _ _ c11.args.counts.objects c.first-of.result c1.numeral-of.result refl few (omega (arith, c11.requires.3, h.count)) (c7.arguments-at.ensures.0 x m to t k h g) c4.a.given.1 k.objects.count (c.first-of.ensures.0 m to t h g) c1.numeral-of.ensures.0, let w = ahead_done _ _ _ _ _ c4.a.given.1 c7.arguments-at.ensures.1 in ahead_by _ _ _ _ w.0 w.1)
 
 pub index-at-spec : {M : Type 1} → statement M
 index-at-spec =

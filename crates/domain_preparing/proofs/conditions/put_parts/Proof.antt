@@ -50,7 +50,7 @@ loop-less : tie.Need-loop-smaller invariant-loop decreases-loop
 loop-less c = omega arith
 
 loop-again : tie.Need-loop-preserved invariant-loop decreases-loop
-loop-again c = (omega arith, omega arith, parts_counted (when_of c.before.before.before.before.before.before.before.before.before.before.before.before.before.before.args.time) (condition_at c.before.before.before.before.before.before.before.before.before.before.before.before.before.before.args.code.now) (cond_in c.before.before.before.before.before.before.before.before.before.before.before.before.before.before.args.firsts.now) c.before.before.before.before.before.before.before.before.before.before.before.before.before.before.args.code.now c.before.before.before.before.before.before.before.before.before.before.loop.i c.before.before.before.before.before.before.before.before.before.before.loop.left _ _ _ _ _ c.before.before.before.before.before.before.before.before.before.before.loop.invariant.2 c.before.before.before.before.before.before.before.before.before.loop-test.true (omega arith) c.before.before.before.before.before.before.before.cell.ensures.0 c.before.before.before.before.before.before.if2.false c.before.before.before.before.before.is_at_lem.ensures c.before.before.before.before.if3.true c.before.before.put-cond.ensures.0)
+loop-again c = (omega arith, omega arith, parts_counted (when_of c.before.before.before.before.before.before.before.before.before.before.before.before.before.before.args.time) (condition_at c.before.before.before.before.before.before.before.before.before.before.before.before.before.before.args.code.now) (cond_in c.before.before.before.before.before.before.before.before.before.before.before.before.before.before.args.firsts.now) c.before.before.before.before.before.before.before.before.before.before.before.before.before.before.args.code.now c.before.before.before.before.before.before.before.before.before.before.loop.i c.before.before.before.before.before.before.before.before.before.before.loop.left _ _ _ _ _ c.before.before.before.before.before.before.before.before.before.before.loop.invariant.2 c.before.before.before.before.before.before.before.before.before.loop-test.true (omega arith) c.before.before.before.before.before.before.before.cell.ensures.0 c.before.before.before.before.before.before.if2.false c.before.before.before.before.before.is-at.ensures c.before.before.before.before.if3.true c.before.before.put-cond.ensures.0)
 
 add-put-cond-2 : tie.Need-overflow-add-put-cond-2 invariant-loop decreases-loop
 add-put-cond-2 c = search rules
@@ -62,7 +62,7 @@ loop-less-2 : tie.Need-loop-smaller-2 invariant-loop decreases-loop
 loop-less-2 c = omega arith
 
 loop-again-2 : tie.Need-loop-preserved-2 invariant-loop decreases-loop
-loop-again-2 c = (omega arith, omega arith, parts_passed (when_of c.before.before.before.before.before.before.before.before.before.before.before.before.before.before.args.time) (condition_at c.before.before.before.before.before.before.before.before.before.before.before.before.before.before.args.code.now) (cond_in c.before.before.before.before.before.before.before.before.before.before.before.before.before.before.args.firsts.now) c.before.before.before.before.before.before.before.before.before.before.before.before.before.before.args.code.now c.before.before.before.before.before.before.before.before.before.before.loop.i c.before.before.before.before.before.before.before.before.before.before.loop.left _ _ _ _ _ c.before.before.before.before.before.before.before.before.before.before.loop.invariant.2 c.before.before.before.before.before.before.before.before.before.loop-test.true (omega arith) c.before.before.before.before.before.before.before.cell.ensures.0 c.before.before.before.before.before.before.if2.false c.before.before.before.before.before.is_at_lem.ensures c.before.before.before.before.if3.false (omega arith) c.before.before.put-cond2.ensures.0)
+loop-again-2 c = (omega arith, omega arith, parts_passed (when_of c.before.before.before.before.before.before.before.before.before.before.before.before.before.before.args.time) (condition_at c.before.before.before.before.before.before.before.before.before.before.before.before.before.before.args.code.now) (cond_in c.before.before.before.before.before.before.before.before.before.before.before.before.before.before.args.firsts.now) c.before.before.before.before.before.before.before.before.before.before.before.before.before.before.args.code.now c.before.before.before.before.before.before.before.before.before.before.loop.i c.before.before.before.before.before.before.before.before.before.before.loop.left _ _ _ _ _ c.before.before.before.before.before.before.before.before.before.before.loop.invariant.2 c.before.before.before.before.before.before.before.before.before.loop-test.true (omega arith) c.before.before.before.before.before.before.before.cell.ensures.0 c.before.before.before.before.before.before.if2.false c.before.before.before.before.before.is-at.ensures c.before.before.before.before.if3.false (omega arith) c.before.before.put-cond2.ensures.0)
 
 same-length-3 : tie.Need-same-length-3 invariant-loop decreases-loop
 same-length-3 c = c.before.loop.invariant.2.same

@@ -30,10 +30,10 @@ enum_told c = search rules
 
 returns : tie.Need-returns
 unfolding bytes
-returns c = (λ d h e. grounded_refused _ _ _ d _ _ _ (before_domain _ d _ (headed _ _ _ _ (sym c.before.before.before.before.before.before.heading-at.ensures.0 ∙ c.before.before.before.before.h.given.1)) _ _ (answer_refused _ _ _ (sym (c.before.before.of_domain_lem.ensures.0 d e) ∙ c.enum_told.given.1))) c.enum_told.given.1, onwards_refused _ _ _ _ _ c.enum_told.given.1)
+returns c = (λ d h e. grounded_refused _ _ _ d _ _ _ (before_domain _ d _ (headed _ _ _ _ (sym c.before.before.before.before.before.before.heading-at.ensures.0 ∙ c.before.before.before.before.h.given.1)) _ _ (answer_refused _ _ _ (sym (c.before.before.of-domain.ensures.0 d e) ∙ c.enum_told.given.1))) c.enum_told.given.1, onwards_refused _ _ _ _ _ c.enum_told.given.1)
 
 objects-section-requires : tie.Need-objects-section-requires
-objects-section-requires c κs = let c2 = c.before.before in let c13 = c2.before.before.before.before.before.before.before.before.before.before.before in let a = ahead_done _ _ _ _ _ c2.n.given.1 c2.before.before.of_domain_lem.ensures.1 in (a.1, c13.requires.0, c13.requires.1)
+objects-section-requires c κs = let c2 = c.before.before in let c13 = c2.before.before.before.before.before.before.before.before.before.before.before in let a = ahead_done _ _ _ _ _ c2.n.given.1 c2.before.before.of-domain.ensures.1 in (a.1, c13.requires.0, c13.requires.1)
 
 enum-known-h-2 : tie.Need-enum-known-h-2
 enum-known-h-2 c = search rules
@@ -43,7 +43,7 @@ same_length c = search rules
 
 returns-2 : tie.Need-returns-2
 unfolding bytes
-returns-2 c = let c2 = c.before.before in let c5 = c2.before.before.before in let c7 = c5.before.before in let x = (headed _ _ _ _ (sym c7.before.before.before.before.heading-at.ensures.0 ∙ c7.before.before.h.given.1)) in let a = ahead_done _ _ _ _ _ c5.n.given.1 c7.of_domain_lem.ensures.1 in (λ d h e. grounded_by _ _ _ d _ _ (behind_domain _ d _ x _ _ (answer_done _ _ _ (sym (c7.of_domain_lem.ensures.0 d e) ∙ c5.n.given.1))) (c2.objects-section.ensures.0 d h), onwards_further _ _ _ _ (omega (arith, heading_past _ (bytes "problem") _ _ x.is, a.0)) c2.objects-section.ensures.1)
+returns-2 c = let c2 = c.before.before in let c5 = c2.before.before.before in let c7 = c5.before.before in let x = (headed _ _ _ _ (sym c7.before.before.before.before.heading-at.ensures.0 ∙ c7.before.before.h.given.1)) in let a = ahead_done _ _ _ _ _ c5.n.given.1 c7.of-domain.ensures.1 in (λ d h e. grounded_by _ _ _ d _ _ (behind_domain _ d _ x _ _ (answer_done _ _ _ (sym (c7.of-domain.ensures.0 d e) ∙ c5.n.given.1))) (c2.objects-section.ensures.0 d h), onwards_further _ _ _ _ (omega (arith, heading_past _ (bytes "problem") _ _ x.is, a.0)) c2.objects-section.ensures.1)
 
 returns-3 : tie.Need-returns-3
 unfolding bytes

@@ -8,10 +8,10 @@ sums-fit-requires : tie.Need-sums-fit-requires
 sums-fit-requires c κs = search rules
 
 returns : tie.Need-returns
-returns c = λ d h. rw (sym (c.before.sums_fit_lem.ensures d h) ∙ c.if1.true)
+returns c = λ d h. rw (sym (c.before.sums-fit.ensures d h) ∙ c.if1.true)
 
 returns-2 : tie.Need-returns-2
-returns-2 c = λ d h. rw (sym (c.before.sums_fit_lem.ensures d h) ∙ c.if1.false)
+returns-2 c = λ d h. rw (sym (c.before.sums-fit.ensures d h) ∙ c.if1.false)
 
 pub sums-at-spec : {M : Type 1} → statement M
 sums-at-spec = tie.close (tie.spec sums-fit-requires returns returns-2)

@@ -56,7 +56,7 @@ same_length : tie.Need-same-length
 same_length c = search rules
 
 returns-3 : tie.Need-returns-3
-returns-3 c = let c2 = c.before.before in let c5 = c2.before.before.before in let c7 = c5.before.before in let c9 = c7.before.before in let q = ahead_done _ _ _ _ _ c9.o.given.1 c9.before.before.opening.ensures.1 in let w = word_in _ _ q.1 _ _ _ (sym c7.token-at.ensures ∙ c5.t.given.1) in (λ x h. part_headed _ _ (body_of _ _ x) _ c9.before.before.before.before.before.before.args.left _ _ _ _ _ (answer_done (opening _ _ _) _ _ (sym c9.before.before.opening.ensures.0 ∙ c9.o.given.1)) _ _ _ (sym c7.token-at.ensures ∙ c5.t.given.1) _ _ (c2.part_behind_lem.ensures.0 x h), spent_back _ _ _ _ _ (omega (arith, q.0, w.0, w.1)) c2.part_behind_lem.ensures.1)
+returns-3 c = let c2 = c.before.before in let c5 = c2.before.before.before in let c7 = c5.before.before in let c9 = c7.before.before in let q = ahead_done _ _ _ _ _ c9.o.given.1 c9.before.before.opening.ensures.1 in let w = word_in _ _ q.1 _ _ _ (sym c7.token-at.ensures ∙ c5.t.given.1) in (λ x h. part_headed _ _ (body_of _ _ x) _ c9.before.before.before.before.before.before.args.left _ _ _ _ _ (answer_done (opening _ _ _) _ _ (sym c9.before.before.opening.ensures.0 ∙ c9.o.given.1)) _ _ _ (sym c7.token-at.ensures ∙ c5.t.given.1) _ _ (c2.part-behind.ensures.0 x h), spent_back _ _ _ _ _ (omega (arith, q.0, w.0, w.1)) c2.part-behind.ensures.1)
 
 pub part-at-spec : {M : Type 1} → statement M
 part-at-spec =

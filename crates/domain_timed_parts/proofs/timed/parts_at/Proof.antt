@@ -69,7 +69,7 @@ same_length c = search rules
 
 returns-3 : tie.Need-returns-3
 unfolding bytes
-returns-3 c = let c2 = c.before.before in let c4 = c2.before.before in let c5 = c4.before in let c7 = c5.before.before in let c9 = c7.before.before in let c11 = c9.before.before in let c13 = c11.before.before in let q = ahead_done _ _ _ _ _ c13.o.given.1 c13.before.before.opening.ensures.1 in let w = word_in _ _ q.1 _ _ _ (sym c11.token-at.ensures ∙ c9.t.given.1) in (λ x h. parts_several _ _ (body_of _ _ x) _ c13.before.before.before.before.before.before.args.left _ _ _ _ _ (answer_done (opening _ _ _) _ _ (sym c13.before.before.opening.ensures.0 ∙ c13.o.given.1)) _ _ _ (sym c11.token-at.ensures ∙ c9.t.given.1) _ _ (rw (c7.word_of.ensures ∙ word_is _ _ _ _ _ refl) at (sym c5.same_word.ensures ∙ c4.if1.true)) (c2.parts_to_lem.ensures.0 x _ h (omega arith)), spent_back _ _ _ _ _ (omega (arith, q.0, w.0, w.1)) c2.parts_to_lem.ensures.1)
+returns-3 c = let c2 = c.before.before in let c4 = c2.before.before in let c5 = c4.before in let c7 = c5.before.before in let c9 = c7.before.before in let c11 = c9.before.before in let c13 = c11.before.before in let q = ahead_done _ _ _ _ _ c13.o.given.1 c13.before.before.opening.ensures.1 in let w = word_in _ _ q.1 _ _ _ (sym c11.token-at.ensures ∙ c9.t.given.1) in (λ x h. parts_several _ _ (body_of _ _ x) _ c13.before.before.before.before.before.before.args.left _ _ _ _ _ (answer_done (opening _ _ _) _ _ (sym c13.before.before.opening.ensures.0 ∙ c13.o.given.1)) _ _ _ (sym c11.token-at.ensures ∙ c9.t.given.1) _ _ (rw (c7.word_of.ensures ∙ word_is _ _ _ _ _ refl) at (sym c5.same_word.ensures ∙ c4.if1.true)) (c2.parts-to.ensures.0 x _ h (omega arith)), spent_back _ _ _ _ _ (omega (arith, q.0, w.0, w.1)) c2.parts-to.ensures.1)
 
 sub-part-behind : tie.Need-overflow-sub-part-behind
 sub-part-behind c = let c9 = c.before.before.before.before.before.before.before.before.before in let deep = opened_deep _ _ _ _ _ (answer_done (opening _ _ _) _ _ (sym c9.before.before.opening.ensures.0 ∙ c9.o.given.1)) in omega arith
@@ -82,7 +82,7 @@ same-length-2 c = search rules
 
 returns-4 : tie.Need-returns-4
 unfolding bytes
-returns-4 c = let c2 = c.before.before in let c4 = c2.before.before in let c5 = c4.before in let c7 = c5.before.before in let c9 = c7.before.before in let c11 = c9.before.before in let c13 = c11.before.before in let q = ahead_done _ _ _ _ _ c13.o.given.1 c13.before.before.opening.ensures.1 in let w = word_in _ _ q.1 _ _ _ (sym c11.token-at.ensures ∙ c9.t.given.1) in (λ x h. parts_one _ _ (body_of _ _ x) _ c13.before.before.before.before.before.before.args.left _ _ _ _ _ (answer_done (opening _ _ _) _ _ (sym c13.before.before.opening.ensures.0 ∙ c13.o.given.1)) _ _ _ (sym c11.token-at.ensures ∙ c9.t.given.1) _ _ (rw (c7.word_of.ensures ∙ word_is _ _ _ _ _ refl) at (sym c5.same_word.ensures ∙ c4.if1.false)) (c2.part_behind_lem.ensures.0 x h), spent_back _ _ _ _ _ (omega (arith, q.0, w.0, w.1)) c2.part_behind_lem.ensures.1)
+returns-4 c = let c2 = c.before.before in let c4 = c2.before.before in let c5 = c4.before in let c7 = c5.before.before in let c9 = c7.before.before in let c11 = c9.before.before in let c13 = c11.before.before in let q = ahead_done _ _ _ _ _ c13.o.given.1 c13.before.before.opening.ensures.1 in let w = word_in _ _ q.1 _ _ _ (sym c11.token-at.ensures ∙ c9.t.given.1) in (λ x h. parts_one _ _ (body_of _ _ x) _ c13.before.before.before.before.before.before.args.left _ _ _ _ _ (answer_done (opening _ _ _) _ _ (sym c13.before.before.opening.ensures.0 ∙ c13.o.given.1)) _ _ _ (sym c11.token-at.ensures ∙ c9.t.given.1) _ _ (rw (c7.word_of.ensures ∙ word_is _ _ _ _ _ refl) at (sym c5.same_word.ensures ∙ c4.if1.false)) (c2.part-behind.ensures.0 x h), spent_back _ _ _ _ _ (omega (arith, q.0, w.0, w.1)) c2.part-behind.ensures.1)
 
 pub parts-at-spec : {M : Type 1} → statement M
 parts-at-spec =

@@ -21,7 +21,7 @@ behind-at-requires c κs = search rules
 
 returns : tie.Need-returns
 unfolding bytes
-returns c = (time_at _ _ _ _ _ _ (rw c.before.before.before.before.part_of.ensures at (sym c.before.before.same_word.ensures ∙ c.before.if1.true)) c.behind_at_lem.ensures.0, c.behind_at_lem.ensures.1)
+returns c = (time_at _ _ _ _ _ _ (rw c.before.before.before.before.part_of.ensures at (sym c.before.before.same_word.ensures ∙ c.before.if1.true)) c.behind-at.ensures.0, c.behind-at.ensures.1)
 
 part-of-requires-2 : tie.Need-part-of-requires-2
 part-of-requires-2 c κs = search rules

@@ -35,7 +35,7 @@ item-of-requires c κs = (word_in _ _ c.before.before.before.before.before.befor
 
 returns-3 : tie.Need-returns-3
 unfolding item
-returns-3 c = let c3 = c.before.before.before in rw (sym c3.before.before.before.token-at.ensures ∙ c3.t2.given.1) (c.item_of_lem.ensures c3.before.before.before.before.before.args.text.now (c.before.word_of.ensures ∙ word_is _ _ _ _ _ refl))
+returns-3 c = let c3 = c.before.before.before in rw (sym c3.before.before.before.token-at.ensures ∙ c3.t2.given.1) (c.item-of.ensures c3.before.before.before.before.before.args.text.now (c.before.word_of.ensures ∙ word_is _ _ _ _ _ refl))
 
 pub item-at-spec : {M : Type 1} → statement M
 item-at-spec =

@@ -116,7 +116,7 @@ expr-reads-returns-4 : (t : ℕ) → expr-reads-lts.Need-returns-4 (
   expr-reads-below t,
   expr_reads_lem.Post,
 ) (expr-reads-at t) expr_reads_lem.Post
-expr-reads-returns-4 t c = let s = c.before.before.before.before.before.before.before in found_minus summed (four_at s.args.objects.now s.args.k) s.args.x (expr_at (s.args.depth - 1) s.args.rows.now (s.args.at + 1)) (expr_minus s.args.rows.now s.args.at s.args.depth c.before.before.before.before.before.if1.false (omega arith) c.before.before.before.cell.ensures.0 c.if4.true) c.before.expr_reads_lem.ensures
+expr-reads-returns-4 t c = let s = c.before.before.before.before.before.before.before in found_minus summed (four_at s.args.objects.now s.args.k) s.args.x (expr_at (s.args.depth - 1) s.args.rows.now (s.args.at + 1)) (expr_minus s.args.rows.now s.args.at s.args.depth c.before.before.before.before.before.if1.false (omega arith) c.before.before.before.cell.ensures.0 c.if4.true) c.before.expr-reads.ensures
 
 expr-reads-sub-expr-reads-2 : (t : ℕ) → expr-reads-lts.Need-overflow-sub-expr-reads-2 (
   cell-reads.Asked,
@@ -146,7 +146,7 @@ expr-reads-returns-5 : (t : ℕ) → expr-reads-lts.Need-returns-5 (
   expr-reads-below t,
   expr_reads_lem.Post,
 ) (expr-reads-at t) expr_reads_lem.Post
-expr-reads-returns-5 t c = let s = c.before.before.before.before.before.before.before.before.before in found_first summed (four_at s.args.objects.now s.args.k) s.args.x (eqb c.before.before.before.before.before.cell.result 1) (expr_at (s.args.depth - 1) s.args.rows.now (s.args.at + 1)) (expr_at (s.args.depth - 1) s.args.rows.now) (expr_two s.args.rows.now s.args.at s.args.depth c.before.before.before.before.before.before.before.if1.false (omega arith) c.before.before.before.before.before.cell.ensures.0 c.before.before.if4.false (omega arith)) c.before.before.before.expr_reads_lem.ensures c.before.expr-reads2.ensures c.if5.true
+expr-reads-returns-5 t c = let s = c.before.before.before.before.before.before.before.before.before in found_first summed (four_at s.args.objects.now s.args.k) s.args.x (eqb c.before.before.before.before.before.cell.result 1) (expr_at (s.args.depth - 1) s.args.rows.now (s.args.at + 1)) (expr_at (s.args.depth - 1) s.args.rows.now) (expr_two s.args.rows.now s.args.at s.args.depth c.before.before.before.before.before.before.before.if1.false (omega arith) c.before.before.before.before.before.cell.ensures.0 c.before.before.if4.false (omega arith)) c.before.before.before.expr-reads.ensures c.before.expr-reads2.ensures c.if5.true
 
 expr-reads-returns-6 : (t : ℕ) → expr-reads-lts.Need-returns-6 (
   cell-reads.Asked,
@@ -156,7 +156,7 @@ expr-reads-returns-6 : (t : ℕ) → expr-reads-lts.Need-returns-6 (
   expr-reads-below t,
   expr_reads_lem.Post,
 ) (expr-reads-at t) expr_reads_lem.Post
-expr-reads-returns-6 t c = let s = c.before.before.before.before.before.before.before.before.before in found_second summed (four_at s.args.objects.now s.args.k) s.args.x (eqb c.before.before.before.before.before.cell.result 1) (expr_at (s.args.depth - 1) s.args.rows.now (s.args.at + 1)) (expr_at (s.args.depth - 1) s.args.rows.now) (expr_two s.args.rows.now s.args.at s.args.depth c.before.before.before.before.before.before.before.if1.false (omega arith) c.before.before.before.before.before.cell.ensures.0 c.before.before.if4.false (omega arith)) c.before.before.before.expr_reads_lem.ensures c.before.expr-reads2.ensures c.if5.false
+expr-reads-returns-6 t c = let s = c.before.before.before.before.before.before.before.before.before in found_second summed (four_at s.args.objects.now s.args.k) s.args.x (eqb c.before.before.before.before.before.cell.result 1) (expr_at (s.args.depth - 1) s.args.rows.now (s.args.at + 1)) (expr_at (s.args.depth - 1) s.args.rows.now) (expr_two s.args.rows.now s.args.at s.args.depth c.before.before.before.before.before.before.before.if1.false (omega arith) c.before.before.before.before.before.cell.ensures.0 c.before.before.if4.false (omega arith)) c.before.before.before.expr-reads.ensures c.before.expr-reads2.ensures c.if5.false
 
 pub +expr-reads-spec : {M : Type 1} → statement M
 +expr-reads-spec = close μ-expr-reads λ t. expr-reads-lts.spec (

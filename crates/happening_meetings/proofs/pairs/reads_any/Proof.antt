@@ -51,13 +51,13 @@ reads-fact-requires : tie.Need-reads-fact-requires invariant-loop decreases-loop
 reads-fact-requires c κs = search rules
 
 returns-2 : tie.Need-returns-2 invariant-loop decreases-loop
-returns-2 c = let s = c.before.before.before.before.before.before.before.before.before.before in some_hit (Happens.reads summed (point_in s.args.rows.now s.args.points.now s.args.objects.now s.args.i)) (marks_fact s.args.rows.now (four_at s.args.objects.now s.args.j) (told _ _ c.before.before.before.before.before.before.effect-at.ensures c.before.before.before.before.row.given.1) c.before.before.index.ensures) (reads_fact_lem summed (point_in s.args.rows.now s.args.points.now s.args.objects.now s.args.i) _ _ c.before.reads_fact_lem.ensures) c.if1.true ∙ c.before.before.before.before.before.before.before.loop.invariant
+returns-2 c = let s = c.before.before.before.before.before.before.before.before.before.before in some_hit (Happens.reads summed (point_in s.args.rows.now s.args.points.now s.args.objects.now s.args.i)) (marks_fact s.args.rows.now (four_at s.args.objects.now s.args.j) (told _ _ c.before.before.before.before.before.before.effect-at.ensures c.before.before.before.before.row.given.1) c.before.before.index.ensures) (reads_fact_lem summed (point_in s.args.rows.now s.args.points.now s.args.objects.now s.args.i) _ _ c.before.reads_fact.ensures) c.if1.true ∙ c.before.before.before.before.before.before.before.loop.invariant
 
 loop-less : tie.Need-loop-smaller invariant-loop decreases-loop
 loop-less c = omega (arith, (told _ _ c.before.before.before.before.before.before.effect-at.ensures c.before.before.before.before.row.given.1).inside, (told _ _ c.before.before.before.before.before.before.effect-at.ensures c.before.before.before.before.row.given.1).further)
 
 loop-again : tie.Need-loop-preserved invariant-loop decreases-loop
-loop-again c = let s = c.before.before.before.before.before.before.before.before.before.before in some_on (Happens.reads summed (point_in s.args.rows.now s.args.points.now s.args.objects.now s.args.i)) (marks_fact s.args.rows.now (four_at s.args.objects.now s.args.j) (told _ _ c.before.before.before.before.before.before.effect-at.ensures c.before.before.before.before.row.given.1) c.before.before.index.ensures) (reads_fact_lem summed (point_in s.args.rows.now s.args.points.now s.args.objects.now s.args.i) _ _ c.before.reads_fact_lem.ensures) c.if1.false ∙ c.before.before.before.before.before.before.before.loop.invariant
+loop-again c = let s = c.before.before.before.before.before.before.before.before.before.before in some_on (Happens.reads summed (point_in s.args.rows.now s.args.points.now s.args.objects.now s.args.i)) (marks_fact s.args.rows.now (four_at s.args.objects.now s.args.j) (told _ _ c.before.before.before.before.before.before.effect-at.ensures c.before.before.before.before.row.given.1) c.before.before.index.ensures) (reads_fact_lem summed (point_in s.args.rows.now s.args.points.now s.args.objects.now s.args.i) _ _ c.before.reads_fact.ensures) c.if1.false ∙ c.before.before.before.before.before.before.before.loop.invariant
 
 enum-known-row-2 : tie.Need-enum-known-row-2 invariant-loop decreases-loop
 enum-known-row-2 c = search rules
@@ -72,7 +72,7 @@ reads-number-requires : tie.Need-reads-number-requires invariant-loop decreases-
 reads-number-requires c κs = search rules
 
 returns-3 : tie.Need-returns-3 invariant-loop decreases-loop
-returns-3 c = let s = c.before.before.before.before.before.before.before.before.before.before in some_hit (Happens.reads summed (point_in s.args.rows.now s.args.points.now s.args.objects.now s.args.i)) (marks_number s.args.rows.now (four_at s.args.objects.now s.args.j) (told _ _ c.before.before.before.before.before.before.effect-at.ensures c.before.before.before.before.row2.given.1) c.before.before.index2.ensures refl) (reads_number_lem summed (point_in s.args.rows.now s.args.points.now s.args.objects.now s.args.i) _ _ c.before.reads_number_lem.ensures) c.if2.true ∙ c.before.before.before.before.before.before.before.loop.invariant
+returns-3 c = let s = c.before.before.before.before.before.before.before.before.before.before in some_hit (Happens.reads summed (point_in s.args.rows.now s.args.points.now s.args.objects.now s.args.i)) (marks_number s.args.rows.now (four_at s.args.objects.now s.args.j) (told _ _ c.before.before.before.before.before.before.effect-at.ensures c.before.before.before.before.row2.given.1) c.before.before.index2.ensures refl) (reads_number_lem summed (point_in s.args.rows.now s.args.points.now s.args.objects.now s.args.i) _ _ c.before.reads-number.ensures) c.if2.true ∙ c.before.before.before.before.before.before.before.loop.invariant
 
 expr-end-requires : tie.Need-expr-end-requires invariant-loop decreases-loop
 expr-end-requires c κs = search rules
@@ -81,7 +81,7 @@ loop-less-2 : tie.Need-loop-smaller-2 invariant-loop decreases-loop
 loop-less-2 c = omega (arith, (told _ _ c.before.before.before.before.before.before.before.effect-at.ensures c.before.before.before.before.before.row2.given.1).inside, number_further (told _ _ c.before.before.before.before.before.before.before.effect-at.ensures c.before.before.before.before.before.row2.given.1) c.expr-end.ensures)
 
 loop-again-2 : tie.Need-loop-preserved-2 invariant-loop decreases-loop
-loop-again-2 c = let s = c.before.before.before.before.before.before.before.before.before.before.before in some_on (Happens.reads summed (point_in s.args.rows.now s.args.points.now s.args.objects.now s.args.i)) (marks_number s.args.rows.now (four_at s.args.objects.now s.args.j) (told _ _ c.before.before.before.before.before.before.before.effect-at.ensures c.before.before.before.before.before.row2.given.1) c.before.before.before.index2.ensures c.expr-end.ensures) (reads_number_lem summed (point_in s.args.rows.now s.args.points.now s.args.objects.now s.args.i) _ _ c.before.before.reads_number_lem.ensures) c.before.if2.false ∙ c.before.before.before.before.before.before.before.before.loop.invariant
+loop-again-2 c = let s = c.before.before.before.before.before.before.before.before.before.before.before in some_on (Happens.reads summed (point_in s.args.rows.now s.args.points.now s.args.objects.now s.args.i)) (marks_number s.args.rows.now (four_at s.args.objects.now s.args.j) (told _ _ c.before.before.before.before.before.before.before.effect-at.ensures c.before.before.before.before.before.row2.given.1) c.before.before.before.index2.ensures c.expr-end.ensures) (reads_number_lem summed (point_in s.args.rows.now s.args.points.now s.args.objects.now s.args.i) _ _ c.before.before.reads-number.ensures) c.before.if2.false ∙ c.before.before.before.before.before.before.before.before.loop.invariant
 
 pub reads-any-spec : {M : Type 1} → statement M
 reads-any-spec =

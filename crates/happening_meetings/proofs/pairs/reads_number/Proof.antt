@@ -13,19 +13,19 @@ reads-number-requires : tie.Need-reads-number-requires
 reads-number-requires c κs = search rules
 
 returns : tie.Need-returns
-returns c = let s = c.before.before.before.before in number_in_test s.args.rows.now s.args.points.now s.args.objects.now s.args.i s.args.x c.before.before.point_at.ensures c.before.reads_number_lem.ensures c.if1.true
+returns c = let s = c.before.before.before.before in number_in_test s.args.rows.now s.args.points.now s.args.objects.now s.args.i s.args.x c.before.before.point_at.ensures c.before.reads-number.ensures c.if1.true
 
 rule-reads-requires : tie.Need-rule-reads-requires
 rule-reads-requires c κs = search rules
 
 returns-2 : tie.Need-returns-2
-returns-2 c = let s = c.before.before.before.before.before.before in number_in_rule s.args.rows.now s.args.points.now s.args.objects.now s.args.i s.args.x c.before.before.before.before.point_at.ensures c.before.before.before.reads_number_lem.ensures c.before.before.if1.false c.before.rule_reads_lem.ensures c.if2.true
+returns-2 c = let s = c.before.before.before.before.before.before in number_in_rule s.args.rows.now s.args.points.now s.args.objects.now s.args.i s.args.x c.before.before.before.before.point_at.ensures c.before.before.before.reads-number.ensures c.before.before.if1.false c.before.rule-reads.ensures c.if2.true
 
 rights-read-requires : tie.Need-rights-read-requires
 rights-read-requires c κs = search rules
 
 returns-3 : tie.Need-returns-3
-returns-3 c = let s = c.before.before.before.before.before.before.before in number_in_right s.args.rows.now s.args.points.now s.args.objects.now s.args.i s.args.x c.before.before.before.before.before.point_at.ensures c.before.before.before.before.reads_number_lem.ensures c.before.before.before.if1.false c.before.before.rule_reads_lem.ensures c.rights_read.ensures c.before.if2.false
+returns-3 c = let s = c.before.before.before.before.before.before.before in number_in_right s.args.rows.now s.args.points.now s.args.objects.now s.args.i s.args.x c.before.before.before.before.before.point_at.ensures c.before.before.before.before.reads-number.ensures c.before.before.before.if1.false c.before.before.rule-reads.ensures c.rights-read.ensures c.before.if2.false
 
 pub reads-number-spec : {M : Type 1} → statement M
 reads-number-spec =

@@ -29,7 +29,7 @@ expr-reads-requires : tie.Need-expr-reads-requires
 expr-reads-requires c κs = search rules
 
 returns-4 : tie.Need-returns-4
-returns-4 c = let s = c.before.before.before.before.before.before in rule_read (four_at s.args.objects.now s.args.k) s.args.x (expression_at s.args.rows.now (s.args.at + 1)) (rule_so s.args.rows.now s.args.at s.args.begins (omega arith) c.before.before.cell.ensures.0 (not_false s.args.begins c.before.before.before.before.if1.false) c.before.if3.false) c.expr_reads_lem.ensures
+returns-4 c = let s = c.before.before.before.before.before.before in rule_read (four_at s.args.objects.now s.args.k) s.args.x (expression_at s.args.rows.now (s.args.at + 1)) (rule_so s.args.rows.now s.args.at s.args.begins (omega arith) c.before.before.cell.ensures.0 (not_false s.args.begins c.before.before.before.before.if1.false) c.before.if3.false) c.expr-reads.ensures
 
 pub rule-reads-spec : {M : Type 1} → statement M
 rule-reads-spec =

@@ -16,7 +16,7 @@ either-requires : tie.Need-either-requires
 either-requires c κs = search rules
 
 returns : tie.Need-returns
-returns c = let s = c.before.before.before.before.before in sides_numbers s.args.rows.now (four_at s.args.objects.now s.args.k) s.args.numeric s.args.x s.args.e c.before.before.before.if1.true c.before.before.expr_reads_lem.ensures c.before.expr-reads2.ensures c.either.ensures
+returns c = let s = c.before.before.before.before.before in sides_numbers s.args.rows.now (four_at s.args.objects.now s.args.k) s.args.numeric s.args.x s.args.e c.before.before.before.if1.true c.before.before.expr-reads.ensures c.before.expr-reads2.ensures c.either.ensures
 
 expr-end-requires : tie.Need-expr-end-requires
 expr-end-requires c κs = search rules

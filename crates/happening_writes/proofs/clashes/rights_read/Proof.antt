@@ -47,13 +47,13 @@ expr-reads-requires : tie.Need-expr-reads-requires invariant-loop decreases-loop
 expr-reads-requires c κs = let c6 = c.before.before.before.before.before.before in c6.requires
 
 returns-2 : tie.Need-returns-2 invariant-loop decreases-loop
-returns-2 c = let c3 = c.before.before.before in let c6 = c3.before.before.before in let rows = c6.before.before.args.rows.now in let os = four_at c6.before.before.args.objects.now c6.before.before.args.k in let f = told _ _ c3.before.before.effect-at.ensures c3.row2.given.1 in rights_hit rows os c6.before.before.args.x _ f c.before.expr_reads_lem.ensures c.if1.true ∙ c6.loop.invariant
+returns-2 c = let c3 = c.before.before.before in let c6 = c3.before.before.before in let rows = c6.before.before.args.rows.now in let os = four_at c6.before.before.args.objects.now c6.before.before.args.k in let f = told _ _ c3.before.before.effect-at.ensures c3.row2.given.1 in rights_hit rows os c6.before.before.args.x _ f c.before.expr-reads.ensures c.if1.true ∙ c6.loop.invariant
 
 loop-less-2 : tie.Need-loop-smaller-2 invariant-loop decreases-loop
-loop-less-2 c = let c3 = c.before.before.before in let c8 = c3.before.before.before.before.before in let rows = c8.args.rows.now in let os = four_at c8.args.objects.now c8.args.k in let f = told _ _ c3.before.before.effect-at.ensures c3.row2.given.1 in omega (arith, f.inside, rights_further rows os c8.args.x _ f c.before.expr_reads_lem.ensures)
+loop-less-2 c = let c3 = c.before.before.before in let c8 = c3.before.before.before.before.before in let rows = c8.args.rows.now in let os = four_at c8.args.objects.now c8.args.k in let f = told _ _ c3.before.before.effect-at.ensures c3.row2.given.1 in omega (arith, f.inside, rights_further rows os c8.args.x _ f c.before.expr-reads.ensures)
 
 loop-again-2 : tie.Need-loop-preserved-2 invariant-loop decreases-loop
-loop-again-2 c = let c3 = c.before.before.before in let c6 = c3.before.before.before in let rows = c6.before.before.args.rows.now in let os = four_at c6.before.before.args.objects.now c6.before.before.args.k in let f = told _ _ c3.before.before.effect-at.ensures c3.row2.given.1 in rights_on rows os c6.before.before.args.x _ f c.before.expr_reads_lem.ensures c.if1.false ∙ c6.loop.invariant
+loop-again-2 c = let c3 = c.before.before.before in let c6 = c3.before.before.before in let rows = c6.before.before.args.rows.now in let os = four_at c6.before.before.args.objects.now c6.before.before.args.k in let f = told _ _ c3.before.before.effect-at.ensures c3.row2.given.1 in rights_on rows os c6.before.before.args.x _ f c.before.expr-reads.ensures c.if1.false ∙ c6.loop.invariant
 
 pub rights-read-spec : {M : Type 1} → statement M
 rights-read-spec =

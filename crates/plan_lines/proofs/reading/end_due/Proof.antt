@@ -15,10 +15,10 @@ refusal-requires : tie.Need-refusal-requires
 refusal-requires c κs = search rules
 
 returns : tie.Need-returns
-returns c = end_else _ _ _ _ c.before.before.end_at.ensures c.before.match.keys2 c.refusal.ensures
+returns c = end_else _ _ _ _ c.before.before.end-at.ensures c.before.match.keys2 c.refusal.ensures
 
 returns-2 : tie.Need-returns-2
-returns-2 c = end_read_lem _ _ _ (sym c.before.before.before.end_at.ensures ∙ c.before.t.given.1)
+returns-2 c = end_read_lem _ _ _ (sym c.before.before.before.end-at.ensures ∙ c.before.t.given.1)
 
 pub end-due-spec : {M : Type 1} → statement M
 end-due-spec =

@@ -53,7 +53,7 @@ refused-requires-3 : tie.Need-refused-requires-3
 refused-requires-3 c κs = search rules
 
 returns-3 : tie.Need-returns-3
-returns-3 c = let c3 = c.before.before.before in let c5 = c3.before.before in stepped_refused _ _ _ _ _ c.before.enum-told3.given.1 c.refused3.ensures _ (name_refused _ _ _ _ _ _ _ _ _ _ _ (sym c5.before.before.before.before.before.before.mark-due.ensures ∙ c5.before.before.before.before.m.given.1) _ _ (sym c5.before.before.opening-due.ensures ∙ c5.o.given.1) _ _ (sym c3.action_at_lem.ensures ∙ c.before.enum-told3.given.1))
+returns-3 c = let c3 = c.before.before.before in let c5 = c3.before.before in stepped_refused _ _ _ _ _ c.before.enum-told3.given.1 c.refused3.ensures _ (name_refused _ _ _ _ _ _ _ _ _ _ _ (sym c5.before.before.before.before.before.before.mark-due.ensures ∙ c5.before.before.before.before.m.given.1) _ _ (sym c5.before.before.opening-due.ensures ∙ c5.o.given.1) _ _ (sym c3.action-at.ensures ∙ c.before.enum-told3.given.1))
 
 slice-aggregate-objects-at : tie.Need-slice-aggregate-objects-at
 slice-aggregate-objects-at c = search rules
@@ -71,10 +71,10 @@ refused-requires-4 : tie.Need-refused-requires-4
 refused-requires-4 c κs = search rules
 
 returns-4 : tie.Need-returns-4
-returns-4 c = let c1 = c.before in let c4 = c1.before.before.before in let c7 = c4.before.before.before in let c9 = c7.before.before in let c11 = c9.before.before in stepped_refused _ _ _ _ _ c1.enum-told4.given.1 c.refused4.ensures _ (objects_refused _ _ _ _ _ _ _ _ _ _ _ (sym c11.before.before.before.before.before.before.mark-due.ensures ∙ c11.before.before.before.before.m.given.1) _ _ (sym c11.before.before.opening-due.ensures ∙ c11.o.given.1) _ _ (sym c9.action_at_lem.ensures ∙ c7.a.given.1) _ _ _ c4.objects-at.ensures _ _ c1.enum-told4.given.1)
+returns-4 c = let c1 = c.before in let c4 = c1.before.before.before in let c7 = c4.before.before.before in let c9 = c7.before.before in let c11 = c9.before.before in stepped_refused _ _ _ _ _ c1.enum-told4.given.1 c.refused4.ensures _ (objects_refused _ _ _ _ _ _ _ _ _ _ _ (sym c11.before.before.before.before.before.before.mark-due.ensures ∙ c11.before.before.before.before.m.given.1) _ _ (sym c11.before.before.opening-due.ensures ∙ c11.o.given.1) _ _ (sym c9.action-at.ensures ∙ c7.a.given.1) _ _ _ c4.objects-at.ensures _ _ c1.enum-told4.given.1)
 
 is-lasting-requires : tie.Need-is-lasting-requires
-is-lasting-requires c κs = let c7 = c.before.before.before.before.before.before.before in omega (arith, action_below _ _ _ _ _ _ (sym c7.before.before.action_at_lem.ensures ∙ c7.a.given.1), c7.before.before.before.before.before.before.before.before.before.before.before.before.before.before.before.requires.1.1)
+is-lasting-requires c κs = let c7 = c.before.before.before.before.before.before.before in omega (arith, action_below _ _ _ _ _ _ (sym c7.before.before.action-at.ensures ∙ c7.a.given.1), c7.before.before.before.before.before.before.before.before.before.before.before.before.before.before.before.requires.1.1)
 
 span-at-requires : tie.Need-span-at-requires
 span-at-requires c κs = search rules
@@ -89,7 +89,7 @@ refused-requires-5 : tie.Need-refused-requires-5
 refused-requires-5 c κs = search rules
 
 returns-5 : tie.Need-returns-5
-returns-5 c = let c1 = c.before in let c3 = c1.before.before in let c4 = c3.before in let c6 = c4.before.before in let c9 = c6.before.before.before in let c12 = c9.before.before.before in let c14 = c12.before.before in let c16 = c14.before.before in let c18 = c16.before.before in stepped_refused _ _ _ _ _ c1.enum-told5.given.1 c.refused5.ensures _ (lasting_refused _ _ _ _ _ _ _ _ _ _ _ (sym c18.before.before.before.before.mark-due.ensures ∙ c18.before.before.m.given.1) _ _ (sym c18.opening-due.ensures ∙ c16.o.given.1) _ _ (sym c14.action_at_lem.ensures ∙ c12.a.given.1) _ _ _ c9.objects-at.ensures _ _ c6.g.given.1 _ _ (sym (c3.span-at.ensures.0 ∙ ap (λ (b : Bool). span_answer (lasting_read c18.before.before.before.before.before.before.before.before.before.args.text.now b c6.g.given.0.0)) c4.is-lasting.ensures) ∙ c1.enum-told5.given.1))
+returns-5 c = let c1 = c.before in let c3 = c1.before.before in let c4 = c3.before in let c6 = c4.before.before in let c9 = c6.before.before.before in let c12 = c9.before.before.before in let c14 = c12.before.before in let c16 = c14.before.before in let c18 = c16.before.before in stepped_refused _ _ _ _ _ c1.enum-told5.given.1 c.refused5.ensures _ (lasting_refused _ _ _ _ _ _ _ _ _ _ _ (sym c18.before.before.before.before.mark-due.ensures ∙ c18.before.before.m.given.1) _ _ (sym c18.opening-due.ensures ∙ c16.o.given.1) _ _ (sym c14.action-at.ensures ∙ c12.a.given.1) _ _ _ c9.objects-at.ensures _ _ c6.g.given.1 _ _ (sym (c3.span-at.ensures.0 ∙ ap (λ (b : Bool). span_answer (lasting_read c18.before.before.before.before.before.before.before.before.before.args.text.now b c6.g.given.0.0)) c4.is-lasting.ensures) ∙ c1.enum-told5.given.1))
 
 array-read-t27 : tie.Need-array-read-t27
 array-read-t27 c = search rules
@@ -104,7 +104,7 @@ array-read-t36 : tie.Need-array-read-t36
 array-read-t36 c = search rules
 
 returns-6 : tie.Need-returns-6
-returns-6 c = let c1 = c.before in let c3 = c1.before.before in let c4 = c3.before in let c6 = c4.before.before in let c9 = c6.before.before.before in let c12 = c9.before.before.before in let c14 = c12.before.before in let c16 = c14.before.before in let c18 = c16.before.before in let c20 = c18.before.before in let c27 = c20.before.before.before.before.before.before.before in act_stepped _ _ _ _ _ _ _ _ _ _ _ (sym c20.before.before.mark-due.ensures ∙ c20.m.given.1) _ _ (sym c18.opening-due.ensures ∙ c16.o.given.1) _ _ (sym c14.action_at_lem.ensures ∙ c12.a.given.1) _ _ _ c9.objects-at.ensures _ _ c6.g.given.1 _ _ (sym (c3.span-at.ensures.0 ∙ ap (λ (b : Bool). span_answer (lasting_read c27.args.text.now b c6.g.given.0.0)) c4.is-lasting.ensures) ∙ c1.s.given.1) refl c27.requires.2 (amount_done _ _ _ c1.s.given.1 c3.span-at.ensures.1)
+returns-6 c = let c1 = c.before in let c3 = c1.before.before in let c4 = c3.before in let c6 = c4.before.before in let c9 = c6.before.before.before in let c12 = c9.before.before.before in let c14 = c12.before.before in let c16 = c14.before.before in let c18 = c16.before.before in let c20 = c18.before.before in let c27 = c20.before.before.before.before.before.before.before in act_stepped _ _ _ _ _ _ _ _ _ _ _ (sym c20.before.before.mark-due.ensures ∙ c20.m.given.1) _ _ (sym c18.opening-due.ensures ∙ c16.o.given.1) _ _ (sym c14.action-at.ensures ∙ c12.a.given.1) _ _ _ c9.objects-at.ensures _ _ c6.g.given.1 _ _ (sym (c3.span-at.ensures.0 ∙ ap (λ (b : Bool). span_answer (lasting_read c27.args.text.now b c6.g.given.0.0)) c4.is-lasting.ensures) ∙ c1.s.given.1) refl c27.requires.2 (amount_done _ _ _ c1.s.given.1 c3.span-at.ensures.1)
 
 pub act-at-spec : {M : Type 1} → statement M
 act-at-spec =

@@ -21,7 +21,7 @@ span-requires c κs = search rules
 returns : tie.Need-returns
 returns c = let a = c.before.before.before.before.before.args in let w = a.words.now in let o = a.objects.now in
     c.span.ensures (slot_in w o a.p).step.duration
-    ∙ ap (spans summed (state_in a.facts.now a.numbers.now)) (line_on a.rows.now w o a.p (c.before.before.line_at_lem.ensures o) (c.before.action_at_lem.ensures o))
+    ∙ ap (spans summed (state_in a.facts.now a.numbers.now)) (line_on a.rows.now w o a.p (c.before.before.line_at_lem.ensures o) (c.before.action-at.ensures o))
 
 pub span-at-spec : {M : Type 1} → statement M
 span-at-spec = tie.close (tie.spec line-at-requires action-at-requires span-requires returns)

@@ -31,7 +31,7 @@ element-write-watches c = search rules
 returns-2 : tie.Need-returns-2
 returns-2 c = let a = c.before.before.before.before.before.args in let w = a.words.now in let o = a.objects.now in
     let x = (slot_in w o a.p).step in
-    let mask = c.watched.ensures x.line x.duration ∙ ap (watching summed) (line_on a.rows.now w o a.p refl (c.before.action_at_lem.ensures o)) in
+    let mask = c.watched.ensures x.line x.duration ∙ ap (watching summed) (line_on a.rows.now w o a.p refl (c.before.action-at.ensures o)) in
     rw (← c.before.before.before.start-at.ensures o, le-ltb c.before.before.before.start-at.result a.held c.before.before.if1.false) (ap (set a.watches.now a.p) mask)
 
 pub watch-new-spec : {M : Type 1} → statement M

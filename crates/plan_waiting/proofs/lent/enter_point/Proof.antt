@@ -50,7 +50,7 @@ returns c =
     let p = c.before.before.before.before.before.before.before.before.place_at.result in
     let ep = c.before.before.before.before.before.before.before.before.place_at.ensures.0 in
     let e = c.enter in
-    let et = c.before.before.before.time_at.ensures.0 u.new.1.0 ∙ ap (λ (x : Slot). time (point_in x)) u.ensures.there in
+    let et = c.before.before.before.time-at.ensures.0 u.new.1.0 ∙ ap (λ (x : Slot). time (point_in x)) u.ensures.there in
     let ek = ap (λ (t : ℕ). t * 64 + p) et in (
       kept_enter w o a.n c.before.before.before.before.before.before.before.before.before.before.requires.0 c.before.before.before.before.before.before.before.before.before.before.requires.1 a.s u.new.0 u.new.1.0 p ep u.ensures e.new.0 e.result _ e.ensures.1 e.ensures.2 e.ensures.0 ek,
       used_enter w o a.n c.before.before.before.before.before.before.before.before.before.before.requires.0 c.before.before.before.before.before.before.before.before.before.before.requires.1 a.s u.new.0 u.new.1.0 p ep u.ensures e.new.0 e.result _ e.ensures.1 e.ensures.2 e.ensures.0 ek,

@@ -42,7 +42,7 @@ loop-again c =
       λ o.
           let m = latest_place w o i (omega arith) in
           let best = c.before.before.before.before.loop.invariant.1 o in
-          let time = c.before.time_at.ensures.0 o ∙ ap (λ (p : ℕ). time (point_in (slot_in w o p))) c.before.before.place_at.ensures.0 in
+          let time = c.before.time-at.ensures.0 o ∙ ap (λ (p : ℕ). time (point_in (slot_in w o p))) c.before.before.place_at.ensures.0 in
           ⊎_elim (λ u. omega (arith, u.0.taken, u.1)) (λ u. omega (arith, u.0.left, u.1)) c.if1.branch,
       ⊎_elim (λ u. omega (arith, u.0.taken, u.1)) (λ u. omega (arith, u.0.left, u.1)) c.if1.branch,
     )

@@ -18,7 +18,7 @@ add-result : tie.Need-overflow-add-result
 add-result c = search rules
 
 returns : tie.Need-returns
-returns c = ap (λ (n : ℕ). 1 + n) (c.line_ends_lem.ensures.0 ∙ ap (λ (l : List ℕ). line_ends l) (c.before.part_of.ensures ∙ front c.before.before.before.args.text.now c.before.before.before.args.place))
+returns c = ap (λ (n : ℕ). 1 + n) (c.line-ends.ensures.0 ∙ ap (λ (l : List ℕ). line_ends l) (c.before.part_of.ensures ∙ front c.before.before.before.args.text.now c.before.before.before.args.place))
 
 pub line-at-spec : {M : Type 1} → statement M
 line-at-spec = tie.close (tie.spec part-of-requires line-ends-requires add-result returns)

@@ -34,7 +34,7 @@ enum-told-3 : tie.Need-enum-told-3 invariant-loop decreases-loop
 enum-told-3 c = c.match.keys3
 
 returns : tie.Need-returns invariant-loop decreases-loop
-returns c = sym (c.before.before.before.before.before.loop.invariant ∙ gap_token _ _ _ c.before.before.before.before.loop-test.true (sym c.before.before.gap_step_lem.ensures ∙ c.enum-told3.given.1))
+returns c = sym (c.before.before.before.before.before.loop.invariant ∙ gap_token _ _ _ c.before.before.before.before.loop-test.true (sym c.before.before.gap_step.ensures ∙ c.enum-told3.given.1))
 
 add_at : tie.Need-overflow-add-at invariant-loop decreases-loop
 add_at c = omega arith
@@ -43,7 +43,7 @@ loop-less : tie.Need-loop-smaller invariant-loop decreases-loop
 loop-less c = omega arith
 
 loop-again : tie.Need-loop-preserved invariant-loop decreases-loop
-loop-again c = let c3 = c.before.before.before in ⊎_elim (λ w. rw w.2 (c3.before.loop.invariant ∙ gap_plain _ _ _ c3.loop-test.true (sym c.before.gap_step_lem.ensures ∙ w.1.given.1))) (λ w. rw w.2 (c3.before.loop.invariant ∙ gap_comment _ _ _ c3.loop-test.true (sym c.before.gap_step_lem.ensures ∙ w.1.given.1))) c.match.branch
+loop-again c = let c3 = c.before.before.before in ⊎_elim (λ w. rw w.2 (c3.before.loop.invariant ∙ gap_plain _ _ _ c3.loop-test.true (sym c.before.gap_step.ensures ∙ w.1.given.1))) (λ w. rw w.2 (c3.before.loop.invariant ∙ gap_comment _ _ _ c3.loop-test.true (sym c.before.gap_step.ensures ∙ w.1.given.1))) c.match.branch
 
 returns-2 : tie.Need-returns-2 invariant-loop decreases-loop
 returns-2 c = sym (c.before.loop.invariant ∙ gap_over _ _ _ c.loop-test.false)

@@ -3,8 +3,8 @@ use mathlib.Core.Path.{sym, ◌∙◌}
 use borrow.Author.Tests.{eq-eqb, ne_eqb}
 use Rattle.text_tokens.specs.Runs.{gap_step}
 use borrow.Author.Rules.{rules}
-use Rattle.text_tokens.proofs.runs.gap_step_lem.Statement.{statement}
-use Rattle.text_tokens.proofs.runs.gap_step_lem.Tie as tie
+use Rattle.text_tokens.proofs.runs.gap_step.Statement.{statement}
+use Rattle.text_tokens.proofs.runs.gap_step.Tie as tie
 
 returns : tie.Need-returns
 unfolding gap_step

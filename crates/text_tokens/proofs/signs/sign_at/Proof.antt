@@ -16,7 +16,7 @@ plan-bracket-requires : tie.Need-plan-bracket-requires
 plan-bracket-requires c κs = omega (arith, (sign_found _ _ _ _ c.if1.true c.before.stands.ensures).0)
 
 returns : tie.Need-returns
-returns c = c.plan_bracket.ensures ∙ sym (sign_found _ _ _ _ c.before.if1.true c.before.before.stands.ensures).1 ∙ c.before.before.before.after-space.ensures
+returns c = c.plan-bracket.ensures ∙ sym (sign_found _ _ _ _ c.before.if1.true c.before.before.stands.ensures).1 ∙ c.before.before.before.after-space.ensures
 
 end-at-requires : tie.Need-end-at-requires
 end-at-requires c κs = search rules

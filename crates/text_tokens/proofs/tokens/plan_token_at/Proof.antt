@@ -58,7 +58,7 @@ is-over-requires : tie.Need-is-over-requires
 is-over-requires c κs = search rules
 
 sub-sized : tie.Need-overflow-sub-sized
-sub-sized c = omega (arith, c.before.before.name_end_lem.ensures, named_least c.before.before.before.before.before.before.before.before.before.before.before.args.line.now (c.before.before.before.before.before.before.before.before.before.gap-end.result + 1))
+sub-sized c = omega (arith, c.before.before.name-end.ensures, named_least c.before.before.before.before.before.before.before.before.before.before.before.args.line.now (c.before.before.before.before.before.before.before.before.before.gap-end.result + 1))
 
 sized-requires : tie.Need-sized-requires
 sized-requires c κs = search rules
@@ -67,7 +67,7 @@ judged-requires-3 : tie.Need-judged-requires-3
 judged-requires-3 c κs = search rules
 
 returns-4 : tie.Need-returns-4
-returns-4 c = plan_letter _ _ _ c.before.before.before.before.before.before.before.before.before.before.before.gap-end.ensures _ c.before.before.before.before.before.before.before.before.before.before.if1.false c.before.before.before.before.before.before.before.before.if2.false (sym c.before.before.before.before.before.before.before.kind-of.ensures ∙ c.before.before.before.before.before.enum-told2.given.1) (plan_name _ _ _ c.before.before.before.before.before.before.before.before.before.before.if1.false (ap is_letter (sym c.before.before.before.before.before.before.before.kind-of.ensures ∙ c.before.before.before.before.before.enum-told2.given.1)) c.before.before.before.before.name_end_lem.ensures (sym c.before.before.before.is-over.ensures ∙ c.before.before.if3.true) _ _ c.before.sized.ensures c.judged3.ensures)
+returns-4 c = plan_letter _ _ _ c.before.before.before.before.before.before.before.before.before.before.before.gap-end.ensures _ c.before.before.before.before.before.before.before.before.before.before.if1.false c.before.before.before.before.before.before.before.before.if2.false (sym c.before.before.before.before.before.before.before.kind-of.ensures ∙ c.before.before.before.before.before.enum-told2.given.1) (plan_name _ _ _ c.before.before.before.before.before.before.before.before.before.before.if1.false (ap is_letter (sym c.before.before.before.before.before.before.before.kind-of.ensures ∙ c.before.before.before.before.before.enum-told2.given.1)) c.before.before.before.before.name-end.ensures (sym c.before.before.before.is-over.ensures ∙ c.before.before.if3.true) _ _ c.before.sized.ensures c.judged3.ensures)
 
 enum-told-3 : tie.Need-enum-told-3
 enum-told-3 c = search rules
@@ -94,7 +94,7 @@ judged-requires-5 : tie.Need-judged-requires-5
 judged-requires-5 c κs = search rules
 
 returns-6 : tie.Need-returns-6
-returns-6 c = plan_bracket _ _ _ c.before.before.before.before.before.before.before.before.gap-end.ensures _ c.before.before.before.before.before.before.before.if1.false c.before.before.before.before.before.if2.false _ (sym c.before.before.before.before.kind-of.ensures ∙ c.before.before.enum-told4.given.1) c.before.plan_bracket.ensures c.judged5.ensures
+returns-6 c = plan_bracket _ _ _ c.before.before.before.before.before.before.before.before.gap-end.ensures _ c.before.before.before.before.before.before.before.if1.false c.before.before.before.before.before.if2.false _ (sym c.before.before.before.before.kind-of.ensures ∙ c.before.before.enum-told4.given.1) c.before.plan-bracket.ensures c.judged5.ensures
 
 plan-run-requires : tie.Need-plan-run-requires
 plan-run-requires c κs = search rules

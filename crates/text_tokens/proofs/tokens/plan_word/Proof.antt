@@ -40,7 +40,7 @@ enum-told-6 c = search rules
 
 returns : tie.Need-returns
 unfolding plan_word
-returns c = c.plan_number_lem.ensures ∙ rw (sym c.before.before.before.class_of.ensures ∙ c.before.enum_told.given.1)
+returns c = c.plan-number.ensures ∙ rw (sym c.before.before.before.class_of.ensures ∙ c.before.enum_told.given.1)
 
 returns-2 : tie.Need-returns-2
 unfolding plan_word
