@@ -1,4 +1,6 @@
 // The check of a plan: what the caller holds, and the calls on it. No call asks anything of what it is handed.
+#![tactic(auto)]
+
 mod adding;
 mod forming;
 mod listing;

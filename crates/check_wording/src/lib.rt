@@ -1,4 +1,6 @@
 // The line written: its words are fixed byte strings. What does not fit into the lent bytes is not written.
+#![tactic(auto)]
+
 ghost use Rattle.std.specs.Prelude.{◌≡◌, [], ◌∷◌, ◌++◌, ◌+◌, ◌≤◌, ◌<◌, length};
 ghost use Rattle.std.proofs.lemmas.List.Edits.{sets};
 ghost use Rattle.check_wording.specs.Wording.{decimal, time_of, word_of, line_of, second_of, verdict_line, refusal_line, behind_space, ended};

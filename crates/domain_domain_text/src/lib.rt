@@ -1,4 +1,6 @@
 // The text of a domain, read whole: its tables, and its actions as rows and cells.
+#![tactic(auto)]
+
 ghost use Rattle.std.specs.Prelude.{◌≡◌, [], ◌≤◌, length};
 ghost use Rattle.domain_meaning.specs.Domain.{Vocabulary, read_domain};
 ghost use Rattle.domain_rows.specs.Held.{rows_of};

@@ -1,4 +1,6 @@
 // What is due at a place of domain or problem: brackets, fixed words, names; and the refusal of what may not stand there.
+#![tactic(auto)]
+
 ghost use Rattle.std.specs.Prelude.{◌≡◌, ℕ, ◌≤◌, length};
 ghost use Rattle.domain_meaning.specs.Due.{number_of, place_of, opening, closing, word_due, any_name, new_name};
 ghost use Rattle.domain_due.specs.Answers.{answer_of, name_of, Ahead};

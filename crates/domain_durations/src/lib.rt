@@ -1,4 +1,6 @@
 // How long an action lasts, read and written as cells: the rule of a durative action, nothing of a simple one.
+#![tactic(auto)]
+
 ghost use Rattle.std.specs.Prelude.{◌≡◌, ◌+◌, ◌-◌, ◌≤◌, length};
 ghost use Rattle.domain_due.specs.Answers.{answer_of, Ahead};
 ghost use Rattle.domain_meaning.specs.Due.{after_of};

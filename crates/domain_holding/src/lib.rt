@@ -1,4 +1,6 @@
 // What is held of a domain or problem of any length in a lent block, so that it is read as the whole text is.
+#![tactic(auto)]
+
 ghost use Rattle.std.specs.Prelude.{◌≡◌, List, length, set, ℕ, ◌-◌};
 ghost use Rattle.text_words.specs.Spelling.{name_byte};
 ghost use Rattle.domain_holding.specs.Keeping.{kept_in, empty, next_of, go_on};

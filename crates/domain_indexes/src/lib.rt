@@ -1,4 +1,6 @@
 // Index rules: a predicate's or function's first index, and the sum over all of them.
+#![tactic(auto)]
+
 pub mod bases;
 
 ghost use Rattle.std.specs.Prelude.{◌≡◌, ℕ, ◌^◌, ◌*◌, ◌≤◌, ◌<◌, length};

@@ -1,4 +1,6 @@
 // A number of an expression as cells of the code: one that says its sign, its unit and how many bytes follow, then those bytes.
+#![tactic(auto)]
+
 ghost use Rattle.std.specs.Prelude.{◌≡◌, ℕ, ◌+◌, ◌≤◌, ◌<◌, ◌^◌, ◌∷◌, nat_abs, pos, length, set};
 ghost use Rattle.std.proofs.lemmas.List.Edits.{sets};
 ghost use Rattle.std.specs.Int.Signed.{mag, lt_z};

@@ -1,4 +1,6 @@
 // Domain and problem, both read whole: the model of what they say and the first state, or the one refusal.
+#![tactic(auto)]
+
 ghost use Rattle.std.specs.Prelude.{◌≡◌, true, length};
 ghost use Rattle.domain_meaning.specs.Terms.{Scope};
 ghost use Rattle.domain_meaning.specs.Domain.{Domain};

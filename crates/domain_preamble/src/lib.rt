@@ -1,4 +1,6 @@
 // What a domain declares before its actions: its name, and the types, constants, predicates and functions in the tables of one scope.
+#![tactic(auto)]
+
 pub mod vocabulary;
 
 ghost use Rattle.std.specs.Prelude.{◌≡◌, [], ℕ, ◌≤◌, length};

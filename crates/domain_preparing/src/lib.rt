@@ -1,4 +1,6 @@
 // What load has read, prepared for running: from the cells of the actions and of the goal to rows.
+#![tactic(auto)]
+
 pub mod actions;
 pub mod conditions;
 pub mod effects;

@@ -1,4 +1,6 @@
 // The text of a problem, read whole: its objects beside what the domain declares, the first facts and numbers, and the goal as cells.
+#![tactic(auto)]
+
 pub mod premises;
 
 ghost use Rattle.std.specs.Prelude.{◌≡◌, false, ◌≤◌, ◌<◌, length};

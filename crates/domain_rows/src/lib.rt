@@ -1,4 +1,6 @@
 // A table of declared names in a lent slice: rows of 38 bytes, a name's length, five numbers kept with it, its bytes and zeros.
+#![tactic(auto)]
+
 pub mod layout;
 
 ghost use Rattle.std.specs.Prelude.{◌≡◌, List, [], ◌∷◌, ◌++◌, map, ℕ, ◌+◌, ◌*◌, ◌≤◌, ◌<◌, length};

@@ -1,4 +1,6 @@
 // What frames the sections of domain and problem: their first words, the end of the text, and the requirement flags.
+#![tactic(auto)]
+
 ghost use Rattle.std.specs.Prelude.{◌≡◌, ℕ, ◌-◌, ◌≤◌, ◌<◌, eqb, length, get_or};
 ghost use Rattle.domain_due.specs.Answers.{answer_of, Ahead};
 ghost use Rattle.domain_meaning.specs.Due.{after_of};

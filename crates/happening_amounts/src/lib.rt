@@ -1,4 +1,6 @@
 // Numbers of the state and of expressions: exact within a million million thousandths of 0, both ends included. Signed work stands here and nowhere else.
+#![tactic(auto)]
+
 ghost use Rattle.std.specs.Prelude.{◌≡◌, ◌<◌, ◌^◌, neg_ℤ, ◌+ℤ◌, ◌-ℤ◌};
 ghost use Rattle.std.specs.Int.Signed.{mag, le_z};
 ghost use Rattle.happening_meaning.specs.State.{inside, within, number_at, stored, plus_of, less_of, minus_of};

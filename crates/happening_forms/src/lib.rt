@@ -1,4 +1,6 @@
 // Bytes of the rows, the objects of a point, and the index of a fact or number by its form: base and strides, no loop. Every byte gives something.
+#![tactic(auto)]
+
 ghost use Rattle.std.specs.Prelude.{◌≡◌, ◌+◌, ◌*◌, ◌/◌, ◌%◌, ◌^◌, ◌<◌, ◌≤◌, length, get_or};
 ghost use Rattle.domain_rows.specs.Held.{byte_at};
 ghost use Rattle.domain_meaning.specs.Indexes.{object_of};

@@ -1,5 +1,6 @@
 // What an instant does to a state: the meaning of a happening, of the conditions that span actions, and of the goal. Definitions, laws and worked
 // examples over the trees of the domain; the code that follows them stands in the crates after this one.
+#![tactic(auto)]
 
 // A number, or what there is where a number is not.
 #[derive(Drop)]

@@ -1,4 +1,6 @@
 // The points given to a call, and where what each needs stands in the rows; and where a line under way finds its conditions.
+#![tactic(auto)]
+
 ghost use Rattle.std.specs.Prelude.{◌≡◌, cond, ◌+◌, ◌*◌, ◌%◌, ◌≤◌, ◌<◌, length};
 ghost use Rattle.domain_prepared_meaning.specs.Decode.{place_in};
 ghost use Rattle.happening_placing.specs.Given.{placed_in};

@@ -1,4 +1,6 @@
 // The state: facts and numbers by their index, and the bit of each in a mask. Nothing else reads or writes the two slices by index.
+#![tactic(auto)]
+
 ghost use Rattle.std.specs.Prelude.{◌≡◌, cond, set};
 ghost use Rattle.happening_meaning.specs.State.{is_true, number_at, stored};
 ghost use Rattle.happening_state.specs.Masks.{fact_bit, number_bit};

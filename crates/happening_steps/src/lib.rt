@@ -1,4 +1,6 @@
 // One instant on a state, in the order of RULES 11: steps 1 to 4 for the points of a happening, step 5 for a line under way, and the goal.
+#![tactic(auto)]
+
 pub mod applying;
 pub mod judging;
 

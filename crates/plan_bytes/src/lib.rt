@@ -1,4 +1,6 @@
 // A plan that is fed: its bytes, part by part.
+#![tactic(auto)]
+
 pub mod bytes;
 
 use plan_feeding::PlanProgress;

@@ -1,4 +1,6 @@
 // A plan that is fed: its lines, as they end, and its end.
+#![tactic(auto)]
+
 pub mod stepping;
 
 use plan_running::Past;

@@ -1,4 +1,5 @@
 // What a plan means, over the whole plan at once, and the machine that is fed it in parts: definitions, laws, and how steps lie in numbers. No code.
+#![tactic(auto)]
 
 // A step of a plan. Its duration is 0 if its action is simple; of its four objects those past its action's parameters are 0. `width` is its line's length.
 #[derive(Drop)]

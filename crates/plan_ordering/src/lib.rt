@@ -1,4 +1,6 @@
 // Points that wait, in the order of their times, as one number each in a lent array: a window that moves up as points are taken from its front.
+#![tactic(auto)]
+
 ghost use Rattle.std.specs.Prelude.{◌≡◌, ℕ, ◌+◌, ◌<◌, ◌≤◌, length, get_or};
 ghost use Rattle.plan_ordering.specs.Order.{insert, front};
 ghost use Rattle.plan_ordering.specs.Keys.{time_of, keys_in, Inside};

@@ -1,1 +1,2 @@
 // Plans over prepared actions are read and run as over the actions. Laws, no code.
+#![tactic(auto)]

@@ -1,4 +1,6 @@
 // The happenings of waiting points, in the order of their times, up to a time; and the goal.
+#![tactic(auto)]
+
 pub mod layout;
 pub mod watching;
 

@@ -1,4 +1,6 @@
 // The points that wait, by line number: "the points of all lines so far whose time is not below that line's start".
+#![tactic(auto)]
+
 pub mod lent;
 
 ghost use Rattle.std.specs.Prelude.{◌≡◌, [], ◌≤◌, length};

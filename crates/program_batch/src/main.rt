@@ -1,4 +1,6 @@
 // Checks plans from standard input and writes what came of each, to be held beside `second --batch`.
+#![tactic(auto)]
+
 mod header;
 mod pieces;
 mod plan;

@@ -1,4 +1,6 @@
 // The shortest program on the library: checks the plan on standard input and writes its line. docs/CALLS.md goes through it.
+#![tactic(auto)]
+
 mod texts;
 
 use check_calls::{Answer, Check};

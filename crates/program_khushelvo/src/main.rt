@@ -1,4 +1,6 @@
 // The program for a technician: checks one plan from files, answers with the line of RULES 12 and says on standard error what that means.
+#![tactic(auto)]
+
 mod plan;
 mod reply;
 mod texts;

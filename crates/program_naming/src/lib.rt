@@ -1,4 +1,6 @@
 // A state for people: the true facts and the defined numbers as PDDL, a line each, in the order of their indexes, to standard output.
+#![tactic(auto)]
+
 mod amounts;
 mod grounds;
 mod rows;

@@ -1,4 +1,6 @@
 // Makes the calls on a check in the orders that a script on standard input names, and writes what each answers and leaves as it was.
+#![tactic(auto)]
+
 mod calls;
 mod checks;
 mod report;

@@ -1,4 +1,6 @@
 // The tokens of a text: of domain and problem, and of plan lines.
+#![tactic(auto)]
+
 pub mod classes;
 pub mod numbers;
 pub mod runs;
