@@ -1,4 +1,3 @@
-use borrow.Enum.Refused.{opened}
 use mathlib.Core.Path.{sym, ap, ◌∙◌}
 use mathlib.Core.Logic.{⊎_elim}
 use Prim.Native.Nat.{◌+◌}
@@ -36,5 +35,5 @@ returns-in-Bracket c = plan_bracket _ _ _ c.gap_end-p.ensures _ c.if-line-p.fals
 pub returns : goal.returns
 returns c = elim c.match-kind_of.branch [
   | in-Letter+else-is_over w ↦ plan_letter _ _ _ c.gap_end-p.ensures _ c.if-line-p.false c.if-b-eq58.false (sym c.kind_of.ensures ∙ w.in-Letter.is) c.plan_run.ensures
-  | in-White w ↦ plan_odd _ _ _ c.gap_end-p.ensures _ c.if-line-p.false c.if-b-eq58.false (rw c.kind_of.ensures at (opened w.in-White.in-White-own.keys5)) c.plan_run.ensures
+  | in-White w ↦ plan_odd _ _ _ c.gap_end-p.ensures _ c.if-line-p.false c.if-b-eq58.false (rw c.kind_of.ensures at w.in-White.in-White-own.keys5) c.plan_run.ensures
 ]
