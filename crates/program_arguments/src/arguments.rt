@@ -8,7 +8,7 @@ use text_tokens::classes;
 use text_words::spelling;
 
 // What an argument is by its bytes.
-#[derive(Drop)]
+#[derive(Clone, Copy)]
 pub enum Argument {
     State,
     Names,
@@ -21,7 +21,7 @@ pub enum Argument {
 }
 
 // What is asked for. A file is known by the number of the argument that names it: 0, the program's own name, is none.
-#[derive(Drop)]
+#[derive(Clone, Copy)]
 pub struct Options {
     pub state: bool,
     pub names: bool,
