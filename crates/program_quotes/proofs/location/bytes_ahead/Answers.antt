@@ -1,4 +1,3 @@
-use Prim.Native.Nat.{◌-◌}
 use native.Mathlib.Omega.{arith}
 use Rattle.program_quotes.proofs.Steps.{ahead_here, ahead_later, ahead_end}
 use Rattle.program_quotes.proofs.location.bytes_ahead.Goals as goal

@@ -1,5 +1,4 @@
 use mathlib.Core.Path.{sym, ◌∙◌}
-use Prim.Native.Nat.{◌-◌}
 use native.Mathlib.Omega.{arith}
 use Rattle.program_quotes.proofs.Steps.{behind_here, behind_later, behind_end}
 use Rattle.program_quotes.proofs.location.bytes_behind.Goals as goal

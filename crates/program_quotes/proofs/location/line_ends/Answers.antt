@@ -1,4 +1,3 @@
-use Prim.Native.Nat.{◌-◌}
 use native.Mathlib.Omega.{arith}
 use Rattle.program_quotes.proofs.Steps.{ends_here, ends_later, ends_end}
 use Rattle.program_quotes.proofs.location.line_ends.Goals as goal
