@@ -5,7 +5,7 @@ ghost use Rattle.check_calls.specs.Adding.{Adds};
 use plan_bytes::bytes;
 use plan_feeding::PlanProgress;
 
-#[derive(Drop)]
+#[derive(Clone, Copy)]
 pub struct Added {
     // how many bytes the line has then
     pub used: usize,

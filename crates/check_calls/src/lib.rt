@@ -27,7 +27,7 @@ pub struct Check {
 }
 
 // What a call answers.
-#[derive(Drop)]
+#[derive(Clone, Copy)]
 pub enum Answer {
     // it was done: how many places were written, 0 where nothing is
     Done(usize),

@@ -49,7 +49,7 @@ fn action_at(
     bodies::body_at(text, after, &own, acting, code, used, durative, starts, n)
 }
 
-#[derive(Drop)]
+#[derive(Clone, Copy)]
 pub enum ActionHead {
     // an action: whether it is durative, and where its section's word ends
     At(bool, usize),

@@ -11,7 +11,7 @@ use text_tokens::tokens::{Token, Word};
 use text_words::fixed;
 use text_words::fixed::HeadWord;
 
-#[derive(Drop)]
+#[derive(Clone, Copy)]
 pub enum ConditionHead {
     // `and`, `not`, or any other name: where it begins and where it ends
     And(usize, usize),

@@ -13,7 +13,7 @@ use domain_due::Parsed;
 use domain_preamble::Preamble;
 use domain_terms::scope::Counts;
 
-#[derive(Drop)]
+#[derive(Clone, Copy)]
 pub enum Known {
     // its name from, to; how many names each table has; how many actions there are
     Done(usize, usize, Counts, usize),

@@ -9,7 +9,7 @@ use text_tokens::tokens::{Token, Word};
 use text_tokens::{runs, tokens};
 use text_words::{fixed, spelling};
 
-#[derive(Drop)]
+#[derive(Clone, Copy)]
 pub enum Parsed {
     // the place after what was read, and a number: a place, or one that the reader says
     Done(usize, usize),

@@ -11,7 +11,7 @@ use text_tokens::tokens::{Token, Word};
 use text_words::fixed;
 use text_words::fixed::HeadWord;
 
-#[derive(Drop)]
+#[derive(Clone, Copy)]
 pub enum EffectHead {
     // `and`: where it ends
     All(usize),

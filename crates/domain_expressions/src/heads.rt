@@ -10,7 +10,7 @@ use text_tokens::tokens::{Token, Word};
 use text_words::fixed;
 use text_words::fixed::HeadWord;
 
-#[derive(Drop)]
+#[derive(Clone, Copy)]
 pub enum ExpressionHead {
     // a number: its value, where it ends, and how many operators and operands may follow
     Number(i64, usize, usize),

@@ -15,7 +15,7 @@ use text_tokens::tokens::Token;
 use text_tokens::{runs, tokens};
 use text_words::spelling::Place;
 
-#[derive(Drop)]
+#[derive(Clone, Copy)]
 pub enum Progress {
     // the place after what was read, the first cell that is free, and how many operators and operands may follow
     Done(usize, usize, usize),

@@ -9,7 +9,7 @@ ghost use Rattle.domain_forms.specs.Stored.{Stored, fixed_of, share_of, form_in}
 use crate::cells;
 
 // The place after what was read, and the first place that is free.
-#[derive(Drop)]
+#[derive(Clone, Copy)]
 pub struct Copied {
     pub next: usize,
     pub free: usize,

@@ -7,7 +7,7 @@ ghost use Rattle.domain_holding.specs.Keeping.{kept_in, empty, next_of, go_on};
 
 use text_words::{bytes, spelling};
 
-#[derive(Drop)]
+#[derive(Clone, Copy)]
 pub struct Held {
     // how many bytes of the block are in use
     pub used: usize,

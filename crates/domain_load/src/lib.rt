@@ -17,7 +17,7 @@ use domain_terms::scope::Counts;
 use text_tokens::runs;
 
 // How many facts and how many numbers there are.
-#[derive(Drop)]
+#[derive(Clone, Copy)]
 pub struct Sizes {
     pub facts: usize,
     pub numbers: usize,
@@ -41,7 +41,7 @@ pub struct Model {
 }
 
 // What load answers.
-#[derive(Drop)]
+#[derive(Clone, Copy)]
 pub enum LoadAnswer {
     Loaded,
     // a refusal of one of the texts: its number and place

@@ -20,14 +20,14 @@ use domain_terms::scope::Counts;
 use vocabulary::declared_section;
 
 // What was begun: the place after it, the name from, to, and how many names each table has.
-#[derive(Drop)]
+#[derive(Clone, Copy)]
 pub enum Preamble {
     Done(usize, usize, usize, Counts),
     Refused(u8, usize),
 }
 
 // A section that was read: the place after it, and how many names it declares.
-#[derive(Drop)]
+#[derive(Clone, Copy)]
 pub struct Section {
     pub end: usize,
     pub n: usize,

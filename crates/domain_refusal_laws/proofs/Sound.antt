@@ -207,8 +207,8 @@ module _ {A : Type 0} {s : List ℕ} {x from : ℕ} {Q : A → Type 0} where
         go at (T.End p) i l = g.ends at (T.End p) i l
 
   -- a refusal of its own that is 11 here
-  pub on_refusal_lem : {d : ℕ} (b : ℕ → ℕ → Bool) → After s x from Q (λ t. on_refusal t (λ k p. cond (b k p) (refuse 11 p) (refuse k p)) (wrong d t))
-  on_refusal_lem {d} b = record { ends = λ at t i l. go at t i l ((wrongs d).ends at t i l) }
+  pub on_refusal_lem : (d : ℕ) (b : ℕ → ℕ → Bool) → After s x from Q (λ t. on_refusal t (λ k p. cond (b k p) (refuse 11 p) (refuse k p)) (wrong d t))
+  on_refusal_lem d b = record { ends = λ at t i l. go at t i l ((wrongs d).ends at t i l) }
     where
       go : (at : ℕ) (t : Token) → from ≤ at → Looked s at t → Ends s x (at + 1) Q (wrong {A = A} d t (after_of t))
           → Ends s x (at + 1) Q (on_refusal t (λ k p. cond (b k p) (refuse 11 p) (refuse k p)) (wrong d t) (after_of t))

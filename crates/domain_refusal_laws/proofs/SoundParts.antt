@@ -54,10 +54,10 @@ module _ {s : List ℕ} {x : ℕ} where
     parts_to_lem : {from : ℕ} (k d n : ℕ) → length s < k + from → Sound s x from 1 Any (parts_to s over f k d n)
     unfolding parts_to
     parts_to_lem zero d n i = spent (omega arith)
-    parts_to_lem (suc k) d n i =
+    parts_to_lem {from = from} (suc k) d n i =
         peek_close
         (λ p q. then (closing_sound d) (λ i _. gives tt))
-        (then (part_sound d n) (λ y _. then (parts_to_lem k d y.left (omega arith)) (λ ys _. gives tt)))
+        (then (part_sound d n) (λ y _. then (parts_to_lem {from = from + 1} k d y.left (omega arith)) (λ ys _. gives tt)))
 
     parts_sound : {from : ℕ} (d n : ℕ) → Sound s x from 1 Any (parts s over f d n)
     unfolding parts
@@ -69,7 +69,7 @@ module _ {s : List ℕ} {x : ℕ} where
   -- ---- the duration rule
 
   head_sound : {from : ℕ} → After s x from Any (λ t. rule_head s t)
-  head_sound = on_word_lem (λ k p e h. choose (same_word (part s p e) (bytes "=")) (gives tt) (refuses refl h)) (on_refusal_lem (λ k p. eqb k 5))
+  head_sound = on_word_lem (λ k p e h. choose (same_word (part s p e) (bytes "=")) (gives tt) (refuses refl h)) (on_refusal_lem 13 (λ k p. eqb k 5))
 
   -- `?duration` where it stands, or the refusal of the token there
   spot_sound : {from : ℕ} → Sound s x from 0 Any (λ at. duration_spot s (spot_at s at (bytes "?duration")) at)

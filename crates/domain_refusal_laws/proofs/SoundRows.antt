@@ -96,7 +96,7 @@ module _ {s : List ℕ} {x : ℕ} where
 
   type_sound : {from : ℕ} (ts : Table) (b : ℕ) → Sound s x from 1 Any (type_due s ts b)
   unfolding type_due
-  type_sound ts b = token_then (on_word_lem (λ k p e h. type_word ts b k p e h) (on_open_lem (λ p h i. either_sound p h i) (wrongs _)))
+  type_sound ts b = token_then (on_word_lem (λ k p e h. type_word ts b k p e h) (on_open_lem (λ p h i. either_sound p h i) (wrongs 13)))
 
   group_sound : {from : ℕ} (own : Bool) (ts t : Table) (g : ℕ) → Sound s x from 1 Any (group s own ts t g)
   unfolding group
@@ -112,7 +112,7 @@ module _ {s : List ℕ} {x : ℕ} where
 
   item_sound : {from : ℕ} (var : Bool) → Sound s x from 1 (Listing s) (item s var)
   unfolding item
-  item_sound var = token_then (on_close_lem (λ p. gives tt) (on_word_lem (λ k p e h. item_word var k p e h) (wrongs _)))
+  item_sound var = token_then (on_close_lem (λ p. gives tt) (on_word_lem (λ k p e h. item_word var k p e h) (wrongs 13)))
 
   on_item_lem : {A : Type 0} {from b : ℕ} {Q : A → Type 0} {c : Reader A} {f : ℕ → Reader A} {g : ℕ → List ℕ → Reader A} (i : Item) → Listing s i
       → Sound s x from b Q c
@@ -135,11 +135,11 @@ module _ {s : List ℕ} {x : ℕ} where
       → Sound s x from 1 Any (typed k s var own ts max t g)
   unfolding typed
   typed_sound zero var own ts max t g h = spent (omega arith)
-  typed_sound (suc k) var own ts max t g h =
+  typed_sound {from = from} (suc k) var own ts max t g h =
       then (item_sound var) (λ i q. on_item_lem i q
       (gives tt)
-      (λ p q. then (waiting_sound t g q) (λ i _. then (group_sound own ts t g) (λ u _. typed_sound k var own ts max u (length u) (omega arith))))
-      (λ p w q. then (declare_sound max t w q) (λ u _. typed_sound k var own ts max u g (omega arith))))
+      (λ p q. then (waiting_sound t g q) (λ i _. then (group_sound own ts t g) (λ u _. typed_sound {from = from + 1 + 0 + 1} k var own ts max u (length u) (omega arith))))
+      (λ p w q. then (declare_sound max t w q) (λ u _. typed_sound {from = from + 1 + 0} k var own ts max u g (omega arith))))
 
   pub names_sound : {from : ℕ} (ts : Table) (max : ℕ) (t : Table) → Sound s x from 1 Any (names_to s ts max t)
   unfolding names_to
@@ -164,7 +164,7 @@ module _ {s : List ℕ} {x : ℕ} where
       → Sound s x from 1 Any (declarations k s ts max most t)
   unfolding declarations
   declarations_sound zero ts max most t h = spent (omega arith)
-  declarations_sound (suc k) ts max most t h =
+  declarations_sound {from = from} (suc k) ts max most t h =
       peek_close
       (λ p q. then (closing_sound _) (λ i _. gives tt))
-      (then (opening_sound _) (λ i _. then (declaration_sound ts max most t) (λ u _. declarations_sound k ts max most u (omega arith))))
+      (then (opening_sound _) (λ i _. then (declaration_sound ts max most t) (λ u _. declarations_sound {from = from + 1 + 1} k ts max most u (omega arith))))

@@ -107,20 +107,20 @@ module _ {s : List ℕ} {x : ℕ} where
   flag_word_lem W.Operator p e h = refuses refl h
 
   flag_sound : {from : ℕ} → After s x from Any (λ t. flag_of s t)
-  flag_sound = on_word_lem (λ k p e h. flag_word_lem k p e h) (on_refusal_lem (λ k p. eqb k 5 && eqb (get_or s p 0) 58))
+  flag_sound = on_word_lem (λ k p e h. flag_word_lem k p e h) (on_refusal_lem 14 (λ k p. eqb k 5 && eqb (get_or s p 0) 58))
 
   -- each step takes a byte: as many as the text has, and one, suffice
   flags_sound : {from : ℕ} (k : ℕ) → length s < k + from → Sound s x from 1 Any (flags_to k s)
   unfolding flags_to
   flags_sound zero h = spent (omega arith)
-  flags_sound (suc k) h = token_then (on_close_lem (λ p. gives tt) (follow flag_sound (λ i _. flags_sound k (omega arith))))
+  flags_sound {from = from} (suc k) h = token_then (on_close_lem (λ p. gives tt) (follow flag_sound (λ i _. flags_sound {from = from + 1} k (omega arith))))
 
   actions_sound : {from : ℕ} (k : ℕ) (c : Scope) (as' : List Action) → length s < k + from → Sound s x from 0 Any (actions_to k s c as')
   unfolding actions_to
   actions_sound zero c as' h = spent (omega arith)
-  actions_sound (suc k) c as' h =
-      begins_then (bytes ":action") _ (λ p q. then (action_sound c false as') (λ bs _. actions_sound k c bs (omega arith)))
-      (begins_then (bytes ":durative-action") _ (λ p q. then (action_sound c true as') (λ bs _. actions_sound k c bs (omega arith))) (gives tt))
+  actions_sound {from = from} (suc k) c as' h =
+      begins_then (bytes ":action") _ (λ p q. then (action_sound c false as') (λ bs _. actions_sound {from = from + 1 + 1} k c bs (omega arith)))
+      (begins_then (bytes ":durative-action") _ (λ p q. then (action_sound c true as') (λ bs _. actions_sound {from = from + 1 + 1} k c bs (omega arith))) (gives tt))
 
   flags_section_lem : {from : ℕ} → Sound s x from 0 Any (flags_section s)
   unfolding flags_section
@@ -173,10 +173,10 @@ module _ {s : List ℕ} {x : ℕ} where
   init_sound : {from : ℕ} (k : ℕ) (c : Scope) (y : Init) → length s < k + from → Sound s x from 1 Any (init_to k s c y)
   unfolding init_to
   init_sound zero c y h = spent (omega arith)
-  init_sound (suc k) c y h =
+  init_sound {from = from} (suc k) c y h =
       peek_close
       (λ p q. then (closing_sound 14) (λ i _. gives tt))
-      (then (opening_sound 14) (λ i _. token_then (follow (on_word_lem (λ k p e q. init_word_lem c y k p e q) (wrongs 13)) (λ z _. init_sound k c z (omega arith)))))
+      (then (opening_sound 14) (λ i _. token_then (follow (on_word_lem (λ k p e q. init_word_lem c y k p e q) (wrongs 13)) (λ z _. init_sound {from = from + 1 + 1} k c z (omega arith)))))
 
   goal_sound : {from : ℕ} (c : Scope) → Sound s x from 1 Any (goal_to s c)
   goal_sound c = then (condition_sound 14 c 64) (λ g _. then (closing_sound 14) (λ i _. gives tt))

@@ -53,10 +53,10 @@ module _ {s : List ℕ} {x : ℕ} where
   unfolding arguments
   arguments_sound d c [] =
       peek_close (λ p h. then (closing_sound d) (λ i _. gives tt)) (then (argument_sound d c) (λ g h. refuses {b = 0} refl h))
-  arguments_sound d c (want ∷ wants) =
+  arguments_sound {from = from} d c (want ∷ wants) =
       peek_close
       (λ p h. refuses refl h)
-      (then (argument_sound d c) (λ g h. then (fits_sound c want g h) (λ a _. then (arguments_sound d c wants) (λ as' _. gives tt))))
+      (then (argument_sound d c) (λ g h. then (fits_sound c want g h) (λ a _. then (arguments_sound {from = from + 1 + 0} d c wants) (λ as' _. gives tt))))
 
   pub reference_sound : {from : ℕ} (d : ℕ) (c : Scope) (t : Table) (i : ℕ) → Sound s x from 1 Any (reference s d c t i)
   unfolding reference
@@ -190,10 +190,10 @@ module _ {s : List ℕ} {x : ℕ} where
   list_sound : {from : ℕ} (k d : ℕ) {f : ℕ → Reader (Counted Cond)} → Takes s x f → (n : ℕ) → length s < k + from → Sound s x from 1 Any (list_to k s d f n)
   unfolding list_to
   list_sound zero d h n i = spent (omega arith)
-  list_sound (suc k) d h n i =
+  list_sound {from = from} (suc k) d h n i =
       peek_close
       (λ p q. then (closing_sound d) (λ i _. gives tt))
-      (then (h _ n) (λ y _. then (list_sound k d h y.left (omega arith)) (λ ys _. gives tt)))
+      (then (h _ n) (λ y _. then (list_sound {from = from + 1} k d h y.left (omega arith)) (λ ys _. gives tt)))
 
   module _ (d : ℕ) (c : Scope) {f : ℕ → Reader (Counted Cond)} (h : Takes s x f) where
     conjunction_sound : {from : ℕ} (n : ℕ) → Sound s x from 1 Any (conjunction s d f n)
@@ -247,10 +247,10 @@ module _ {s : List ℕ} {x : ℕ} where
       → Sound s x from 1 Any (effects_to k s d f n)
   unfolding effects_to
   effects_sound zero d h n i = spent (omega arith)
-  effects_sound (suc k) d h n i =
+  effects_sound {from = from} (suc k) d h n i =
       peek_close
       (λ p q. then (closing_sound d) (λ i _. gives tt))
-      (then (h _ n) (λ y _. then (effects_sound k d h y.left (omega arith)) (λ ys _. gives tt)))
+      (then (h _ n) (λ y _. then (effects_sound {from = from + 1} k d h y.left (omega arith)) (λ ys _. gives tt)))
 
   module _ (d : ℕ) (c : Scope) {f : ℕ → Reader (Counted (List Effect))} (h : Takes s x f) where
     effect_head_lem : {from : ℕ} (n : ℕ) (y : HeadWord) (p e : ℕ) → Stands s p → Sound s x from 0 Any (effect_head s d c f n y p e)

@@ -13,7 +13,7 @@ use text_tokens::tokens::{Token, Word};
 use text_words::{fixed, spelling};
 
 // A section that was asked for: its word from, to; or that another thing stands there.
-#[derive(Drop)]
+#[derive(Clone, Copy)]
 pub enum Opened {
     At(usize, usize),
     Other,
@@ -57,7 +57,7 @@ pub fn ending_at(text: &[u8], from: usize) -> Parsed
 }
 
 // A heading: the place after it, and its name from, to.
-#[derive(Drop)]
+#[derive(Clone, Copy)]
 pub enum Titled {
     At(usize, usize, usize),
     Refused(u8, usize),

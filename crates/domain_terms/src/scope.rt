@@ -12,7 +12,7 @@ use text_words::names::ROW;
 use text_words::spelling::Place;
 
 // How many names each table has. Where the tables lie says domain_rows::layout.
-#[derive(Drop)]
+#[derive(Clone, Copy)]
 pub struct Counts {
     pub types: usize,
     pub objects: usize,

@@ -9,7 +9,7 @@ use text_tokens::tokens;
 use text_tokens::tokens::{Token, Word};
 use text_words::{fixed, spelling};
 
-#[derive(Drop)]
+#[derive(Clone, Copy)]
 pub enum Item {
     // the place after the closing bracket
     Close(usize),

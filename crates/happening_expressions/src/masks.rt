@@ -7,7 +7,7 @@ ghost use Rattle.happening_expressions.specs.Evaluated.{expr_masked};
 use crate::ends;
 
 // What is read, and the place after what was looked at.
-#[derive(Drop)]
+#[derive(Clone, Copy)]
 pub struct Masked {
     pub mask: u64,
     pub next: usize,

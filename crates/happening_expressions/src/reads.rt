@@ -7,7 +7,7 @@ ghost use Rattle.happening_expressions.specs.Evaluated.{expr_found};
 use crate::ends;
 
 // Whether something is read, and the place after what was looked at.
-#[derive(Drop)]
+#[derive(Clone, Copy)]
 pub struct Found {
     pub found: bool,
     pub next: usize,

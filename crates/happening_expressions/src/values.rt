@@ -8,7 +8,7 @@ use crate::literals;
 use happening_meaning::Value;
 
 // The value of an expression, and the place after it.
-#[derive(Drop)]
+#[derive(Clone, Copy)]
 pub struct Valued {
     pub value: Value,
     pub next: usize,

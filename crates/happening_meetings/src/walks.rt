@@ -8,7 +8,7 @@ ghost use Rattle.happening_meetings.specs.Marks.{join_of, hit_by, after_one, met
 use happening_expressions::ends;
 
 // Whether something was met, and the place after what was looked at.
-#[derive(Drop)]
+#[derive(Clone, Copy)]
 pub struct Walked {
     pub found: bool,
     pub next: usize,

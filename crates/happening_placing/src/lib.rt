@@ -7,7 +7,7 @@ ghost use Rattle.happening_placing.specs.Given.{placed_in};
 
 // A point: its line, whether it is its step's start, how long the step lasts, and where its action's duration rule, and its single conditions and effects
 // for this time stand.
-#[derive(Drop)]
+#[derive(Clone, Copy)]
 pub struct Placed {
     pub line: usize,
     pub begins: bool,

@@ -6,7 +6,7 @@ ghost use Rattle.happening_tests.specs.Taken.{is_end, wants, row_of, row_at};
 
 // The list ends; a fact that is wanted true or not, its index and the place after it; whether two objects are as wanted, and the place after it; a
 // comparison that is wanted to hold or not, which one, and the place of its first side.
-#[derive(Drop)]
+#[derive(Clone, Copy)]
 pub enum Row {
     End,
     Fact(bool, usize, usize),

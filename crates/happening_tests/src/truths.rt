@@ -13,7 +13,7 @@ use happening_expressions::values;
 use happening_meaning::{Truth, Value};
 
 // Whether a condition holds, and the place after it.
-#[derive(Drop)]
+#[derive(Clone, Copy)]
 pub struct Judged {
     pub truth: Truth,
     pub next: usize,

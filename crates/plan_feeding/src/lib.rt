@@ -6,7 +6,7 @@ pub mod stepping;
 use plan_running::Past;
 
 // What is kept of a plan beside the state, the points that wait and the bytes of the line.
-#[derive(Drop)]
+#[derive(Clone, Copy)]
 pub struct PlanProgress {
     // how many bytes the line has so far, and its number
     pub used: usize,
@@ -22,7 +22,7 @@ pub struct PlanProgress {
 }
 
 // How many points wait, in lent numbers, and what else is kept.
-#[derive(Drop)]
+#[derive(Clone, Copy)]
 pub struct Went {
     pub count: usize,
     pub progress: PlanProgress,

@@ -2,7 +2,7 @@
 #![tactic(auto)]
 
 // A step of a plan. Its duration is 0 if its action is simple; of its four objects those past its action's parameters are 0. `width` is its line's length.
-#[derive(Drop)]
+#[derive(Clone, Copy)]
 pub struct Step {
     pub line: usize,
     pub start: usize,
@@ -16,14 +16,14 @@ pub struct Step {
 }
 
 // A point of a step: its end, or else its start.
-#[derive(Drop)]
+#[derive(Clone, Copy)]
 pub struct Slot {
     pub step: Step,
     pub ends: bool,
 }
 
 // What a line says: nothing, a step, or a refusal with its number and its place from 0.
-#[derive(Drop)]
+#[derive(Clone, Copy)]
 pub enum Line {
     Blank,
     Read(Step),

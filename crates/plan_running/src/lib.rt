@@ -26,14 +26,14 @@ use happening_steps::applying;
 use plan_waiting::lent;
 
 // The first failure and its time; or none, and the time of the last happening.
-#[derive(Drop)]
+#[derive(Clone, Copy)]
 pub struct Past {
     pub outcome: Outcome,
     pub time: usize,
 }
 
 // How many points still wait, and the run so far.
-#[derive(Drop)]
+#[derive(Clone, Copy)]
 pub struct Drained {
     pub count: usize,
     pub past: Past,

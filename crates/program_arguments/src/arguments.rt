@@ -10,7 +10,7 @@ use text_tokens::classes;
 use text_words::spelling;
 
 // What an argument is by its bytes.
-#[derive(Drop)]
+#[derive(Clone, Copy)]
 pub enum Argument {
     State,
     Names,

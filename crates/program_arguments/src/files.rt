@@ -8,7 +8,7 @@ use std::io::{Input, Read};
 use std::rt::{Env, Files};
 
 // What reading came to: how many bytes there are, and whether a read failed.
-#[derive(Drop)]
+#[derive(Clone, Copy)]
 pub struct Got {
     pub used: usize,
     pub failed: bool,

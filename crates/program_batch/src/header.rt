@@ -4,7 +4,7 @@ ghost use Rattle.std.specs.Prelude.{◌≤◌};
 use program_records::input;
 use text_words::bytes;
 
-#[derive(Drop)]
+#[derive(Clone, Copy)]
 pub struct RecordHead {
     pub domain: usize,
     pub problem: usize,

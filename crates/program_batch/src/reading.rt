@@ -3,7 +3,7 @@ use crate::pieces;
 use program_records::input;
 use text_tokens::runs;
 
-#[derive(Drop)]
+#[derive(Clone, Copy)]
 pub struct Stored {
     // how many bytes of the block are in use
     pub used: usize,

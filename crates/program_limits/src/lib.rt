@@ -12,7 +12,7 @@ use text_tokens::tokens;
 use text_tokens::tokens::{Token, Word};
 
 // The sizes that are refused by 12.
-#[derive(Drop)]
+#[derive(Clone, Copy)]
 pub enum Limit {
     Types,
     Objects,

@@ -8,7 +8,7 @@ use text_words::spelling::Place;
 use text_words::{fixed, spelling};
 
 // What the last keyword begins.
-#[derive(Drop)]
+#[derive(Clone, Copy)]
 pub enum Field {
     Types,
     Objects,
@@ -22,7 +22,7 @@ pub enum Field {
     Other,
 }
 
-#[derive(Drop)]
+#[derive(Clone, Copy)]
 pub struct Seen {
     pub field: Field,
     // how many brackets are open

@@ -2,7 +2,7 @@
 use crate::seen::Field;
 use text_tokens::tokens::Word;
 
-#[derive(Drop)]
+#[derive(Clone, Copy)]
 pub struct Tally {
     pub objects: usize,
     // the ground numbers of all functions but the last, and those of the last

@@ -7,7 +7,7 @@ use domain_rows::layout;
 use program_records::output;
 
 // A predicate or function, by its number, and an index among its own.
-#[derive(Drop)]
+#[derive(Clone, Copy)]
 pub struct Ground {
     pub head: usize,
     pub rest: usize,

@@ -4,7 +4,7 @@ ghost use Rattle.text_tokens.specs.Classes.{begins_number, begun_by, is_marked, 
 
 use text_words::{bytes, fixed, spelling};
 
-#[derive(Drop)]
+#[derive(Clone, Copy)]
 pub enum Class {
     Number,
     Name,

@@ -8,27 +8,27 @@ use crate::{classes, runs};
 use text_words::bytes;
 
 // A number without its sign, and with it.
-#[derive(Drop)]
+#[derive(Clone, Copy)]
 pub enum Numeral {
     Thousandths(usize),
     Malformed,
 }
 
-#[derive(Drop)]
+#[derive(Clone, Copy)]
 pub enum Number {
     Thousandths(i64),
     Malformed,
 }
 
 // A number that was read in a text, with the place where it ends.
-#[derive(Drop)]
+#[derive(Clone, Copy)]
 pub enum Figure {
     Thousandths(usize, usize),
     Malformed,
 }
 
 // Digits that were read: their value, and where they end.
-#[derive(Drop)]
+#[derive(Clone, Copy)]
 struct Digits {
     value: usize,
     end: usize,

@@ -6,7 +6,7 @@ ghost use Rattle.text_tokens.specs.Figures.{is_over};
 use text_words::bytes;
 
 // How a byte goes on a gap between tokens: outside a comment, in one, or not at all.
-#[derive(Drop)]
+#[derive(Clone, Copy)]
 pub enum Gap {
     Plain,
     Comment,

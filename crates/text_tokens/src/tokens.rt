@@ -10,7 +10,7 @@ use crate::{classes, numbers, runs};
 use text_words::bytes::Kind;
 use text_words::{bytes, fixed, spelling};
 
-#[derive(Drop)]
+#[derive(Clone, Copy)]
 pub enum Word {
     Name,
     Variable,
@@ -19,7 +19,7 @@ pub enum Word {
 }
 
 // With places: of a word or a number where it begins and where it ends, of a bracket its own and the next.
-#[derive(Drop)]
+#[derive(Clone, Copy)]
 pub enum Token {
     Word(Word, usize, usize),
     Number(i64, usize, usize),
@@ -126,7 +126,7 @@ pub fn token_at(text: &[u8], from: usize) -> Token
 }
 
 // Where a word stands, from and to.
-#[derive(Drop)]
+#[derive(Clone, Copy)]
 pub enum Spot {
     At(usize, usize),
     Other,

@@ -2,7 +2,7 @@
 ghost use Rattle.std.specs.Prelude.{◌≡◌};
 ghost use Rattle.text_words.specs.Bytes.{kind_of, lower_of, is_digit, is_white, is_refused, in_run};
 
-#[derive(Drop)]
+#[derive(Clone, Copy)]
 pub enum Kind {
     Digit,
     Letter,

@@ -6,7 +6,7 @@ use crate::spelling;
 use crate::spelling::Place;
 
 // What may open a condition, an expression or an effect, beside a declared name.
-#[derive(Drop)]
+#[derive(Clone, Copy)]
 pub enum HeadWord {
     And,
     Not,

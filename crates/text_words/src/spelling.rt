@@ -8,7 +8,7 @@ use crate::bytes;
 use crate::bytes::Kind;
 
 // Where a word was found.
-#[derive(Drop)]
+#[derive(Clone, Copy)]
 pub enum Place {
     At(usize),
     Nothing,

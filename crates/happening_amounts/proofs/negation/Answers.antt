@@ -1,0 +1,15 @@
+use mathlib.Core.Path.{◌∙◌}
+use Prim.Native.Nat.{◌^◌}
+use native.Mathlib.Nat.{lt_of_lt_of_le}
+use lib.Dec.{lit≤}
+use mir.Syntax.{w64}
+use mir.ValLaws.{to_z-of_z}
+use Rattle.happening_amounts.proofs.Mag.{mag_neg, from_zero}
+use Rattle.happening_amounts.proofs.negation.Goals as goal
+
+pub overflow_sub-result : goal.overflow_sub-result
+overflow_sub-result c = rw (to_z-of_z w64 c.args.a c.ranges.a, from_zero c.args.a)
+    (record { sfits = lt_of_lt_of_le (mag_neg c.args.a (2 ^ 61) c.requires) (lit≤ tt) })
+
+pub returns : goal.returns
+returns c = to_z-of_z w64 _ (overflow_sub-result c) ∙ rw (to_z-of_z w64 c.args.a c.ranges.a) (from_zero c.args.a)
