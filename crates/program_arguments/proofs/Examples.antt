@@ -1,6 +1,6 @@
 -- What arguments are, and sizes of parts.
 use mathlib.Core.Path.{◌≡◌, refl}
-use mathlib.Core.List.{List, [], ◌∷◌}
+use mathlib.Core.List.{[], ◌∷◌}
 use Rattle.text_words.specs.Bytes.{bytes, lower_of}
 use Rattle.text_words.specs.Spelling.{same_word}
 use Rattle.program_arguments.specs.Arguments.{option_of, argument_of, size_from}

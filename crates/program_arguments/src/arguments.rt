@@ -4,6 +4,8 @@ ghost use Rattle.program_arguments.specs.Arguments.{argument_of, option_of, size
 
 use crate::files;
 use program_quotes::stderr;
+use std::env::FillError;
+use std::rt::Env;
 use text_tokens::classes;
 use text_words::spelling;
 
@@ -171,13 +173,8 @@ impl Options {
     }
 }
 
-fn take_argument(options: Options, i: usize) -> Options {
-    let mut word = io::buffer();
-    let n = os::arg(i, &mut word);
-    options.take(i, &word[..n])
-}
-
-pub fn read() -> Options {
+// All arguments, from the one after the program's name on. One that is longer than 4,096 bytes counts as empty.
+pub fn read(rt: &impl Env) -> Options {
     let mut options = Options {
         state: false,
         names: false,
@@ -192,11 +189,17 @@ pub fn read() -> Options {
         unknown: 0,
         extra: 0,
     };
-    let n = os::arg_count();
-    let mut i = 1;
-    while i < n {
-        options = take_argument(options, i);
-        i += 1;
+    for i in 1..usize::MAX {
+        let mut word = io::buffer();
+        match rt.arg(i, &mut word) {
+            Ok(n) => {
+                options = options.take(i, &word[..n]);
+            }
+            Err(FillError::TooLong) => {
+                options = options.take(i, b"");
+            }
+            Err(FillError::NotPresent) => break,
+        }
     }
     options
 }
@@ -224,16 +227,16 @@ impl Options {
     }
 
     // Whether the arguments are right; if not, a line says what is wrong.
-    pub fn are_right(self) -> bool {
+    pub fn are_right(self, rt: &impl Env) -> bool {
         if self.unknown != 0 {
             stderr::say(b"khushelvo: unknown option ");
-            files::say_name(self.unknown);
+            files::say_name(rt, self.unknown);
             say_usage();
             return false;
         }
         if self.extra != 0 {
             stderr::say(b"khushelvo: one file too many: ");
-            files::say_name(self.extra);
+            files::say_name(rt, self.extra);
             say_usage();
             return false;
         }

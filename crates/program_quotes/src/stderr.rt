@@ -2,12 +2,15 @@
 use crate::location;
 use text_tokens::runs;
 
+// The descriptor of standard error.
+const STDERR: i32 = 2;
+
 pub fn say(words: &[u8]) {
-    io::write_all(libc::STDERR_FILENO, words);
+    io::write_all(STDERR, words);
 }
 
 pub fn say_number(n: usize) {
-    io::print_decimal(libc::STDERR_FILENO, n as u64);
+    io::print_decimal(STDERR, n as u64);
 }
 
 // A number with words around it.

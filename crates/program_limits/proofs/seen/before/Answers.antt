@@ -1,0 +1,1 @@
+-- `program_limits::seen::before` is safe and ends. Assumes nothing.

@@ -1,0 +1,1 @@
+-- `program_naming::grounds::put_arguments` is safe and ends. Assumes nothing.

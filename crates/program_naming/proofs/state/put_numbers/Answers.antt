@@ -1,0 +1,1 @@
+-- `program_naming::state::put_numbers` is safe and ends. Assumes nothing.

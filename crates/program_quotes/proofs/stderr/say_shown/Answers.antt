@@ -1,0 +1,1 @@
+-- `program_quotes::stderr::say_shown` is safe and ends. Assumes nothing.

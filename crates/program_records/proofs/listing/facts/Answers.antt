@@ -1,0 +1,1 @@
+-- `program_records::listing::facts` is safe and ends. Assumes nothing.

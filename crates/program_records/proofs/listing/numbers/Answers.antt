@@ -1,0 +1,1 @@
+-- `program_records::listing::numbers` is safe and ends. Assumes nothing.

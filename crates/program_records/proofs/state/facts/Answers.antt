@@ -1,0 +1,1 @@
+-- `program_records::state::facts` is safe and ends. Assumes nothing.

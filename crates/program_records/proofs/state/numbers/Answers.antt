@@ -1,0 +1,1 @@
+-- `program_records::state::numbers` is safe and ends. Assumes nothing.
