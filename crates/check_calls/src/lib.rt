@@ -14,7 +14,7 @@ use plan_bytes::bytes;
 use plan_feeding::{PlanProgress, stepping};
 use plan_waiting::Queue;
 
-#[derive(Drop)]
+#[derive(Clone, Copy)]
 pub struct Check {
     pub model: Model,
     pub facts: [u8; 16384],
@@ -45,13 +45,13 @@ pub enum Answer {
     Stateless,
 }
 
-#[derive(Drop)]
+#[derive(Clone, Copy)]
 pub struct LoadReply {
     pub check: Check,
     pub answer: LoadAnswer,
 }
 
-#[derive(Drop)]
+#[derive(Clone, Copy)]
 pub struct Reply {
     pub check: Check,
     pub answer: Answer,
