@@ -5,8 +5,8 @@ DESTDIR =
 
 to = $(DESTDIR)$(PREFIX)
 name = program_khushelvo
-program = target/bin/$(name)
-build = rm -f target/stamp/$(name) && rt check $(name)
+program = crates/$(name)/out/$(name)
+build = cd crates/$(name) && rt run
 version = lib/khushelvo/version
 log = share/doc/khushelvo/proof.log
 sums = share/doc/khushelvo/SHA256SUMS
@@ -19,12 +19,16 @@ folders = lib/khushelvo share/doc/khushelvo share/man/man1 share/man share/doc s
 ready:
 	@[ "$$(uname -m)" = x86_64 ] || { echo "make install: the program is for x86-64, and this machine is $$(uname -m)" >&2; exit 1; }
 	@[ -x '$(program)' ] || { echo "make install: the program is not built: $(build)" >&2; exit 1; }
-	@newer=$$(find crates.txt crates \( -name crates.txt -o -name '*.rt' -o -name '*.antt' \) -newer '$(program)' | sed 1q); \
+	@newer=$$(find crates.txt crates -name out -prune -o \( -name crates.txt -o -name '*.rt' -o -name '*.antt' \) -newer '$(program)' -print | sed 1q); \
 	    [ -z "$$newer" ] || { echo "make install: the program is older than $$newer: $(build)" >&2; exit 1; }
-	@command -v rt >/dev/null || { echo "make install: rt is not there, which knows by which kit the program is proved" >&2; exit 1; }
+	@command -v rt >/dev/null || { echo "make install: rt is not there, which says by what the program is proved" >&2; exit 1; }
 
-# The log has the version, the program's checksum, and of each crate that the program reaches the line by which rt says that it is proved.
+# The log has the version, the program's checksum, of each library of the program by which logic it is proved and the sum of what was built (rt builds only
+# what is proved), and the line by which rt says that the program is proved. It is asked for that line before anything is installed.
 install: ready
+	@mkdir -p target
+	(cd crates/$(name) && rt check) >target/proof.say
+	grep -q '^logic=proved ' target/proof.say
 	install -d $(folders:%='$(to)/%')
 	install -m 755 khushelvo '$(to)/bin/khushelvo'
 	install -m 755 '$(program)' '$(to)/lib/khushelvo/$(name)'
@@ -34,8 +38,11 @@ install: ready
 	install -m 644 /dev/null '$(to)/$(sums)'
 	./khushelvo --version >'$(to)/$(version)'
 	(cat '$(to)/$(version)' && cd '$(to)' && sha256sum lib/khushelvo/$(name)) >'$(to)/$(log)'
-	cd target/log && for crate in $$(sed -n 's/^library \(.*\):.*/\1/p' $(name).say) $(name); do \
-	    [ ! -d ../../crates/$$crate ] || { printf '%s: ' $$crate && grep '^logic=proved ' $$crate.say; } || exit 1; done >>'$(to)/$(log)'
+	for crate in $$(sed -n 's/^[a-z]* \([a-z0-9_]*\): modules loaded=.*/\1/p' target/proof.say); do \
+	    [ ! -d crates/$$crate ] || [ $$crate = $(name) ] || { \
+	    by=$$(sed -n 's/^\(logic\|sum\) /\1=/p' crates/$$crate/out/rlib/$$crate.rlib/format) && [ -n "$$by" ] && echo $$crate: $$by; } || exit 1; \
+	    done >>'$(to)/$(log)'
+	sed -n 's/^logic=proved /$(name): &/p' target/proof.say >>'$(to)/$(log)'
 	cd '$(to)' && sha256sum $(files) >$(sums)
 
 uninstall:

@@ -6,19 +6,17 @@ fed at a time, or is left out. An answer ends with a line `--`. Cases are taken 
 import itertools
 import os
 import pathlib
-import platform
 import subprocess
 import sys
 from typing import NamedTuple, Optional
 
 ROOT = pathlib.Path(__file__).resolve().parent.parent
 SECOND = ROOT / "second/target/release/second"
-BATCH = pathlib.Path(os.environ.get("BATCH", ROOT / "target/bin/program_batch")).absolute()
+BATCH = pathlib.Path(os.environ.get("BATCH", ROOT / "crates/program_batch/out/program_batch")).absolute()
 LAST_LINE = b"--\n"
 BENCH = ROOT / "examples/bench"
 # A case with more bytes is not stored: tests/long-texts gives it to both programs.
 SHORT = 5_000
-X86_64 = b"\x3e\x00"  # that processor's number in an ELF file
 
 
 class Case(NamedTuple):
@@ -53,7 +51,7 @@ def demand_programs():
     """Ends this run if one of the two programs has not been built."""
     for program in (SECOND, BATCH):
         if not os.access(program, os.X_OK):
-            sys.exit(f"{program} is missing: cargo build --release builds second, rt check program_batch builds it")
+            sys.exit(f"{program} is missing: cargo build --release builds second, rt run in crates/program_batch builds it")
 
 
 def generate(seed, count, path):
@@ -108,27 +106,10 @@ def read_answers(source):
         yield b"".join(lines)
 
 
-def is_for_x86_64(program):
-    """Whether a program is an ELF file for x86-64, as rt builds them; bench/native's are for the processor at hand."""
-    with open(program, "rb") as source:
-        head = source.read(20)
-    return head.startswith(b"\x7fELF") and head[18:20] == X86_64
-
-
-def emulator(program):
-    """What runs a program: nothing where it is for the processor at hand, else the kit's emulator."""
-    machine = platform.machine()
-    if machine == "x86_64" or not is_for_x86_64(program):
-        return []
-    guide = subprocess.run(["rt", "doc"], stdout=subprocess.PIPE, check=True, text=True).stdout.strip()
-    tools = pathlib.Path(guide).parent.parent / "on" / machine / "toolchain"
-    return [tools / "bin/qemu-x86_64", tools / "lib/ld-linux-x86-64.so.2", "--library-path", tools / "lib"]
-
-
 def run_both(path, folder):
     """Runs both programs over a file of cases; the folder has what they write. A bad exit status is one more line of it."""
     running = {}
-    for name, command in {"second": [SECOND, "--batch"], "batch": [*emulator(BATCH), BATCH]}.items():
+    for name, command in {"second": [SECOND, "--batch"], "batch": [BATCH]}.items():
         with open(path, "rb") as source, open(folder / name, "wb") as out:
             running[name] = subprocess.Popen(command, stdin=source, stdout=out)
     for name, program in running.items():

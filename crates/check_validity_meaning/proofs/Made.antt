@@ -12,7 +12,7 @@ use Rattle.happening_meaning.specs.Happening.{change_one, change_all, change_poi
 use Rattle.happening_meaning.specs.declared.Value.{Value}
 use Rattle.happening_meaning.specs.declared.Value.TheVariants as Is
 use Rattle.happening_meaning.specs.declared.Outcome.{Outcome}
-use Rattle.happening_meaning.specs.declared.Outcome.TheVariants.{Done, Undefined, Range}
+use Rattle.happening_meaning.specs.declared.Outcome.TheVariants.{Done}
 use Rattle.check_validity_meaning.specs.Lists.{All, First}
 use Rattle.check_validity_meaning.specs.Values.{HasValue}
 use Rattle.check_validity_meaning.specs.Happens.{Given, Doable, Evaluable, Written, Writes, AllWrite}

@@ -24,7 +24,7 @@ pub struct Sizes {
 }
 
 // What domain and problem say, as numbers.
-#[derive(Drop)]
+#[derive(Clone, Copy)]
 pub struct Model {
     // rows of 38 bytes: 17 of types, 64 of objects, 32 of predicates, 16 of functions, 4 of zeros
     pub tables: [u8; layout::TABLES_LENGTH],
@@ -49,7 +49,7 @@ pub enum LoadAnswer {
     Problem(u8, usize),
 }
 
-#[derive(Drop)]
+#[derive(Clone, Copy)]
 pub struct Loaded {
     pub model: Model,
     // the first state: a fact is true where its byte is 1, a number undefined where it is -1,000,000,000,001

@@ -11,14 +11,14 @@ use Rattle.text_tokens.specs.Tokens.{token_at}
 use Rattle.text_tokens.specs.declared.tokens.Token.{Token}
 use Rattle.text_tokens.specs.declared.tokens.Token.TheVariants as T
 use Rattle.text_tokens.proofs.Within.{Within, token_in}
-use Rattle.domain_meaning.specs.Read.{Read, Reader, got, refused, give, refuse, and_then}
+use Rattle.domain_meaning.specs.Read.{Read, Reader, got, refused, give, refuse, and_then, ◌>>=◌}
 use Rattle.domain_meaning.specs.Tables.{Table}
 use Rattle.domain_meaning.specs.Due.{after_of, wrong, on_end, on_open, on_close}
 use Rattle.domain_meaning.specs.Terms.{Scope}
 use Rattle.domain_meaning.specs.Actions.{Action, action}
-use Rattle.domain_meaning.specs.Domain.{Domain, Vocabulary, opened, other, begins_with, heading_of, flags_section, vocabulary, scope_in, actions_to, ending}
+use Rattle.domain_meaning.specs.Domain.{Domain, Vocabulary, Opened, opened, other, on_opened, begins_with, heading_of, flags_section, vocabulary, scope_in, actions_to, ending}
 use Rattle.domain_meaning.specs.Domain.{domain_text, read_domain}
-use Rattle.domain_meaning.specs.Problem.{Init, Problem, sums_fit, sums_at, scope_of, of_domain, premises, init_at, init_to, nothing, section_due_of, goal_to}
+use Rattle.domain_meaning.specs.Problem.{Init, Problem, sums_fit, sums_at, scope_of, of_domain, premises, init_at, init_to, nothing, section_due_of, section_due, goal_to}
 use Rattle.domain_meaning.specs.Problem.{init_and_goal, problem_text, read_problem}
 use Rattle.domain_meaning.proofs.Readings.{never}
 use Rattle.domain_meaning.proofs.Given.{Given, Any, Gives, Fits, reads, fits, stops, behind, given_got, given_then, fits_also, opened_gives}
@@ -201,14 +201,24 @@ module _ (s : List ℕ) (d : Domain) (r : DomainRead d) where
             given_then _ (condition_fits s c 14 64 at (omega arith))
             (λ g n k. given_then _ (closing_fits s 14 n) (λ q i u. fits (k.good.named, omega arith) (omega arith) (omega arith)))
 
+    -- what follows the section of init
+    abbrev after : Opened → Reader Problem
+    after o = do
+      x ← on_opened o (λ p. init_at s c p) (give nothing)
+      q ← section_due s ":goal"
+      _ ← on_opened o (λ p. give q) (sums_at c q)
+      g ← goal_to s c
+      give (record { objects = os; init = x; goal = g })
+
+    after_fits : (o : Opened) (at : ℕ) → Given Ends Any (after o at)
+    after_fits (opened p) at =
+        given_then _ (init_fits s c p at) (λ x b h. behind (section_due_of s (bytes ":goal") b) _ (λ q i. goal_fits x i h))
+    after_fits other at =
+        behind (section_due_of s (bytes ":goal") at) _ (λ q i. given_then _ (sums_fit_lem c q i) (λ y j h. goal_fits nothing j h))
+
     init_goal_fits : (at : ℕ) → Given Ends Any (init_and_goal s c at)
     unfolding init_and_goal
-    init_goal_fits at =
-        behind (begins_with s (bytes ":init") at) _
-        (λ o a. elim o [
-          | opened p ↦ given_then _ (init_fits s c p a) (λ x b h. behind (section_due_of s (bytes ":goal") b) _ (λ q i. goal_fits x i h))
-          | other ↦ behind (section_due_of s (bytes ":goal") a) _ (λ q i. given_then _ (sums_fit_lem c q i) (λ y j h. goal_fits nothing j h))
-        ])
+    init_goal_fits at = behind (begins_with s (bytes ":init") at) _ (λ o a. after_fits o a)
 
   goal_good : (p : Problem) → Objects d p.objects → NamedCond (scope_of d p.objects) 16 p.goal → GoodCond 16 p.goal
   goal_good p o h = cond_good (scope_of d p.objects) (domain_sized d p.objects r o.0.few) p.goal 16 h

@@ -4,8 +4,8 @@ use Prim.Native.Nat.{ℕ}
 use mathlib.Core.List.{List, [], ◌∷◌, map}
 use mathlib.Core.Bool.{true, false}
 use lib.IntN.{ℤ, pos, negsuc}
-use Rattle.domain_meaning.specs.Terms.{Arg, object, variable, Ref, Expr, number, value, minus, difference, plus}
-use Rattle.domain_meaning.specs.Conditions.{Cond, all, atom, same, compare, none, cons, equal, at_least}
+use Rattle.domain_meaning.specs.Terms.{Arg, object, variable, Ref, number, value, minus, difference, plus}
+use Rattle.domain_meaning.specs.Conditions.{Cond, all, atom, compare, none, cons, equal, at_least}
 use Rattle.domain_meaning.specs.Effects.{assign, raise, lower, Effect, becomes, changes}
 use Rattle.domain_meaning.specs.Actions.{When, start, end, Lasting, moment, rule}
 use Rattle.happening_meaning.specs.State.{State, Grounds, fact_of, number_of}
@@ -13,7 +13,7 @@ use Rattle.happening_meaning.specs.Truths.{value_of}
 use Rattle.happening_meaning.specs.Happening.{Point, happened, happening}
 use Rattle.happening_meaning.specs.declared.Value.TheVariants as Is
 use Rattle.happening_meaning.specs.declared.Outcome.{Outcome}
-use Rattle.happening_meaning.specs.declared.Outcome.TheVariants.{Done, Duration, Condition, Undefined, Range, Itself, Conflict}
+use Rattle.happening_meaning.specs.declared.Outcome.TheVariants.{Done, Condition, Undefined, Range, Itself, Conflict}
 use Rattle.happening_meaning.proofs.Examples.{state, open_happenings}
 
 -- ---- numbers: one function of one argument, objects 0 and 1

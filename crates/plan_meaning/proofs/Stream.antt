@@ -1,5 +1,5 @@
 -- The machine, fed the lines of a plan and finished, gives what the definition says of the whole plan. Assumes nothing.
-use Prim.Native.Nat.{ℕ, zero, suc, ◌+◌, ◌≤◌, max}
+use Prim.Native.Nat.{ℕ, zero, suc, ◌≤◌, max}
 use mathlib.Core.Bool.{Bool, true, false, cond}
 use mathlib.Core.List.{List, [], ◌∷◌, ◌++◌, append-nil, append_assoc}
 use mathlib.Core.Option.{some}
@@ -9,7 +9,7 @@ use borrow.Author.Tests.{leb-false, lt-leb}
 use lib.Dec.{leb}
 use lib.ListN.{length}
 use lib.Seq.{append_snoc}
-use Rattle.plan_meaning.specs.Plan.{Span, moment, lasting, Step, Point, Rules, time, ending, points_of, points, at, from, latest, under, up_to, verdict}
+use Rattle.plan_meaning.specs.Plan.{Span, moment, lasting, Step, Point, Rules, time, ending, points_of, points, from, latest, under, up_to, verdict}
 use Rattle.plan_meaning.specs.Plan.{Answer, blank, step, refusal, Limits, refused, ended, steps, too_many, first_refusal, unless, result}
 use Rattle.plan_meaning.specs.Machine.{Check, waits, halted, fresh, takes, finish}
 use Rattle.plan_meaning.proofs.Lists.{All, all_map, all_append, keep_append}

@@ -111,7 +111,7 @@ module _ {A : Type 0} (f g : A → ℕ) where
   later_same : (t u : ℕ) (s : List A) → t ≡ u → Agree s → all_later f t s ≡ all_later g u s
   unfolding all_later
   later_same t u [] e h = refl
-  later_same t u (x ∷ s) e h = rw (e, h.0) (ap (λ (b : Bool). ltb u (g x) && b) (later_same u u s refl h.1))
+  later_same t u (x ∷ s) e h = rw (e, h.0) (ap (λ (b : Bool). ltb u (g x) && b) (later_same t u s e h.1))
 
   insert_same : (p : A) (s : List A) → f p ≡ g p → Agree s → insert f p s ≡ insert g p s
   unfolding insert

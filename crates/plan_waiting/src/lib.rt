@@ -11,7 +11,7 @@ ghost use Rattle.plan_waiting.specs.Waiting.{used, queue_of, sound_step, listed_
 
 use plan_meaning::{Slot, Step};
 
-#[derive(Drop)]
+#[derive(Clone, Copy)]
 pub struct Queue {
     pub slots: [Slot; 64],
     pub count: usize,
