@@ -8,7 +8,7 @@ use text_tokens::runs;
 
 const STDOUT: i32 = 1;
 
-// The script `khushelvo` opens descriptor 3 to learn the answer: a program has no exit status of its own, and standard output goes past the script.
+// The script `khushelvo` opens descriptor 3 to learn the answer: the program ends with status 0 whatever it is, and standard output goes past the script.
 const SCRIPT: i32 = 3;
 
 fn write_line(options: Options, told: Answer, line: &[u8]) {
