@@ -21,8 +21,8 @@ overflow_add-n c = let k = ((c.drain_below-d.ensures.1 c.requires.0.0 c.requires
 
 pub returns-then-n-points_of-gt64 : goal.returns-then-n-points_of-gt64
 returns-then-n-points_of-gt64 c = (
-  λ g es s h k. crowded ((queue_in c.drain_below-d.new.words c.args.objects.now c.drain_below-d.result.count)) c.args.x ((rules_in c.args.rows.now g es s)) ((queue_in c.args.words.now c.args.objects.now c.args.count)) ((state_in c.args.facts.now c.args.numbers.now)) ((state_in c.drain_below-d.new.facts c.drain_below-d.new.numbers)) c.drain_below-d.result.past c.args.p c.refuse.result
-      (c.drain_below-d.ensures.0 g es s h k) ((slots_long c.drain_below-d.new.words c.args.objects.now)) (((c.drain_below-d.ensures.1 c.requires.0.0 c.requires.0.1).0)) c.refuse.ensures
+  λ g es s h k. crowded (queue_in c.drain_below-d.new.words c.args.objects.now c.drain_below-d.result.count) c.args.x (rules_in c.args.rows.now g es s) (queue_in c.args.words.now c.args.objects.now c.args.count) (state_in c.args.facts.now c.args.numbers.now) (state_in c.drain_below-d.new.facts c.drain_below-d.new.numbers) c.drain_below-d.result.past c.args.p c.refuse.result
+      (c.drain_below-d.ensures.0 g es s h k) (slots_long c.drain_below-d.new.words c.args.objects.now) ((c.drain_below-d.ensures.1 c.requires.0.0 c.requires.0.1).0) c.refuse.ensures
       (omega (arith, c.if-n-points_of-gt64.true, c.points_of.ensures)) c.requires.2,
   λ n h k. c.drain_below-d.ensures.1 n h,
   ap (λ (w : PlanProgress). w.used) c.refuse.ensures,
@@ -36,8 +36,8 @@ enter-requires c = (c.drain_below-d.ensures.2.kept, omega (arith, c.if-n-points_
 
 pub returns : goal.returns
 returns c = (
-  λ g es s h k. admitted ((queue_in c.drain_below-d.new.words c.args.objects.now c.drain_below-d.result.count)) c.args.x ((rules_in c.args.rows.now g es s)) ((queue_in c.args.words.now c.args.objects.now c.args.count)) ((state_in c.args.facts.now c.args.numbers.now)) ((state_in c.drain_below-d.new.facts c.drain_below-d.new.numbers)) c.drain_below-d.result.past c.args.p c.begun.result
-      (c.drain_below-d.ensures.0 g es s h k) ((slots_long c.drain_below-d.new.words c.args.objects.now)) (((c.drain_below-d.ensures.1 c.requires.0.0 c.requires.0.1).0)) (queue_in c.enter.new.words c.enter.new.objects c.enter.result) c.begun.ensures
+  λ g es s h k. admitted (queue_in c.drain_below-d.new.words c.args.objects.now c.drain_below-d.result.count) c.args.x (rules_in c.args.rows.now g es s) (queue_in c.args.words.now c.args.objects.now c.args.count) (state_in c.args.facts.now c.args.numbers.now) (state_in c.drain_below-d.new.facts c.drain_below-d.new.numbers) c.drain_below-d.result.past c.args.p c.begun.result
+      (c.drain_below-d.ensures.0 g es s h k) (slots_long c.drain_below-d.new.words c.args.objects.now) ((c.drain_below-d.ensures.1 c.requires.0.0 c.requires.0.1).0) (queue_in c.enter.new.words c.enter.new.objects c.enter.result) c.begun.ensures
       (omega (arith, c.if-n-points_of-gt64.false, c.points_of.ensures)) c.enter.ensures.1 c.requires.1,
   λ n h k. c.enter.ensures.2 n (c.drain_below-d.ensures.1 n h) k,
   ap (λ (w : PlanProgress). w.used) c.begun.ensures,
