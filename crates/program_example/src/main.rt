@@ -5,31 +5,43 @@ mod texts;
 
 use check_calls::{Answer, Check};
 use domain_load::LoadAnswer;
+use std::io::Read;
 use text_tokens::runs;
+
+const STDOUT: i32 = 1;
+
+const STDERR: i32 = 2;
 
 #[derive(Drop)]
 struct Fed {
     check: Check,
-    // what the last read answered: 0 where nothing more is to come, below 0 where it failed and the plan is not whole
+    // how many bytes the last read gave: 0 where nothing more is to come, below 0 where it failed and the plan is not whole
     got: isize,
 }
 
 // One read, fed as one part: parts may be cut anywhere. After a refusal, which stays, there is no need to read on.
-fn feed_part(before: Check) -> Fed {
+fn feed_part(input: &mut impl Read, before: Check) -> Fed {
     let mut block = io::large_buffer();
-    let got = libc::read(libc::STDIN_FILENO, &mut block);
-    let n = io::count(got, &block);
+    let Ok(n) = input.read(&mut block) else {
+        return Fed {
+            check: before,
+            got: -1,
+        };
+    };
     let fed = before.feed(&block[..n]);
     let check = fed.check;
     let answer = fed.answer;
     let Answer::Done(_) = answer else {
         return Fed { check, got: 0 };
     };
-    Fed { check, got }
+    Fed {
+        check,
+        got: n as isize,
+    }
 }
 
 // The whole plan. A proved loop has to end, and nothing says that the input does.
-fn feed(opened: Check) -> Fed {
+fn feed(input: &mut impl Read, opened: Check) -> Fed {
     let mut fed = Fed {
         check: opened,
         got: 1,
@@ -37,7 +49,7 @@ fn feed(opened: Check) -> Fed {
     let mut turns = u64::MAX;
     while 0 < turns && 0 < fed.got {
         turns -= 1;
-        fed = feed_part(fed.check);
+        fed = feed_part(input, fed.check);
     }
     fed
 }
@@ -45,13 +57,13 @@ fn feed(opened: Check) -> Fed {
 // The line that a call has written; any other answer than `Done` is a mistake of this program.
 fn write(told: Answer, line: &[u8]) {
     let Answer::Done(n) = told else {
-        io::write_all(libc::STDERR_FILENO, b"a call was out of order\n");
+        io::write_all(STDERR, b"a call was out of order\n");
         return;
     };
-    io::write_all(libc::STDOUT_FILENO, runs::part_of(line, 0, n));
+    io::write_all(STDOUT, runs::part_of(line, 0, n));
 }
 
-fn main() {
+fn main(rt: HostRuntime) {
     let mut line = [0u8; 64];
     let opened = texts::load();
     let load = opened.answer;
@@ -59,9 +71,9 @@ fn main() {
         write(check_calls::refused_line(load, &mut line), &line);
         return;
     };
-    let fed = feed(opened.check);
+    let fed = feed(&mut rt.stdin(), opened.check);
     if fed.got < 0 {
-        io::write_all(libc::STDERR_FILENO, b"the plan can't be read\n");
+        io::write_all(STDERR, b"the plan can't be read\n");
         return;
     }
     let finished = fed.check.finish();

@@ -10,10 +10,12 @@ use domain_load::LoadAnswer;
 use program_arguments::arguments::Options;
 use program_arguments::{arguments, files};
 use program_messages::{message, quotes};
+use std::io::Read;
+use std::rt::Env;
 use text_tokens::runs;
 
 // Feeds the plan to the check of two texts that are not refused, and answers.
-fn judge(options: Options, plan: i32, check: Check) {
+fn judge(rt: &impl Env, options: Options, plan: &mut impl Read, check: Check) {
     let mut numbers = [0usize; 65];
     let mut lengths = [0usize; 65];
     let mut kept = [0u8; 16705];
@@ -28,19 +30,20 @@ fn judge(options: Options, plan: i32, check: Check) {
     );
     let failed = fed.failed;
     if failed {
-        files::say_unread(options.plan);
+        files::say_unread(rt, options.plan);
         return;
     }
     let ended = fed.check;
     reply::write(options, ended);
     let quiet = options.quiet;
     if !quiet {
-        message::of_plan(options.plan, ended.progress, &numbers, &lengths, &kept);
+        message::of_plan(rt, options.plan, ended.progress, &numbers, &lengths, &kept);
     }
 }
 
 // A refusal of domain or problem, which argument `name` names.
 fn refuse<'a>(
+    rt: &impl Env,
     options: Options,
     load: LoadAnswer,
     name: usize,
@@ -52,72 +55,70 @@ fn refuse<'a>(
     reply::refuse(options, load);
     let quiet = options.quiet;
     if !quiet {
-        message::of_text(name, domain, text, number, place);
+        message::of_text(rt, name, domain, text, number, place);
+    }
+}
+
+// Answers of two texts, and of the plan if they are not refused.
+fn answer<'a>(
+    rt: &impl Env,
+    options: Options,
+    domain: &'a [u8],
+    problem: &'a [u8],
+    plan: &mut impl Read,
+) {
+    let opened = check_calls::load(domain, problem);
+    let load = opened.answer;
+    match load {
+        LoadAnswer::Loaded => judge(rt, options, plan, opened.check),
+        LoadAnswer::Domain(k, at) => {
+            refuse(rt, options, load, options.domain, domain, domain, k, at)
+        }
+        LoadAnswer::Problem(k, at) => {
+            refuse(rt, options, load, options.problem, domain, problem, k, at)
+        }
     }
 }
 
 // Reads domain and problem, and answers.
-fn check(options: Options, domain: i32, problem: i32, plan: i32) {
+fn check(
+    rt: &impl Env,
+    options: Options,
+    domain: &mut impl Read,
+    problem: &mut impl Read,
+    plan: &mut impl Read,
+) {
     let mut first = [0u8; 65536];
     let mut second = [0u8; 65536];
     let d = texts::read(domain, &mut first);
     if d.failed {
-        files::say_unread(options.domain);
+        files::say_unread(rt, options.domain);
         return;
     }
     let p = texts::read(problem, &mut second);
     if p.failed {
-        files::say_unread(options.problem);
+        files::say_unread(rt, options.problem);
         return;
     }
     let domain_text = runs::part_of(&first, 0, d.used);
     let problem_text = runs::part_of(&second, 0, p.used);
-    let opened = check_calls::load(domain_text, problem_text);
-    let load = opened.answer;
-    match load {
-        LoadAnswer::Loaded => judge(options, plan, opened.check),
-        LoadAnswer::Domain(k, at) => {
-            refuse(
-                options,
-                load,
-                options.domain,
-                domain_text,
-                domain_text,
-                k,
-                at,
-            )
-        }
-        LoadAnswer::Problem(k, at) => {
-            refuse(
-                options,
-                load,
-                options.problem,
-                domain_text,
-                problem_text,
-                k,
-                at,
-            )
-        }
-    }
+    answer(rt, options, domain_text, problem_text, plan);
 }
 
 // All three files are opened before any is read, so that a missing one is said at once.
-fn main() {
-    let options = arguments::read();
-    if !options.are_right() {
+fn main(rt: HostRuntime) {
+    let options = arguments::read(&rt);
+    if !options.are_right(&rt) {
         return;
     }
-    let domain = files::open(options.domain);
-    if domain < 0 {
+    let Some(mut domain) = files::open(&rt, options.domain) else {
         return;
-    }
-    let problem = files::open(options.problem);
-    if problem < 0 {
+    };
+    let Some(mut problem) = files::open(&rt, options.problem) else {
         return;
-    }
-    let plan = files::open_plan(options.plan);
-    if plan < 0 {
+    };
+    let Some(mut plan) = files::open_plan(&rt, options.plan) else {
         return;
-    }
-    check(options, domain, problem, plan);
+    };
+    check(&rt, options, &mut domain, &mut problem, &mut plan);
 }

@@ -2,6 +2,7 @@
 use check_calls::Check;
 use program_arguments::files;
 use program_messages::quotes;
+use std::io::Read;
 use text_tokens::runs;
 
 #[derive(Drop)]
@@ -15,7 +16,7 @@ pub struct FedPart {
 
 // The next part, of `size` bytes if there are so many.
 fn feed_part(
-    fd: i32,
+    plan: &mut impl Read,
     size: usize,
     check: Check,
     block: &mut [u8],
@@ -23,7 +24,7 @@ fn feed_part(
     lengths: &mut [usize; 65],
     kept: &mut [u8; 16705],
 ) -> FedPart {
-    let got = files::fill(fd, block, size);
+    let got = files::fill(plan, block, size);
     let part = runs::part_of(block, 0, got.used);
     let fed = check.feed(part);
     let after = fed.check;
@@ -41,7 +42,7 @@ fn feed_part(
 
 // Feeds a plan, `size` bytes at a time, and finishes.
 pub fn feed(
-    fd: i32,
+    plan: &mut impl Read,
     size: usize,
     fresh: Check,
     numbers: &mut [usize; 65],
@@ -58,7 +59,7 @@ pub fn feed(
     let mut turns = u64::MAX;
     while 0 < turns && fed.goes_on {
         turns -= 1;
-        fed = feed_part(fd, size, fed.check, &mut block, numbers, lengths, kept);
+        fed = feed_part(plan, size, fed.check, &mut block, numbers, lengths, kept);
     }
     let failed = fed.failed;
     let finished = fed.check.finish();

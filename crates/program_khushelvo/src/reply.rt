@@ -6,7 +6,9 @@ use program_arguments::files;
 use program_records::{listing, output};
 use text_tokens::runs;
 
-// The script `khushelvo` opens descriptor 3 to learn the answer: a program has no exit status of its own, and standard output goes past the script.
+const STDOUT: i32 = 1;
+
+// The script `khushelvo` opens descriptor 3 to learn the answer: the program ends with status 0 whatever it is, and standard output goes past the script.
 const SCRIPT: i32 = 3;
 
 fn write_line(options: Options, told: Answer, line: &[u8]) {
@@ -14,7 +16,7 @@ fn write_line(options: Options, told: Answer, line: &[u8]) {
         return;
     };
     let words = runs::part_of(line, 0, n);
-    if !io::write_all(libc::STDOUT_FILENO, words) {
+    if !io::write_all(STDOUT, words) {
         files::say_unwritten();
         return;
     }

@@ -4,10 +4,11 @@ use happening_meaning::Outcome;
 use plan_feeding::PlanProgress;
 use program_arguments::files;
 use program_quotes::{location, stderr};
+use std::rt::Env;
 
 // A refusal's place and its number.
-fn say_refusal(name: usize, line: usize, column: usize, number: u8) {
-    files::say_name(name);
+fn say_refusal(rt: &impl Env, name: usize, line: usize, column: usize, number: u8) {
+    files::say_name(rt, name);
     stderr::say_with(b":", line, b":");
     stderr::say_number(column);
     stderr::say_with(b": refused (", number as usize, b"): ");
@@ -24,9 +25,16 @@ fn say_meaning<'a>(domain: &'a [u8], text: &'a [u8], number: u8, place: usize) {
 }
 
 // A refusal of domain or problem, which argument `name` names; the domain's text is given for both.
-pub fn of_text<'a>(name: usize, domain: &'a [u8], text: &'a [u8], number: u8, place: usize) {
+pub fn of_text<'a>(
+    rt: &impl Env,
+    name: usize,
+    domain: &'a [u8],
+    text: &'a [u8],
+    number: u8,
+    place: usize,
+) {
     let line = location::line_at(text, place);
-    say_refusal(name, line, location::column_at(text, place), number);
+    say_refusal(rt, name, line, location::column_at(text, place), number);
     say_meaning(domain, text, number, place);
     stderr::quote(line, text, place);
     stderr::point(line, text, place);
@@ -99,6 +107,7 @@ fn quote_line(numbers: &[usize; 65], lengths: &[usize; 65], kept: &[u8; 16705], 
 
 // What came of a plan, which argument `name` names.
 pub fn of_plan(
+    rt: &impl Env,
     name: usize,
     p: PlanProgress,
     numbers: &[usize; 65],
@@ -107,7 +116,7 @@ pub fn of_plan(
 ) {
     let refused = p.refused;
     if refused {
-        of_refused(name, p, numbers, lengths, kept);
+        of_refused(rt, name, p, numbers, lengths, kept);
         return;
     }
     let past = p.past;
@@ -135,6 +144,7 @@ fn quoted_length(number: u8, length: usize) -> usize {
 
 // A plan refusal. Its column counts from 1.
 fn of_refused(
+    rt: &impl Env,
     name: usize,
     p: PlanProgress,
     numbers: &[usize; 65],
@@ -143,7 +153,7 @@ fn of_refused(
 ) {
     let line = p.at;
     let column = p.column;
-    say_refusal(name, line, column, p.refusal);
+    say_refusal(rt, name, line, column, p.refusal);
     meanings::say(p.refusal);
     stderr::say(b"\n");
     let i = quotes::find(numbers, line);

@@ -1,3 +1,4 @@
+-- `program_limits::seen::before` is safe and ends. Assumes nothing.
 use Prim.Native.Nat.{◌-◌}
 use Rattle.program_limits.proofs.seen.before.Given as goal
 

@@ -1,3 +1,4 @@
+-- `program_naming::grounds::put_arguments` is safe and ends. Assumes nothing.
 use mathlib.Core.Path.{◌≡◌}
 use lib.ListN.{length}
 use Rattle.program_naming.proofs.grounds.put_arguments.Given as goal

@@ -1,3 +1,4 @@
+-- `program_naming::state::put_numbers` is safe and ends. Assumes nothing.
 use mathlib.Core.Path.{◌≡◌}
 use Prim.Native.Nat.{◌-◌}
 use lib.ListN.{length}

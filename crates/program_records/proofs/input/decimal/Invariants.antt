@@ -1,3 +1,4 @@
+-- `program_records::input::decimal` is safe and ends: the measure is how many bytes are left. Assumes nothing.
 use Prim.Native.Nat.{◌-◌}
 use Rattle.program_records.proofs.input.decimal.Given as goal
 

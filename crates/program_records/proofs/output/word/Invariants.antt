@@ -1,3 +1,4 @@
+-- `program_records::output::word` is safe and ends: the measure is how many bytes of the word are left. Assumes nothing.
 use mathlib.Core.Path.{◌≡◌}
 use Prim.Native.Nat.{◌-◌}
 use lib.ListN.{length}

@@ -1,0 +1,10 @@
+-- `program_khushelvo::plan::feed` is safe and ends. Assumes nothing.
+use mathlib.Core.Path.{◌≡◌}
+use lib.ListN.{length}
+use Rattle.program_khushelvo.proofs.plan.feed.Given as goal
+
+abbrev pub invariant-loop-turns : goal.invariant-loop-turns
+invariant-loop-turns g l = length l.block ≡ 65536
+
+abbrev pub decreases-loop-turns : goal.decreases-loop-turns
+decreases-loop-turns g l = l.turns

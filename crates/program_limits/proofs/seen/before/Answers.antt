@@ -1,1 +1,0 @@
--- `program_limits::seen::before` is safe and ends. Assumes nothing.

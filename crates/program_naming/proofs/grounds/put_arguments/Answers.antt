@@ -1,1 +1,0 @@
--- `program_naming::grounds::put_arguments` is safe and ends. Assumes nothing.

@@ -1,1 +1,0 @@
--- `program_naming::state::put_facts` is safe and ends. Assumes nothing.

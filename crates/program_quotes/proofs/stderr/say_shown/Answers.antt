@@ -1,1 +1,0 @@
--- `program_quotes::stderr::say_shown` is safe and ends. Assumes nothing.

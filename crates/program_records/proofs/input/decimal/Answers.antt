@@ -1,1 +1,0 @@
--- `program_records::input::decimal` is safe and ends: the measure is how many bytes are left. Assumes nothing.

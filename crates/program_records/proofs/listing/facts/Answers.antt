@@ -1,1 +1,0 @@
--- `program_records::listing::facts` is safe and ends. Assumes nothing.

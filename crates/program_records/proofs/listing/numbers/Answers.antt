@@ -1,1 +1,0 @@
--- `program_records::listing::numbers` is safe and ends. Assumes nothing.

@@ -1,1 +1,0 @@
--- `program_records::output::word` is safe and ends: the measure is how many bytes of the word are left. Assumes nothing.

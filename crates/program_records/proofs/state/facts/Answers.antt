@@ -1,1 +1,0 @@
--- `program_records::state::facts` is safe and ends. Assumes nothing.

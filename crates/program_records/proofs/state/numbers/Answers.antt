@@ -1,1 +1,0 @@
--- `program_records::state::numbers` is safe and ends. Assumes nothing.
