@@ -21,7 +21,7 @@ use Rattle.domain_meaning.specs.Due.{after_of}
 use Rattle.domain_meaning.specs.Terms.{Scope, Expr, Given, given_by, argument, arguments, reference, Counted, counted, leaf}
 use Rattle.domain_meaning.specs.Terms.{operands_end, plus_of, minus_of, operation, headed, expr, expression}
 use Rattle.domain_meaning.specs.Terms as G
-use Rattle.domain_meaning.proofs.Given as goal
+use Rattle.domain_meaning.proofs.Given as R
 use Rattle.domain_meaning.proofs.Given.{Any, Fits, Ahead, fits, stops, fits_also, given_then, word_gives, number_gives, open_gives, close_gives, close_ahead}
 use Rattle.domain_meaning.proofs.Given.{either_gives}
 use Rattle.domain_meaning.proofs.Steps.{closing_fits}
@@ -84,8 +84,8 @@ module _ (s : List ℕ) (c : Scope) where
 
 -- ---- counting: of n one fewer is left
 
-pub counted_then : {B : Type 0} {P : B → ℕ → Type 0} (p n at : ℕ) (f : ℕ → Reader B) → ((m : ℕ) → n ≡ suc m → goal.Given P Any (f m at))
-    → goal.Given P Any (and_then (counted p n at) f)
+pub counted_then : {B : Type 0} {P : B → ℕ → Type 0} (p n at : ℕ) (f : ℕ → Reader B) → ((m : ℕ) → n ≡ suc m → R.Given P Any (f m at))
+    → R.Given P Any (and_then (counted p n at) f)
 unfolding counted
 counted_then p zero at f h = stops
 counted_then p (suc n) at f h = h n refl
