@@ -173,7 +173,16 @@ impl Options {
     }
 }
 
-// All arguments, from the one after the program's name on. One that is longer than 4,096 bytes counts as empty.
+// Argument i, or none after the last. One that is longer than 4,096 bytes counts as empty.
+fn take_argument(rt: &impl Env, options: Options, i: usize) -> Option<Options> {
+    let mut word = io::buffer();
+    match rt.arg(i, &mut word) {
+        Ok(n) => Some(options.take(i, &word[..n])),
+        Err(FillError::TooLong) => Some(options.take(i, b"")),
+        Err(FillError::NotPresent) => None,
+    }
+}
+
 pub fn read(rt: &impl Env) -> Options {
     let mut options = Options {
         state: false,
@@ -190,15 +199,11 @@ pub fn read(rt: &impl Env) -> Options {
         extra: 0,
     };
     for i in 1..usize::MAX {
-        let mut word = io::buffer();
-        match rt.arg(i, &mut word) {
-            Ok(n) => {
-                options = options.take(i, &word[..n]);
+        match take_argument(rt, options, i) {
+            Some(taken) => {
+                options = taken;
             }
-            Err(FillError::TooLong) => {
-                options = options.take(i, b"");
-            }
-            Err(FillError::NotPresent) => break,
+            None => break,
         }
     }
     options
