@@ -24,10 +24,12 @@ ready:
 	@command -v rt >/dev/null || { echo "make install: rt is not there, which says by what the program is proved" >&2; exit 1; }
 
 # The log has the version, the program's checksum, of each library of the program by which logic it is proved and the sum of what was built (rt builds only
-# what is proved), and the line by which rt says that the program is proved. It is asked for that line before anything is installed.
+# what is proved), and the line by which rt says that the program is proved. It is asked for that line before anything is installed. Of libraries that are
+# not built yet rt says the same first: what it says last is of the program.
 install: ready
 	@mkdir -p target
-	(cd crates/$(name) && rt check) >target/proof.say
+	(cd crates/$(name) && rt check) >target/check.say
+	awk '/^logic [^=]/ { said = "" } { said = said $$0 "\n" } END { printf "%s", said }' target/check.say >target/proof.say
 	grep -q '^logic=proved ' target/proof.say
 	install -d $(folders:%='$(to)/%')
 	install -m 755 khushelvo '$(to)/bin/khushelvo'
