@@ -22,7 +22,6 @@ ALIAS = re.compile(r"^(?:pub )?use \S+ as (\S+)$", re.M)
 FACTS = {"amountAnswer": "AmountAnswer", "Found-by": "FoundBy", "Add-up": "AddUp", "Done-so": "DoneSo"}
 # names that are bound, and not declared
 BOUND = {"factCount": "fact_count", "numberCount": "number_count"}
-FOREIGN = set("mathlib Prim native lib borrow denote contract types base mir prog logic seplogic".split())
 
 
 def files(root, end):
