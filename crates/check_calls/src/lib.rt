@@ -14,7 +14,7 @@ use plan_bytes::bytes;
 use plan_feeding::{PlanProgress, stepping};
 use plan_waiting::Queue;
 
-#[derive(Clone, Copy)]
+#[derive(Clone, Copy, PartialEq, Eq)]
 pub struct Check {
     pub model: Model,
     pub facts: [u8; 16384],
@@ -27,7 +27,7 @@ pub struct Check {
 }
 
 // What a call answers.
-#[derive(Clone, Copy)]
+#[derive(Clone, Copy, PartialEq, Eq)]
 pub enum Answer {
     // it was done: how many places were written, 0 where nothing is
     Done(usize),

@@ -44,9 +44,11 @@ digits_below zero (suc k) n h = rw (lt-ltb n 10 h) (omega arith)
 digits_below (suc j) zero n h = omega arith
 digits_below (suc j) (suc k) n h = digits_step k n (suc j) (digits_below j k (n / 10) (tenth_below j n h))
 
-pub decimal_few : (n : ℕ) → n < 10 → decimal n ≡ digit n ∷ []
+pub decimal_few : (n : ℕ) → n < 10 → decimal n ≡ digit (n % 10) ∷ []
 unfolding decimal_to
-decimal_few n h = rw (lt-ltb n 10 h)
+decimal_few n h =
+    let e : n % 10 ≡ n = omega arith in
+    rw (lt-ltb n 10 h, e)
 
 pub decimal_more : (n : ℕ) → 10 ≤ n → n < 10 ^ 20 → decimal n ≡ decimal (n / 10) ++ digit (n % 10) ∷ []
 unfolding decimal_to

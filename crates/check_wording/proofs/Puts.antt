@@ -17,8 +17,6 @@ behind a i xs ys {b} {c} {j} {k} p q =
     let e : k ≡ i + length (xs ++ ys) = omega (arith, p.1, q.1, length-append xs ys) in
     (q.0 ∙ ap (λ (l : List ℕ). sets l j ys) p.0 ∙ ap (λ (m : ℕ). sets (sets a i xs) m ys) p.1 ∙ sets_append a i xs ys, e)
 
--- ---- a word byte by byte
-
 -- ---- from the start
 
 pub from_start : (a xs ys : List ℕ) {b : List ℕ} {j : ℕ} → Put a 0 xs b j → xs ≡ ys → (b ≡ sets a 0 ys) × (j ≡ length ys)

@@ -1,16 +1,13 @@
 -- Whole lines from their parts, and how long the parts are. Assumes nothing.
-use mathlib.Core.Path.{◌≡◌, refl}
+use mathlib.Core.Path.{◌≡◌}
 use mathlib.Core.List.{List, [], ◌∷◌, ◌++◌, append_assoc}
 use Prim.Native.Nat.{ℕ, ◌+◌, ◌/◌, ◌%◌, ◌≤◌}
 use native.Mathlib.Omega.{arith}
 use lib.ListN.{length, length-append}
 use lib.Seq.{sets}
-use types.Run.{OneOf, miss}
-use denote.Enum.Declared.{tag_of}
 use Rattle.text_words.specs.Bytes.{bytes}
 use Rattle.happening_meaning.specs.declared.Outcome.{Outcome}
 use Rattle.happening_meaning.specs.declared.Outcome.TheVariants.{Done, Duration, Condition, Undefined, Range, Itself, Conflict, Invariant, Goal}
-use Rattle.happening_meaning.specs.contracts.Outcome as outcome-type
 use Rattle.check_wording.specs.Wording.{digit, decimal, time_of, word_of, line_of, second_of, behind_space, ended, verdict_line, refusal_line}
 use Rattle.check_wording.proofs.Puts.{Put, behind, from_start}
 use Rattle.check_wording.proofs.Digits.{decimal_short}
@@ -33,19 +30,6 @@ time_length t = rw length-append
 
 pub time_short : (t : ℕ) → length (time_of t) ≤ 24
 time_short t = omega (arith, time_length t, decimal_short (t / 1000))
-
--- only a conflict has a second line
-pub second_none : (o : Outcome) → OneOf (0 ∷ 1 ∷ 2 ∷ 3 ∷ 4 ∷ 5 ∷ 7 ∷ 8 ∷ []) (tag_of outcome-type.the_type o) → 0 ≡ second_of o
-unfolding second_of
-second_none Done h = refl
-second_none (Duration l) h = refl
-second_none (Condition l) h = refl
-second_none (Undefined l) h = refl
-second_none (Range l) h = refl
-second_none (Itself l) h = refl
-second_none (Conflict l m) h = absurd (miss (0 ∷ 1 ∷ 2 ∷ 3 ∷ 4 ∷ 5 ∷ 7 ∷ 8 ∷ []) 6 tt h)
-second_none (Invariant l) h = refl
-second_none Goal h = refl
 
 -- ---- parts put one after the other
 

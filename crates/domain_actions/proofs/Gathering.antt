@@ -1,4 +1,5 @@
 -- Actions, one after the other: what is read of the rest, from here, is read of the whole. Assumes nothing.
+use Rattle.std.specs.Prelude.{None, Option, Some}
 use mathlib.Core.Path.{◌≡◌, refl, sym, ap, ◌∙◌}
 use mathlib.Core.List.{List, [], ◌∷◌, ◌++◌, append_assoc, append-nil}
 use mathlib.Core.Bool.{Bool}
@@ -12,14 +13,12 @@ use Rattle.domain_meaning.specs.Read.{Read, got, refused, and_then}
 use Rattle.domain_meaning.specs.Terms.{Scope}
 use Rattle.domain_meaning.specs.Actions.{Action, action}
 use Rattle.domain_meaning.specs.Domain.{actions_to}
-use Rattle.domain_due.specs.declared.Parsed.{Parsed}
-use Rattle.domain_due.specs.declared.Parsed.TheVariants.{Done, Refused}
-use Rattle.domain_due.proofs.Dues.{never_done}
+use Rattle.domain_due.specs.Answers.{Parsed}
+use Rattle.domain_due.specs.Answers.{Done, Refused}
+use Rattle.domain_due.proofs.Dues.{never_done, done_parts, refused_parts}
 use Rattle.domain_rows.specs.Held.{rows_of, Holds}
 use Rattle.domain_stored_meaning.specs.Cells.{action_cells, actions_cells, start_of, starts_of}
 use Rattle.domain_stored_meaning.proofs.Actions.{starts_length}
-use Rattle.domain_actions.specs.declared.acts.ActionHead.{ActionHead}
-use Rattle.domain_actions.specs.declared.acts.ActionHead.TheVariants as B
 use Rattle.domain_actions.specs.Acted.{declarations, Added, Adds, Stores, Begins, Later}
 
 -- ---- an action more
@@ -45,7 +44,7 @@ adds_got : (as' : List Action) (code : List ℕ) (u : ℕ) (starts : List ℕ) (
 unfolding Adds
 adds_got as' code u starts r rows code' starts' (got bs m) a v w e =
     let q : Done m (u + length (action_cells w.action)) ≡ Done a v = sym w.answer ∙ e in
-    let i : m ≡ a = cc in
+    let i = (done_parts m a (u + length (action_cells w.action)) v q).0 in
     (bs, rw i refl, rw i at w)
 adds_got as' code u starts r rows code' starts' (refused k p) a v w e = never_done k p a v (sym w ∙ e)
 
@@ -55,9 +54,8 @@ unfolding Adds
 adds_not as' code u starts r rows code' starts' (got bs m) k p w e = never_done k p m (u + length (action_cells w.action)) (sym e ∙ w.answer)
 adds_not as' code u starts r rows code' starts' (refused j q) k p w e =
     let o : Refused j q ≡ Refused k p = sym w ∙ e in
-    let i : j ≡ k = cc in
-    let n : q ≡ p = cc in
-    rw (i, n)
+    let i = refused_parts j k q p o in
+    rw (i.0, i.1)
 
 -- ---- the rest
 
@@ -94,7 +92,7 @@ module _ (s : List ℕ) (c : Scope) (k from : ℕ) (code₀ starts₀ : List ℕ
     more : o.fuel ≡ suc (o.fuel - 1)
     more = omega (arith, o.enough)
 
-    pub onward_last : (b : ActionHead) → b ≡ B.Other → Begins s c o.before (o.fuel - 1) b (actions_to (suc (o.fuel - 1)) s c o.before at) at
+    pub onward_last : (b : Option (Bool × ℕ)) → b ≡ None → Begins s c o.before (o.fuel - 1) b (actions_to (suc (o.fuel - 1)) s c o.before at) at
         → u ≤ length s
         → Stores (length s) code₀ starts₀ (Done at n) rows code starts (actions_to k s c [] from)
     unfolding Begins Stores
@@ -109,7 +107,7 @@ module _ (s : List ℕ) (c : Scope) (k from : ℕ) (code₀ starts₀ : List ℕ
           few = omega (arith, o.used);
         })
 
-    module _ (b : ActionHead) (durative : Bool) (e : ℕ) (q : b ≡ B.At durative e)
+    module _ (b : Option (Bool × ℕ)) (durative : Bool) (e : ℕ) (q : b ≡ Some (durative, e))
         (h : Begins s c o.before (o.fuel - 1) b (actions_to (suc (o.fuel - 1)) s c o.before at) at)
         (r : Parsed) (rows' code' starts' : List ℕ) (w : Adds o.before code u starts r rows' code' starts' (action s c durative o.before e)) where
       step : actions_to k s c [] from ≡ and_then (action s c durative o.before e) (λ bs. actions_to (o.fuel - 1) s c bs)
@@ -132,7 +130,7 @@ module _ (s : List ℕ) (c : Scope) (k from : ℕ) (code₀ starts₀ : List ℕ
               → code' ≡ sets code u (action_cells x) → starts' ≡ sets starts (3 * length o.before) (start_of u x)
               → Done a v ≡ Done a (u + length (action_cells x)) → Onward a (n + 1) v rows' code' starts'
           grown bs x is same rowed cells places free =
-              let y : v ≡ u + length (action_cells x) = cc in
+              let y = (done_parts a a v (u + length (action_cells x)) free).1 in
               let cs = actions_cells o.before in
               let more-cells : actions_cells bs ≡ cs ++ action_cells x = ap actions_cells is ∙ cells_more o.before x in
               let more-starts : starts_of 0 bs ≡ starts_of 0 o.before ++ start_of (0 + length cs) x = ap (starts_of 0) is ∙ starts_more 0 o.before x in

@@ -11,8 +11,8 @@ use Rattle.domain_meaning.specs.Due.{opening, word_due, new_name}
 use Rattle.domain_meaning.specs.Tables.{Table, entry, type_of, fresh}
 use Rattle.domain_meaning.specs.Lists.{variables_to}
 use Rattle.domain_meaning.specs.Terms.{Scope}
-use Rattle.domain_due.specs.declared.Parsed.{Parsed}
-use Rattle.domain_due.specs.declared.Parsed.TheVariants.{Done, Refused}
+use Rattle.domain_due.specs.Answers.{Parsed}
+use Rattle.domain_due.specs.Answers.{Done, Refused}
 use Rattle.domain_due.proofs.Dues.{Named}
 use Rattle.domain_rows.specs.Held.{Holds}
 use Rattle.domain_typed_lists.proofs.Going.{fresh_stays}

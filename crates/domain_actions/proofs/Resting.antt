@@ -16,8 +16,8 @@ use Rattle.domain_meaning.specs.Terms.{Scope}
 use Rattle.domain_meaning.specs.Conditions.{Cond}
 use Rattle.domain_meaning.specs.Effects.{Effect}
 use Rattle.domain_meaning.specs.Actions.{Timed, Lasting, Action, duration_rule, simple_body, durative_body}
-use Rattle.domain_due.specs.declared.Parsed.{Parsed}
-use Rattle.domain_due.specs.declared.Parsed.TheVariants.{Done, Refused}
+use Rattle.domain_due.specs.Answers.{Parsed}
+use Rattle.domain_due.specs.Answers.{Done, Refused}
 use Rattle.domain_terms.specs.Cells.{Wrote}
 use Rattle.domain_terms.proofs.Taken.{Took, wrote_got, wrote_not}
 use Rattle.domain_stored_meaning.specs.Cells.{cond_cells, list_cells, lasting_cells, parts_cells, action_cells}

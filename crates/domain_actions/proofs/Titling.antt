@@ -1,4 +1,5 @@
 -- An action is its header and what stands after it; how the next action begins. Assumes nothing.
+use Rattle.std.specs.Prelude.{None, Option, Some, Err}
 use mathlib.Core.Path.{◌≡◌, refl, sym, ◌∙◌}
 use mathlib.Core.List.{List, [], ◌∷◌, ◌++◌, map-append}
 use mathlib.Core.Bool.{Bool, true, false}
@@ -14,15 +15,13 @@ use Rattle.domain_meaning.specs.Lists.{variables_to, signature}
 use Rattle.domain_meaning.specs.Terms.{Scope}
 use Rattle.domain_meaning.specs.Actions.{Action, within, action}
 use Rattle.domain_meaning.specs.Domain.{opened, other, begins_with, actions_to}
-use Rattle.domain_due.specs.declared.Parsed.{Parsed}
-use Rattle.domain_due.specs.declared.Parsed.TheVariants.{Done, Refused}
-use Rattle.domain_due.proofs.Dues.{never_done}
+use Rattle.domain_due.specs.Answers.{Parsed}
+use Rattle.domain_due.specs.Answers.{Done, Refused}
+use Rattle.domain_due.proofs.Dues.{never_done, done_parts, refused_parts}
 use Rattle.domain_rows.specs.Held.{Holds}
 use Rattle.domain_terms.specs.declared.scope.Counts.{Counts}
 use Rattle.domain_terms.specs.Scoped.{Scoped}
 use Rattle.domain_actions.specs.Titles.{Title, title_of, acting, Entered, Titled, Beyond}
-use Rattle.domain_actions.specs.declared.acts.ActionHead.{ActionHead}
-use Rattle.domain_actions.specs.declared.acts.ActionHead.TheVariants as B
 use Rattle.domain_actions.specs.Acted.{rest_of, Bodied, Ended, declarations, Adds, Begins, Further}
 
 -- ---- the header, by its answer
@@ -39,9 +38,9 @@ pub titled_got : (c : Scope) (counts : Counts) (n : ℕ) (t : Table) (r : Parsed
 unfolding Titled
 titled_got c counts n t r rows own (got h m) a v w e =
     let q : Done m (length h.variables) ≡ Done a v = sym w.answer ∙ e in
-    let i : m ≡ a = cc in
-    let j : length h.variables ≡ v = cc in
-    record { title = h; is = rw i; entered = record { answer = e ∙ rw (← j); room = w.room; rows = w.rows; own = w.own }; count = sym j }
+    let z = done_parts m a (length h.variables) v q in
+    let j = z.1 in
+    record { title = h; is = rw z.0; entered = record { answer = e ∙ rw (← j); room = w.room; rows = w.rows; own = w.own }; count = sym j }
 titled_got c counts n t r rows own (refused k p) a v w e = never_done k p a v (sym w ∙ e)
 
 pub titled_not : (c : Scope) (counts : Counts) (n : ℕ) (t : Table) (r : Parsed) (rows own : List ℕ) (x : Read Title) (k p : ℕ)
@@ -50,9 +49,8 @@ unfolding Titled
 titled_not c counts n t r rows own (got h m) k p w e = never_done k p m (length h.variables) (sym e ∙ w.answer)
 titled_not c counts n t r rows own (refused j q) k p w e =
     let o : Refused j q ≡ Refused k p = sym w ∙ e in
-    let i : j ≡ k = cc in
-    let n : q ≡ p = cc in
-    rw (i, n)
+    let i = refused_parts j k q p o in
+    rw (i.0, i.1)
 
 pub beyond_at : (n at a v : ℕ) (r : Parsed) → r ≡ Done a v → Beyond n at r → (at + 4 ≤ a) × (a ≤ n)
 unfolding Beyond
@@ -132,33 +130,33 @@ module _ (s : List ℕ) (c : Scope) (counts : Counts) (durative : Bool) (as' : L
 pub back : (r : Parsed) (n u at from : ℕ) → from + 4 ≤ at → Ended 4 n u at r → Ended 0 n u from r
 unfolding Ended
 back (Done a v) n u at from le h = (omega (arith, h.0), h.1, h.2, omega (arith, h.3))
-back (Refused k p) n u at from le h = tt
+back (Err why) n u at from le h = tt
 
 -- ---- how the next begins
 
 module _ (s : List ℕ) (c : Scope) (as' : List Action) (k at : ℕ) where
-  pub begins_simple : (p e : ℕ) → begins_with s (bytes ":action") at ≡ got (opened p) e → Begins s c as' k (B.At false e) (actions_to (suc k) s c as' at) at
+  pub begins_simple : (p e : ℕ) → begins_with s (bytes ":action") at ≡ got (opened p) e → Begins s c as' k (Some (false, e)) (actions_to (suc k) s c as' at) at
   unfolding Begins actions_to
   begins_simple p e h = rw h refl
 
   pub begins_durative : (p e : ℕ) → begins_with s (bytes ":action") at ≡ got other at → begins_with s (bytes ":durative-action") at ≡ got (opened p) e
-      → Begins s c as' k (B.At true e) (actions_to (suc k) s c as' at) at
+      → Begins s c as' k (Some (true, e)) (actions_to (suc k) s c as' at) at
   unfolding Begins actions_to
   begins_durative p e h j = rw (h, j) refl
 
   pub begins_neither : begins_with s (bytes ":action") at ≡ got other at → begins_with s (bytes ":durative-action") at ≡ got other at
-      → Begins s c as' k B.Other (actions_to (suc k) s c as' at) at
+      → Begins s c as' k None (actions_to (suc k) s c as' at) at
   unfolding Begins actions_to
   begins_neither h j = rw (h, j) refl
 
-pub further_by : (n from e : ℕ) (durative : Bool) → from < e → e ≤ n → Further n from (B.At durative e)
+pub further_by : (n from e : ℕ) (durative : Bool) → from < e → e ≤ n → Further n from (Some (durative, e))
 unfolding Further
 further_by n from e durative lo hi = (lo, hi)
 
-pub further_not : (n from : ℕ) → Further n from B.Other
+pub further_not : (n from : ℕ) → Further n from None
 unfolding Further
 further_not n from = tt
 
-pub further_at : (n from e : ℕ) (durative : Bool) (r : ActionHead) → r ≡ B.At durative e → Further n from r → (from < e) × (e ≤ n)
+pub further_at : (n from e : ℕ) (durative : Bool) (r : Option (Bool × ℕ)) → r ≡ Some (durative, e) → Further n from r → (from < e) × (e ≤ n)
 unfolding Further
 further_at n from e durative r q h = rw q at h

@@ -1,5 +1,5 @@
 -- What is answered of actions, and what was stored of them.
-use Rattle.std.specs.Prelude.{◌≡◌, ℕ, ◌+◌, ◌*◌, ◌≤◌, ◌<◌, List, [], ◌∷◌, ◌++◌, map, Bool, true, false, length}
+use Rattle.std.specs.Prelude.{◌≡◌, ℕ, ◌+◌, ◌*◌, ◌≤◌, ◌<◌, List, [], ◌∷◌, ◌++◌, map, Bool, true, false, length, None, Option, Some, Err}
 use Rattle.std.proofs.lemmas.List.Edits.{sets}
 use Rattle.domain_meaning.specs.Read.{Read, Reader, got, refused, and_then}
 use Rattle.domain_meaning.specs.Tables.{Entry}
@@ -8,11 +8,9 @@ use Rattle.domain_meaning.specs.Conditions.{Cond, condition}
 use Rattle.domain_meaning.specs.Effects.{Effect, effect}
 use Rattle.domain_meaning.specs.Actions.{Timed, Action, action, when_field, one_condition, one_instant, tree_of, parts, simple_body, durative_body}
 use Rattle.domain_meaning.specs.Domain.{actions_to}
-use Rattle.domain_due.specs.declared.Parsed.{Parsed}
-use Rattle.domain_due.specs.declared.Parsed.TheVariants.{Done, Refused}
+use Rattle.domain_due.specs.Answers.{Parsed}
+use Rattle.domain_due.specs.Answers.{Done, Refused}
 use Rattle.domain_rows.specs.Held.{Holds}
-use Rattle.domain_actions.specs.declared.acts.ActionHead.{ActionHead}
-use Rattle.domain_actions.specs.declared.acts.ActionHead.TheVariants as B
 use Rattle.domain_stored_meaning.specs.Cells.{action_cells, start_of, actions_cells, starts_of}
 
 -- the condition's field, of a durative action or a simple one
@@ -40,7 +38,7 @@ Bodied e code used starts n r code' starts' (refused k p) = r ≡ Refused k p
 -- the place after is within the text's n bytes and not before `at`; at most `more` cells more were written than bytes were read
 unfoldable pub Ended : ℕ → ℕ → ℕ → ℕ → Parsed → Type 0
 Ended more n used at (Done a v) = (at ≤ a) × (a ≤ n) × (used ≤ v) × (v + at ≤ used + a + more)
-Ended more n used at (Refused k p) = Unit {0}
+Ended more n used at (Err why) = Unit {0}
 
 -- the names and parameters of actions
 abbrev pub declarations : List Action → List Entry
@@ -73,16 +71,16 @@ Stores n code starts r rows' code' starts' (got bs m) = Stored n code starts r r
 Stores n code starts r rows' code' starts' (refused k p) = r ≡ Refused k p
 
 -- how the rest of the actions, as' being read, begins
-unfoldable pub Begins : List ℕ → Scope → List Action → ℕ → ActionHead → Read (List Action) → ℕ → Type 0
-Begins s c as' k (B.At durative e) x at = x ≡ and_then (action s c durative as' e) (λ bs. actions_to k s c bs)
-Begins s c as' k B.Other x at = x ≡ got as' at
+unfoldable pub Begins : List ℕ → Scope → List Action → ℕ → Option (Bool × ℕ) → Read (List Action) → ℕ → Type 0
+Begins s c as' k (Some (durative, e)) x at = x ≡ and_then (action s c durative as' e) (λ bs. actions_to k s c bs)
+Begins s c as' k None x at = x ≡ got as' at
 
 -- its word ends within the text's n bytes, past `from`
-unfoldable pub Further : ℕ → ℕ → ActionHead → Type 0
-Further n from (B.At durative e) = (from < e) × (e ≤ n)
-Further n from B.Other = Unit {0}
+unfoldable pub Further : ℕ → ℕ → Option (Bool × ℕ) → Type 0
+Further n from (Some (durative, e)) = (from < e) × (e ≤ n)
+Further n from None = Unit {0}
 
 -- the place after is within the text's n bytes and not before `at`
 unfoldable pub Later : ℕ → ℕ → Parsed → Type 0
 Later n at (Done a v) = (at ≤ a) × (a ≤ n)
-Later n at (Refused k p) = Unit {0}
+Later n at (Err why) = Unit {0}

@@ -1,13 +1,13 @@
 -- An action's name and its parameters, in front of all else that is said of it; what a function answers of them and what it stores.
-use Rattle.std.specs.Prelude.{◌≡◌, ℕ, ◌+◌, ◌≤◌, ◌<◌, List, [], ◌∷◌, ◌++◌, true, length}
+use Rattle.std.specs.Prelude.{◌≡◌, ℕ, ◌+◌, ◌≤◌, ◌<◌, List, [], ◌∷◌, ◌++◌, true, length, Err}
 use Rattle.domain_meaning.specs.Read.{◌>>=◌, Read, Reader, got, refused, give}
 use Rattle.domain_meaning.specs.Tables.{Table, fresh}
 use Rattle.domain_meaning.specs.Due.{opening, fixed, new_name}
 use Rattle.domain_meaning.specs.Lists.{variables_to, signature}
 use Rattle.domain_meaning.specs.Terms.{Scope}
 use Rattle.domain_meaning.specs.Actions.{within}
-use Rattle.domain_due.specs.declared.Parsed.{Parsed}
-use Rattle.domain_due.specs.declared.Parsed.TheVariants.{Done, Refused}
+use Rattle.domain_due.specs.Answers.{Parsed}
+use Rattle.domain_due.specs.Answers.{Done, Refused}
 use Rattle.domain_rows.specs.Held.{Holds}
 use Rattle.domain_terms.specs.Scoped.{Scoped}
 use Rattle.domain_terms.specs.declared.scope.Counts.{Counts}
@@ -49,4 +49,4 @@ Titled c counts n t r rows' own' (refused k p) = r ≡ Refused k p
 -- four tokens at least were read, within the text's n bytes
 unfoldable pub Beyond : ℕ → ℕ → Parsed → Type 0
 Beyond n at (Done a v) = (at + 4 ≤ a) × (a ≤ n)
-Beyond n at (Refused k p) = Unit {0}
+Beyond n at (Err why) = Unit {0}

@@ -11,7 +11,6 @@ ghost use Rattle.domain_rows.specs.Layout.{tables_length};
 use crate::{bodies, headers};
 use domain_due::Parsed;
 use domain_rows::layout;
-use domain_sections::Opened;
 use domain_terms::scope::Counts;
 
 // After its section's word: action n, whose row, cells and places are stored after those of the actions before it.
@@ -34,10 +33,7 @@ fn action_at(
         (action text.now c durative as' from)) × Ended 0 (length text.now) used from result }
 {
     let mut own = [0u8; layout::TABLES_LENGTH];
-    let h = headers::header_at(text, from, tables, counts, rows, n, &mut own);
-    let Parsed::Done(after, v) = h else {
-        return h;
-    };
+    let (after, v) = headers::header_at(text, from, tables, counts, rows, n, &mut own)?;
     let acting = Counts {
         types: counts.types,
         objects: counts.objects,
@@ -49,29 +45,21 @@ fn action_at(
     bodies::body_at(text, after, &own, acting, code, used, durative, starts, n)
 }
 
-#[derive(Clone, Copy)]
-pub enum ActionHead {
-    // an action: whether it is durative, and where its section's word ends
-    At(bool, usize),
-    // another section, or none
-    Other,
-}
-
-// Whether an action begins here, and of which kind.
-fn begun_at(text: &[u8], from: usize) -> ActionHead
+// Whether an action begins here: whether it is durative, and where its section's word ends.
+fn begun_at(text: &[u8], from: usize) -> Option<(bool, usize)>
     requires { from ≤ length text.now }
     ensures { ((k : ℕ) (c : Scope) (as' : List Action) → Begins text.now c as' k result (actions_to (suc k) text.now c as' from) from)
         × Further (length text.now) from result }
 {
     let simple = domain_sections::begins_at(text, from, b":action");
-    if let Opened::At(_, e) = simple {
-        return ActionHead::At(false, e);
+    if let Some((_, e)) = simple {
+        return Some((false, e));
     }
     let durative = domain_sections::begins_at(text, from, b":durative-action");
-    if let Opened::At(_, e) = durative {
-        return ActionHead::At(true, e);
+    if let Some((_, e)) = durative {
+        return Some((true, e));
     }
-    ActionHead::Other
+    None
 }
 
 // All actions, to the section that is none: how many there are.
@@ -94,15 +82,12 @@ pub fn actions_to(
     let mut used = 0;
     loop {
         let b = begun_at(text, at);
-        let ActionHead::At(durative, inside) = b else {
-            return Parsed::Done(at, n);
+        let Some((durative, inside)) = b else {
+            return Ok((at, n));
         };
-        let a = action_at(
+        let (after, free) = action_at(
             text, inside, tables, counts, durative, rows, n, code, used, starts,
-        );
-        let Parsed::Done(after, free) = a else {
-            return a;
-        };
+        )?;
         at = after;
         used = free;
         n += 1;

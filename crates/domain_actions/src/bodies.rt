@@ -103,22 +103,12 @@ pub fn body_at(
         → Bodied e code.old used starts.old n result code.new starts.new (rest_of durative text.now c e from))
         × Ended 4 (length text.now) used from result }
 {
-    let rule = domain_durations::lasting_at(text, from, tables, counts, code, used, durative);
-    let Parsed::Done(behind, v) = rule else {
-        return rule;
-    };
-    let condition = conditions_field(text, behind, tables, counts, code, v, durative);
-    let Parsed::Done(after, w) = condition else {
-        return condition;
-    };
-    let effect = effects_field(text, after, tables, counts, code, w, durative);
-    let Parsed::Done(last, free) = effect else {
-        return effect;
-    };
-    let close = domain_due::closing(text, last, 14);
-    let Parsed::Done(end, _) = close else {
-        return close;
-    };
+    let (behind, v) = domain_durations::lasting_at(
+        text, from, tables, counts, code, used, durative,
+    )?;
+    let (after, w) = conditions_field(text, behind, tables, counts, code, v, durative)?;
+    let (last, free) = effects_field(text, after, tables, counts, code, w, durative)?;
+    let (end, _) = domain_due::closing(text, last, 14)?;
     mark(starts, n, used, v, w);
-    Parsed::Done(end, free)
+    Ok((end, free))
 }

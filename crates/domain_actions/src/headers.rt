@@ -33,14 +33,11 @@ fn parameters_to(
 {
     let mut table = [0u8; layout::VARIABLES_LENGTH];
     let types = runs::part_of(tables, 0, layout::TYPES_LENGTH);
-    let a = typed::variables_to(text, from, types, counts.types, &mut table, 4);
-    let Parsed::Done(after, n) = a else {
-        return a;
-    };
+    let (after, n) = typed::variables_to(text, from, types, counts.types, &mut table, 4)?;
     domain_rows::signature(&table, 4, n, info);
     domain_rows::copy(own, 0, tables);
     domain_rows::copy(own, layout::VARIABLES_AT, &table);
-    Parsed::Done(after, n)
+    Ok((after, n))
 }
 
 // After the word that opens an action: the place after the parameters, and how many there are.
@@ -59,28 +56,13 @@ pub fn header_at(
         → Titled c counts n t result rows.new own.new (title_of text.now c t from))
         × Beyond (length text.now) from result }
 {
-    let h = domain_due::new_name(text, from, 14);
-    let Parsed::Done(end, start) = h else {
-        return h;
-    };
-    let f = typed::fresh_at(text, start, start, end, rows, 32, n);
-    let Parsed::Done(_, _) = f else {
-        return f;
-    };
-    let w = domain_due::word_due(text, end, 14, b":parameters");
-    let Parsed::Done(behind, _) = w else {
-        return w;
-    };
-    let o = domain_due::opening(text, behind, 14);
-    let Parsed::Done(inside, _) = o else {
-        return o;
-    };
+    let (end, start) = domain_due::new_name(text, from, 14)?;
+    typed::fresh_at(text, start, start, end, rows, 32, n)?;
+    let (behind, _) = domain_due::word_due(text, end, 14, b":parameters")?;
+    let (inside, _) = domain_due::opening(text, behind, 14)?;
     let mut info = [0u8; 5];
-    let a = parameters_to(text, inside, tables, counts, own, &mut info);
-    let Parsed::Done(after, v) = a else {
-        return a;
-    };
+    let (after, v) = parameters_to(text, inside, tables, counts, own, &mut info)?;
     let m = v + 1;
     domain_rows::enter(rows, 32, n, runs::part_of(text, start, end), &info[..m]);
-    Parsed::Done(after, v)
+    Ok((after, v))
 }

@@ -1,4 +1,5 @@
 -- The ways in which a condition begins. Assumes nothing.
+use Rattle.std.specs.Prelude.{Ok, Err}
 use mathlib.Core.Path.{◌≡◌, refl}
 use mathlib.Core.List.{List, [], ◌∷◌}
 use mathlib.Core.Bool.{Bool}
@@ -19,19 +20,18 @@ use Rattle.domain_meaning.specs.Read.{Read, Reader, refused, and_then}
 use Rattle.domain_meaning.specs.Due.{number_of, place_of, opening}
 use Rattle.domain_meaning.specs.Terms.{Scope, Counted, counted, on_name}
 use Rattle.domain_meaning.specs.Conditions.{Cond, atom_at, operated}
-use Rattle.domain_due.specs.declared.Parsed.{Parsed}
-use Rattle.domain_due.specs.declared.Parsed.TheVariants.{Refused}
+use Rattle.domain_due.specs.Answers.{at}
+use Rattle.domain_due.specs.declared.Refusal.{Refusal}
 use Rattle.domain_due.proofs.Dues.{not_word, not_open}
-use Rattle.domain_conditions.specs.Begins.{comparison_of, compared, headed_by, in_head, in_bracket, Begins, Inside, Placed}
-use Rattle.domain_conditions.specs.declared.heads.ConditionHead.{ConditionHead}
+use Rattle.domain_conditions.specs.Begins.{comparison_of, compared, headed_by, in_head, in_bracket, Begun, Begins, Inside, Placed}
 use Rattle.domain_conditions.specs.declared.heads.ConditionHead.TheVariants as H
 
 module _ (s : List ℕ) (d : ℕ) (c : Scope) (yes' : Bool) (n : ℕ) (f g : ℕ → ℕ → Reader (Counted Cond)) where
-  pub begin_refused : (r : Parsed) (k p : ℕ) (x : Read (Counted Cond)) → r ≡ Refused k p → x ≡ refused k p → Begins s d c yes' n f g (H.Other r) x
+  pub begin_refused : (r : Begun) (k p : ℕ) (x : Read (Counted Cond)) → r ≡ Err (at k p) → x ≡ refused k p → Begins s d c yes' n f g r x
   unfolding Begins
   begin_refused r k p x e q = rw e q
 
-  pub begin_by : (r : ConditionHead) (x y : Read (Counted Cond)) → y ≡ x → Begins s d c yes' n f g r x → Begins s d c yes' n f g r y
+  pub begin_by : (r : Begun) (x y : Read (Counted Cond)) → y ≡ x → Begins s d c yes' n f g r x → Begins s d c yes' n f g r y
   begin_by r x y e h = rw e h
 
   -- ---- a head word
@@ -44,28 +44,13 @@ module _ (s : List ℕ) (d : ℕ) (c : Scope) (yes' : Bool) (n : ℕ) (f g : ℕ
   head_word at k j p e q h = rw (q, h)
 
   module _ (h : HeadWord) (p e : ℕ) where
-    pub head_and : h ≡ W.And → Begins s d c yes' n f g (H.And p e) (on_name h (f p e) (g p e) (atom_at s d c yes' n p e) e)
+    pub head_and : h ≡ W.And → Begins s d c yes' n f g (Ok (H.And p e)) (on_name h (f p e) (g p e) (atom_at s d c yes' n p e) e)
     unfolding Begins
     head_and q = rw q
 
-    pub head_not : h ≡ W.Not → Begins s d c yes' n f g (H.Not p e) (on_name h (f p e) (g p e) (atom_at s d c yes' n p e) e)
+    pub head_not : h ≡ W.Not → Begins s d c yes' n f g (Ok (H.Not p e)) (on_name h (f p e) (g p e) (atom_at s d c yes' n p e) e)
     unfolding Begins
     head_not q = rw q
-
-    pub head_equal : h ≡ W.Equal → operated s d c yes' n h p e ≡ and_then (counted p n e) (compared s d c yes' (comparison_of 0))
-    head_equal q = rw q
-
-    pub head_less : h ≡ W.Less → operated s d c yes' n h p e ≡ and_then (counted p n e) (compared s d c yes' (comparison_of 1))
-    head_less q = rw q
-
-    pub head_at_most : h ≡ W.AtMost → operated s d c yes' n h p e ≡ and_then (counted p n e) (compared s d c yes' (comparison_of 2))
-    head_at_most q = rw q
-
-    pub head_more : h ≡ W.More → operated s d c yes' n h p e ≡ and_then (counted p n e) (compared s d c yes' (comparison_of 3))
-    head_more q = rw q
-
-    pub head_at_least : h ≡ W.AtLeast → operated s d c yes' n h p e ≡ and_then (counted p n e) (compared s d c yes' (comparison_of 4))
-    head_at_least q = rw q
 
   pub other_operator : (h : HeadWord) (p e : ℕ) → OneOf (0 ∷ 1 ∷ 7 ∷ 8 ∷ 9 ∷ 10 ∷ 11 ∷ 12 ∷ []) (tag_of head-type.the_type h)
       → operated s d c yes' n h p e ≡ refused 3 p
@@ -84,7 +69,7 @@ module _ (s : List ℕ) (d : ℕ) (c : Scope) (yes' : Bool) (n : ℕ) (f g : ℕ
   other_operator W.Other p e o = refl
 
   pub other_name : (h : HeadWord) (p e : ℕ) → OneOf (2 ∷ 3 ∷ 4 ∷ 5 ∷ 6 ∷ 7 ∷ 8 ∷ 9 ∷ 10 ∷ 11 ∷ 12 ∷ []) (tag_of head-type.the_type h)
-      → Begins s d c yes' n f g (H.Atom p e) (on_name h (f p e) (g p e) (atom_at s d c yes' n p e) e)
+      → Begins s d c yes' n f g (Ok (H.Atom p e)) (on_name h (f p e) (g p e) (atom_at s d c yes' n p e) e)
   unfolding Begins
   other_name W.And p e o = absurd (miss (2 ∷ 3 ∷ 4 ∷ 5 ∷ 6 ∷ 7 ∷ 8 ∷ 9 ∷ 10 ∷ 11 ∷ 12 ∷ []) 0 tt o)
   other_name W.Not p e o = absurd (miss (2 ∷ 3 ∷ 4 ∷ 5 ∷ 6 ∷ 7 ∷ 8 ∷ 9 ∷ 10 ∷ 11 ∷ 12 ∷ []) 1 tt o)
@@ -122,49 +107,49 @@ module _ (s : List ℕ) (d : ℕ) (c : Scope) (yes' : Bool) (n : ℕ) (f g : ℕ
   bracket_open i at p a e z = rw (e, ne_eqb i 0 z)
 
 pub comparison_some : (s : List ℕ) (d : ℕ) (c : Scope) (yes' : Bool) (f g : ℕ → ℕ → Reader (Counted Cond)) (n k p e : ℕ) → (n ≡ 0 → ⊥)
-    → Begins s d c yes' n f g (H.Compared k e (n - 1)) (and_then (counted p n e) (compared s d c yes' (comparison_of k)))
+    → Begins s d c yes' n f g (Ok (H.Compared k e (n - 1))) (and_then (counted p n e) (compared s d c yes' (comparison_of k)))
 unfolding counted Begins
 comparison_some s d c yes' f g zero k p e z = absurd (z refl)
 comparison_some s d c yes' f g (suc n) k p e z = let o : suc n - 1 ≡ n = omega arith in rw o
 
 -- ---- places
 
-pub inside_other : (at most : ℕ) (r : Parsed) → Inside at most (H.Other r)
+pub inside_refused : (at most : ℕ) (why : Refusal) → Inside at most (Err why)
 unfolding Inside
-inside_other at most r = tt
+inside_refused at most why = tt
 
-pub inside_and : (at most p e : ℕ) → at < e → e ≤ most → Inside at most (H.And p e)
+pub inside_and : (at most p e : ℕ) → at < e → e ≤ most → Inside at most (Ok (H.And p e))
 unfolding Inside
 inside_and at most p e lo hi = (lo, hi)
 
-pub inside_not : (at most p e : ℕ) → at < e → e ≤ most → Inside at most (H.Not p e)
+pub inside_not : (at most p e : ℕ) → at < e → e ≤ most → Inside at most (Ok (H.Not p e))
 unfolding Inside
 inside_not at most p e lo hi = (lo, hi)
 
-pub inside_atom : (at most p e : ℕ) → at < e → e ≤ most → Inside at most (H.Atom p e)
+pub inside_atom : (at most p e : ℕ) → at < e → e ≤ most → Inside at most (Ok (H.Atom p e))
 unfolding Inside
 inside_atom at most p e lo hi = (lo, hi)
 
-pub inside_compared : (at most k e m : ℕ) → at < e → e ≤ most → k ≤ 4 → Inside at most (H.Compared k e m)
+pub inside_compared : (at most k e m : ℕ) → at < e → e ≤ most → k ≤ 4 → Inside at most (Ok (H.Compared k e m))
 unfolding Inside
 inside_compared at most k e m lo hi few = (lo, hi, few)
 
-pub inside_from : (r : ConditionHead) (at p most e : ℕ) → at ≤ p → e ≤ most → Inside p e r → Inside at most r
+pub inside_from : (r : Begun) (at p most e : ℕ) → at ≤ p → e ≤ most → Inside p e r → Inside at most r
 unfolding Inside
-inside_from (H.And a b) at p most e lo hi h = (omega (arith, h.0), omega (arith, h.1))
-inside_from (H.Not a b) at p most e lo hi h = (omega (arith, h.0), omega (arith, h.1))
-inside_from (H.Atom a b) at p most e lo hi h = (omega (arith, h.0), omega (arith, h.1))
-inside_from (H.Compared k b m) at p most e lo hi h = (omega (arith, h.0), omega (arith, h.1), h.2)
-inside_from (H.Other a) at p most e lo hi h = tt
+inside_from (Ok (H.And a b)) at p most e lo hi h = (omega (arith, h.0), omega (arith, h.1))
+inside_from (Ok (H.Not a b)) at p most e lo hi h = (omega (arith, h.0), omega (arith, h.1))
+inside_from (Ok (H.Atom a b)) at p most e lo hi h = (omega (arith, h.0), omega (arith, h.1))
+inside_from (Ok (H.Compared k b m)) at p most e lo hi h = (omega (arith, h.0), omega (arith, h.1), h.2)
+inside_from (Err why) at p most e lo hi h = tt
 
-pub placed_other : (at most d : ℕ) (r : Parsed) → Placed at most d (H.Other r)
+pub placed_refused : (at most d : ℕ) (why : Refusal) → Placed at most d (Err why)
 unfolding Placed
-placed_other at most d r = tt
+placed_refused at most d why = tt
 
-pub placed_inside : (r : ConditionHead) (at a most d : ℕ) → at < a → 0 < d → Inside a most r → Placed at most d r
+pub placed_inside : (r : Begun) (at a most d : ℕ) → at < a → 0 < d → Inside a most r → Placed at most d r
 unfolding Inside Placed
-placed_inside (H.And p b) at a most d lo k h = (omega (arith, h.0), h.1, k)
-placed_inside (H.Not p b) at a most d lo k h = (omega (arith, h.0), h.1, k)
-placed_inside (H.Atom p b) at a most d lo k h = (omega (arith, h.0), h.1, k)
-placed_inside (H.Compared j b m) at a most d lo k h = (omega (arith, h.0), h.1, k, h.2)
-placed_inside (H.Other r) at a most d lo k h = tt
+placed_inside (Ok (H.And p b)) at a most d lo k h = (omega (arith, h.0), h.1, k)
+placed_inside (Ok (H.Not p b)) at a most d lo k h = (omega (arith, h.0), h.1, k)
+placed_inside (Ok (H.Atom p b)) at a most d lo k h = (omega (arith, h.0), h.1, k)
+placed_inside (Ok (H.Compared j b m)) at a most d lo k h = (omega (arith, h.0), h.1, k, h.2)
+placed_inside (Err why) at a most d lo k h = tt

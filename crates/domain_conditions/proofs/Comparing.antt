@@ -1,7 +1,7 @@
 -- The ways of reading a comparison of two expressions, and its cells. Assumes nothing.
 use mathlib.Core.Path.{◌≡◌, refl, ap, ◌∙◌}
 use mathlib.Core.List.{List, ◌∷◌, ◌++◌}
-use mathlib.Core.Bool.{Bool, true, false, cond}
+use mathlib.Core.Bool.{Bool, cond}
 use Prim.Native.Nat.{ℕ, zero, suc, ◌+◌, ◌≤◌}
 use native.Mathlib.Omega.{arith}
 use lib.ListN.{length, set, length-append}
@@ -11,13 +11,11 @@ use Rattle.domain_meaning.specs.Read.{Read, got, refused, and_then}
 use Rattle.domain_meaning.specs.Due.{closing}
 use Rattle.domain_meaning.specs.Terms.{Scope, Expr, counts, expression}
 use Rattle.domain_meaning.specs.Conditions.{Comparison, compare, comparison}
-use Rattle.domain_due.specs.declared.Parsed.{Parsed}
-use Rattle.domain_due.specs.declared.Parsed.TheVariants as A
+use Rattle.domain_due.specs.Answers.{Parsed}
+use Rattle.domain_due.specs.Answers as A
 use Rattle.domain_terms.proofs.Taken.{wrote_got, wrote_not}
 use Rattle.domain_terms.specs.Cells.{Wrote}
-use Rattle.domain_expressions.specs.Codes.{cells_of, Written, passed, Over}
-use Rattle.domain_expressions.specs.declared.leaves.Progress.{Progress}
-use Rattle.domain_expressions.specs.declared.leaves.Progress.TheVariants.{Refused}
+use Rattle.domain_expressions.specs.Codes.{Progress, Refused, cells_of, Written, Over}
 use Rattle.domain_expressions.proofs.Ends.{written_refused}
 use Rattle.domain_stored_meaning.specs.Cells.{comparison_cell, cond_cells}
 use Rattle.domain_conditions.specs.Begins.{comparison_of}
@@ -32,15 +30,7 @@ comparison_cell_lem (suc (suc zero)) h = refl
 comparison_cell_lem (suc (suc (suc zero))) h = refl
 comparison_cell_lem (suc (suc (suc (suc k)))) h = let z : k ≡ 0 = omega arith in rw z
 
-pub comparison_tag : (yes' : Bool) → cond yes' 12 17 ≤ 17
-comparison_tag true = omega arith
-comparison_tag false = omega arith
-
 -- ---- what was read, by the answer
-
--- a refusal of a part is that of the whole
-pub passed_on : (r : Parsed) (l k p : ℕ) (b : Progress) → r ≡ A.Refused k p → b ≡ passed l r → b ≡ Refused k p
-passed_on r l k p b e q = q ∙ ap (passed l) e
 
 pub over_at : (u at a v : ℕ) (r : Parsed) → r ≡ A.Done a v → Over u at r → (u ≤ v) × (v + at ≤ u + a + 1)
 unfolding Over
@@ -78,14 +68,14 @@ module _ (s : List ℕ) (d : ℕ) (c : Scope) (yes' : Bool) (op : Comparison) (l
 
   module _ (code : List ℕ) (u tag : ℕ) (et : tag ≡ cond yes' 12 17 + comparison_cell op) (r₁ : Parsed) (m₁ : List ℕ)
       (w₁ : Wrote cells_of (set code u tag) (u + 1) r₁ m₁ (expression s d c at)) where
-    pub comparison_first : (k p : ℕ) (r : Progress) → r₁ ≡ A.Refused k p → r ≡ Refused k p → Written cond_cells code u r m₁ (comparison s d c yes' op l at)
-    comparison_first k p r e q = written_refused cond_cells code u r m₁ _ k p (first_not k p (wrote_not cells_of _ _ r₁ m₁ _ k p w₁ e)) q
+    pub comparison_first : (k p : ℕ) → r₁ ≡ A.Refused k p → Written cond_cells code u (Refused k p) m₁ (comparison s d c yes' op l at)
+    comparison_first k p e = written_refused cond_cells code u _ m₁ _ k p (first_not k p (wrote_not cells_of _ _ r₁ m₁ _ k p w₁ e)) refl
 
     module _ (i v : ℕ) (e₁ : r₁ ≡ A.Done i v) (r₂ : Parsed) (m₂ : List ℕ) (w₂ : Wrote cells_of m₁ v r₂ m₂ (expression s d c i)) where
-      pub comparison_second : (k p : ℕ) (r : Progress) → r₂ ≡ A.Refused k p → r ≡ Refused k p → Written cond_cells code u r m₂ (comparison s d c yes' op l at)
-      comparison_second k p r e q =
+      pub comparison_second : (k p : ℕ) → r₂ ≡ A.Refused k p → Written cond_cells code u (Refused k p) m₂ (comparison s d c yes' op l at)
+      comparison_second k p e =
           let g = wrote_got cells_of _ _ r₁ m₁ _ i v w₁ e₁ in
-          written_refused cond_cells code u r m₂ _ k p (second_not g.tree i k p g.is (wrote_not cells_of m₁ v r₂ m₂ _ k p w₂ e)) q
+          written_refused cond_cells code u _ m₂ _ k p (second_not g.tree i k p g.is (wrote_not cells_of m₁ v r₂ m₂ _ k p w₂ e)) refl
 
       pub comparison_done : (j w : ℕ) (r : Progress) → r₂ ≡ A.Done j w → r ≡ closed_by w l (closing s d j)
           → Written cond_cells code u r m₂ (comparison s d c yes' op l at)

@@ -6,25 +6,19 @@ use Prim.Native.Nat.{ℕ, zero, suc, ◌+◌, ◌<◌}
 use native.Mathlib.Omega.{arith}
 use lib.ListN.{set}
 use lib.Seq.{sets}
-use types.Run.{OneOf}
-use denote.Enum.Declared.{tag_of}
 use Rattle.text_tokens.specs.Tokens.{token_at}
 use Rattle.text_tokens.specs.declared.tokens.Token.{Token}
 use Rattle.text_tokens.specs.declared.tokens.Token.TheVariants as T
-use Rattle.text_tokens.specs.declared.tokens.Word.{Word}
-use Rattle.text_tokens.specs.contracts.tokens.Token as token-type
 use Rattle.domain_meaning.specs.Read.{Read, got, refused, and_then}
 use Rattle.domain_meaning.specs.Due.{on_word, closing}
 use Rattle.domain_meaning.specs.Terms.{Scope, Arg, Given, counts, argument}
 use Rattle.domain_meaning.specs.Conditions.{same, comparison, same_objects, equality}
-use Rattle.domain_due.specs.declared.Parsed.{Parsed}
-use Rattle.domain_due.specs.declared.Parsed.TheVariants as A
-use Rattle.domain_due.proofs.Dues.{not_word}
+use Rattle.domain_due.specs.Answers.{Parsed}
+use Rattle.domain_due.specs.Answers as A
+use Rattle.domain_due.proofs.Dues.{done_parts, never_done}
 use Rattle.domain_terms.specs.Cells.{cell_of, cell_answer}
 use Rattle.domain_terms.proofs.Wanted.{given_refused}
-use Rattle.domain_expressions.specs.Codes.{Written}
-use Rattle.domain_expressions.specs.declared.leaves.Progress.{Progress}
-use Rattle.domain_expressions.specs.declared.leaves.Progress.TheVariants.{Refused}
+use Rattle.domain_expressions.specs.Codes.{Progress, Refused, Written}
 use Rattle.domain_expressions.proofs.Ends.{written_refused}
 use Rattle.domain_stored_meaning.specs.Cells.{cond_cells}
 use Rattle.domain_conditions.specs.Begins.{comparison_of, objects_due, compared}
@@ -40,8 +34,8 @@ record Told (x : Read Given) (a v : ℕ) : Type 0 where
   cell : cell_of given.arg ≡ v
 
 told : (x : Read Given) (a v : ℕ) → cell_answer x ≡ A.Done a v → Told x a v
-told (got g n) a v e = let i : n ≡ a = cc in let j : cell_of g.arg ≡ v = cc in record { given = g; is = rw i; cell = j }
-told (refused k p) a v e = absurd (let z : ◌≡◌ {A = ℕ} 0 1 = cc in let y : ⊥ = omega arith in y)
+told (got g n) a v e = let q = done_parts n a (cell_of g.arg) v e in record { given = g; is = rw q.0; cell = q.1 }
+told (refused k p) a v e = never_done k p a v e
 
 -- ---- an equality of objects
 
@@ -73,15 +67,14 @@ module _ (s : List ℕ) (d : ℕ) (c : Scope) (yes' : Bool) (l at : ℕ) where
       rw (ea, eb, ← et) (rw (one, two) at h)
 
   module _ (code : List ℕ) (u : ℕ) (r₁ : Parsed) (e₁ : r₁ ≡ cell_answer (argument s d c at)) where
-    pub same_first : (k p : ℕ) (r : Progress) (m : List ℕ) → r₁ ≡ A.Refused k p → r ≡ Refused k p → Written cond_cells code u r m (same_objects s d c yes' l at)
-    same_first k p r m e q = written_refused cond_cells code u r m _ k p (same_not k p (given_refused (argument s d c at) k p (sym e₁ ∙ e))) q
+    pub same_first : (k p : ℕ) (m : List ℕ) → r₁ ≡ A.Refused k p → Written cond_cells code u (Refused k p) m (same_objects s d c yes' l at)
+    same_first k p m e = written_refused cond_cells code u _ m _ k p (same_not k p (given_refused (argument s d c at) k p (sym e₁ ∙ e))) refl
 
     module _ (i x : ℕ) (h₁ : r₁ ≡ A.Done i x) (r₂ : Parsed) (e₂ : r₂ ≡ cell_answer (argument s d c i)) where
-      pub same_second : (k p : ℕ) (r : Progress) (m : List ℕ) → r₂ ≡ A.Refused k p → r ≡ Refused k p
-          → Written cond_cells code u r m (same_objects s d c yes' l at)
-      same_second k p r m e q =
+      pub same_second : (k p : ℕ) (m : List ℕ) → r₂ ≡ A.Refused k p → Written cond_cells code u (Refused k p) m (same_objects s d c yes' l at)
+      same_second k p m e =
           let g = told (argument s d c at) i x (sym e₁ ∙ h₁) in
-          written_refused cond_cells code u r m _ k p (other_not g.given i k p g.is (given_refused (argument s d c i) k p (sym e₂ ∙ e))) q
+          written_refused cond_cells code u _ m _ k p (other_not g.given i k p g.is (given_refused (argument s d c i) k p (sym e₂ ∙ e))) refl
 
       pub same_done : (j y tag : ℕ) (r : Progress) (m : List ℕ) → r₂ ≡ A.Done j y → tag ≡ cond yes' 2 3 → m ≡ set (set (set code u tag) (u + 1) x) (u + 2) y
           → r ≡ closed_by (u + 3) l (closing s d j) → Written cond_cells code u r m (same_objects s d c yes' l at)
@@ -92,16 +85,6 @@ module _ (s : List ℕ) (d : ℕ) (c : Scope) (yes' : Bool) (l at : ℕ) where
           (same_closed code u m g.given.arg o.given.arg (closing s d j) (cells_same code u x y tag _ _ _ m g.cell o.cell et h))
 
 -- ---- which of the two
-
-pub objects_else : (k : ℕ) (t : Token) → k ≡ 0 → OneOf (1 ∷ 2 ∷ 3 ∷ 4 ∷ 5 ∷ 6 ∷ []) (tag_of token-type.the_type t) → false ≡ objects_due k t
-objects_else k t z o = rw (z, not_word t (λ j p e. true) false o)
-
-pub objects_word : (k : ℕ) (t : Token) (j : Word) (p e : ℕ) → k ≡ 0 → t ≡ T.Word j p e → true ≡ objects_due k t
-objects_word k t j p e z q = rw (z, q)
-
-pub objects_past : (k : ℕ) (t : Token) → 0 < k → false ≡ objects_due k t
-objects_past zero t h = absurd (let z : ⊥ = omega arith in z)
-objects_past (suc k) t h = refl
 
 is_word : {A : Type 0} (t : Token) (a b : A) → on_word t (λ j p e. true) false ≡ true → on_word t (λ j p e. a) b ≡ a
 is_word (T.Word k p e) a b h = refl

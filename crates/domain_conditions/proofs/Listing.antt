@@ -16,9 +16,7 @@ use Rattle.domain_meaning.specs.Due.{closing}
 use Rattle.domain_meaning.specs.Terms.{Counted, counts}
 use Rattle.domain_meaning.specs.Conditions.{Cond, Conds, none, cons, list_to}
 use Rattle.domain_due.proofs.Dues.{not_close}
-use Rattle.domain_expressions.specs.Codes.{Written}
-use Rattle.domain_expressions.specs.declared.leaves.Progress.{Progress}
-use Rattle.domain_expressions.specs.declared.leaves.Progress.TheVariants.{Done, Refused}
+use Rattle.domain_expressions.specs.Codes.{Progress, Done, Refused, Written}
 use Rattle.domain_expressions.proofs.Ends.{written_refused}
 use Rattle.domain_expressions.proofs.Operands.{written_got, written_not}
 use Rattle.domain_stored_meaning.specs.Cells.{cond_cells, conds_cells}
@@ -89,13 +87,14 @@ module _ (s : List ℕ) (d : ℕ) (f : ℕ → Reader (Counted Cond)) (from : �
       (w₁ : Written cond_cells code u r₁ m₁ (f n at)) where
     at_refused : (k j : ℕ) → length s - at < j
         → ((r : Progress) (m : List ℕ) → Written conds_cells code u r m (list_to j s d f n at) → Written conds_cells code₀ used r m (list_to k s d f left from))
-        → (i p : ℕ) → r₁ ≡ Refused i p → Written conds_cells code₀ used r₁ m₁ (list_to k s d f left from)
+        → (i p : ℕ) → r₁ ≡ Refused i p → Written conds_cells code₀ used (Refused i p) m₁ (list_to k s d f left from)
     at_refused k zero enough on i p e = absurd (let z : ⊥ = omega (arith, enough) in z)
     at_refused k (suc j) enough on i p e =
-        on r₁ m₁ (written_refused conds_cells code u r₁ m₁ _ i p (list_refused s d f j n at o i p (written_not cond_cells code u r₁ m₁ (f n at) i p w₁ e)) e)
+        on (Refused i p) m₁ (written_refused conds_cells code u _ m₁ _ i p
+        (list_refused s d f j n at o i p (written_not cond_cells code u r₁ m₁ (f n at) i p w₁ e)) refl)
 
     pub onward_refused : Onward s d f from code₀ used left code at u n → (k : ℕ) → length s - from < k → (i p : ℕ) → r₁ ≡ Refused i p
-        → Written conds_cells code₀ used r₁ m₁ (list_to k s d f left from)
+        → Written conds_cells code₀ used (Refused i p) m₁ (list_to k s d f left from)
     onward_refused w k h i p e = at_refused k (w k h).j (w k h).enough (w k h).on i p e
 
     one_more : (k j : ℕ) → length s - at < j

@@ -1,30 +1,35 @@
 -- Where a condition's parts lie, and how many cells they take of the whole's. Assumes nothing.
-use mathlib.Core.Path.{◌≡◌}
+use Rattle.std.specs.Prelude.{Ok, Err}
+use mathlib.Core.Path.{◌≡◌, ap, ◌∙◌}
+use mathlib.Core.Logic.{◌⊎◌, inl, inr}
 use Prim.Native.Nat.{ℕ, ◌+◌, ◌≤◌, ◌<◌}
 use native.Mathlib.Omega.{arith}
 use Rattle.domain_meaning.specs.Read.{Read, got, refused}
-use Rattle.domain_expressions.specs.Codes.{Spent}
-use Rattle.domain_expressions.specs.declared.leaves.Progress.{Progress}
-use Rattle.domain_expressions.specs.declared.leaves.Progress.TheVariants.{Done, Refused}
-use Rattle.domain_conditions.specs.Begins.{Placed}
+use Rattle.domain_expressions.specs.Codes.{Progress, Done, Spent}
+use Rattle.domain_conditions.specs.Begins.{Begun, Placed}
 use Rattle.domain_conditions.specs.Closed.{closed_by}
 use Rattle.domain_conditions.specs.declared.heads.ConditionHead.{ConditionHead}
 use Rattle.domain_conditions.specs.declared.heads.ConditionHead.TheVariants as H
 
-module _ (at most d : ℕ) (r : ConditionHead) where
-  pub and_place : (p e : ℕ) → r ≡ H.And p e → Placed at most d r → (at + 2 ≤ e) × (e ≤ most) × (0 < d)
+module _ (at most d : ℕ) (r : Begun) where
+  pub and_place : (p e : ℕ) → r ≡ Ok (H.And p e) → Placed at most d r → (at + 2 ≤ e) × (e ≤ most) × (0 < d)
   unfolding Placed
   and_place p e q h = rw q at h
 
-  pub not_place : (p e : ℕ) → r ≡ H.Not p e → Placed at most d r → (at + 2 ≤ e) × (e ≤ most) × (0 < d)
+  pub not_place : (p e : ℕ) → r ≡ Ok (H.Not p e) → Placed at most d r → (at + 2 ≤ e) × (e ≤ most) × (0 < d)
   unfolding Placed
   not_place p e q h = rw q at h
 
-  pub atom_place : (p e : ℕ) → r ≡ H.Atom p e → Placed at most d r → (at + 2 ≤ e) × (e ≤ most) × (0 < d)
+  pub atom_place : (p e : ℕ) → r ≡ Ok (H.Atom p e) → Placed at most d r → (at + 2 ≤ e) × (e ≤ most) × (0 < d)
   unfolding Placed
   atom_place p e q h = rw q at h
 
-  pub compared_place : (k e m : ℕ) → r ≡ H.Compared k e m → Placed at most d r → (at + 2 ≤ e) × (e ≤ most) × (0 < d) × (k ≤ 4)
+  -- under `not` both are read as facts
+  pub fact_place : (h : ConditionHead) (p e : ℕ) → r ≡ Ok h → (h ≡ H.Not p e) ⊎ (h ≡ H.Atom p e) → Placed at most d r → (at + 2 ≤ e) × (e ≤ most) × (0 < d)
+  fact_place h p e q (inl k) w = not_place p e (q ∙ ap Ok k) w
+  fact_place h p e q (inr k) w = atom_place p e (q ∙ ap Ok k) w
+
+  pub compared_place : (k e m : ℕ) → r ≡ Ok (H.Compared k e m) → Placed at most d r → (at + 2 ≤ e) × (e ≤ most) × (0 < d) × (k ≤ 4)
   unfolding Placed
   compared_place k e m q h = rw q at h
 
@@ -32,7 +37,7 @@ module _ (at most d : ℕ) (r : ConditionHead) where
 pub spent_behind : (r : Progress) (more n u w at from : ℕ) → from ≤ at → u ≤ w → w + from + more ≤ u + at → Spent more n w at r → Spent 0 n u from r
 unfolding Spent
 spent_behind (Done a v l) more n u w at from i j k h = (omega (arith, h.0), h.1, omega (arith, h.2), omega (arith, h.3))
-spent_behind (Refused k p) more n u w at from i j q h = tt
+spent_behind (Err why) more n u w at from i j q h = tt
 
 -- after the last part stands a bracket
 pub spent_closed : (r : Progress) (x : Read ℕ) (more n u free l at from : ℕ) → r ≡ closed_by free l x → from ≤ at → u ≤ free → free + from ≤ u + at + 1 + more

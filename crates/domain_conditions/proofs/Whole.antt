@@ -1,4 +1,5 @@
 -- What is said of the parts of a condition, said of the whole. Assumes nothing.
+use Rattle.std.specs.Prelude.{Ok, Err}
 use mathlib.Core.Path.{◌≡◌, refl, sym, ap, ◌∙◌}
 use mathlib.Core.List.{List}
 use mathlib.Core.Bool.{Bool, true, false}
@@ -15,57 +16,38 @@ use Rattle.domain_meaning.specs.Read.{Read, Reader, got, refused, and_then, give
 use Rattle.domain_meaning.specs.Due.{after_of, wrong, on_open, on_word, opening, closing}
 use Rattle.domain_meaning.specs.Terms.{Scope, Counted, counts}
 use Rattle.domain_meaning.specs.Conditions.{Cond, Conds, all, atom_at, negated_head, negation, list_to, conjunction, condition_head, condition}
-use Rattle.domain_due.specs.declared.Parsed.{Parsed}
-use Rattle.domain_due.specs.declared.Parsed.TheVariants as A
-use Rattle.domain_expressions.specs.Codes.{Written, Spent, passed}
-use Rattle.domain_expressions.specs.declared.leaves.Progress.{Progress}
-use Rattle.domain_expressions.specs.declared.leaves.Progress.TheVariants.{Done, Refused}
+use Rattle.domain_due.specs.Answers as A
+use Rattle.domain_expressions.specs.Codes.{Progress, Done, Refused, Written}
 use Rattle.domain_expressions.proofs.Ends.{written_refused}
 use Rattle.domain_expressions.proofs.Operands.{written_got, written_not}
 use Rattle.domain_stored_meaning.specs.Cells.{cond_cells, conds_cells}
-use Rattle.domain_conditions.specs.Begins.{comparison_of, compared, headed_by, in_bracket, Refuses, Begins}
+use Rattle.domain_conditions.specs.Begins.{comparison_of, compared, headed_by, in_bracket, Begun, Begins}
 use Rattle.domain_conditions.specs.Closed.{closed_by}
-use Rattle.domain_conditions.specs.declared.heads.ConditionHead.{ConditionHead}
 use Rattle.domain_conditions.specs.declared.heads.ConditionHead.TheVariants as H
 
 -- ---- what is read, by the head
 
-module _ (s : List ℕ) (d : ℕ) (c : Scope) (yes' : Bool) (n : ℕ) (f g : ℕ → ℕ → Reader (Counted Cond)) (r : ConditionHead) (x : Read (Counted Cond))
+module _ (s : List ℕ) (d : ℕ) (c : Scope) (yes' : Bool) (n : ℕ) (f g : ℕ → ℕ → Reader (Counted Cond)) (r : Begun) (x : Read (Counted Cond))
     (h : Begins s d c yes' n f g r x) where
-  pub by_and : (p e : ℕ) → r ≡ H.And p e → x ≡ f p e e
+  pub by_and : (p e : ℕ) → r ≡ Ok (H.And p e) → x ≡ f p e e
   unfolding Begins
   by_and p e q = rw q at h
 
-  pub by_not : (p e : ℕ) → r ≡ H.Not p e → x ≡ g p e e
+  pub by_not : (p e : ℕ) → r ≡ Ok (H.Not p e) → x ≡ g p e e
   unfolding Begins
   by_not p e q = rw q at h
 
-  pub by_atom : (p e : ℕ) → r ≡ H.Atom p e → x ≡ atom_at s d c yes' n p e e
+  pub by_atom : (p e : ℕ) → r ≡ Ok (H.Atom p e) → x ≡ atom_at s d c yes' n p e e
   unfolding Begins
   by_atom p e q = rw q at h
 
-  pub by_comparison : (k e m : ℕ) → r ≡ H.Compared k e m → x ≡ compared s d c yes' (comparison_of k) m e
+  pub by_comparison : (k e m : ℕ) → r ≡ Ok (H.Compared k e m) → x ≡ compared s d c yes' (comparison_of k) m e
   unfolding Begins
   by_comparison k e m q = rw q at h
 
-  refuses : (a : Parsed) → r ≡ H.Other a → Refuses a x
+  pub by_refused : (k p : ℕ) → r ≡ Err (A.at k p) → x ≡ refused k p
   unfolding Begins
-  refuses a q = rw q at h
-
-  other_written : (a : Parsed) (l : ℕ) (code : List ℕ) (u : ℕ) (b : Progress) → Refuses a x → b ≡ passed l a → Written cond_cells code u b code x
-  other_written (A.Done i v) l code u b w e = absurd w
-  other_written (A.Refused k p) l code u b w e = written_refused cond_cells code u b code x k p w e
-
-  other_spent : (a : Parsed) (l more most u at : ℕ) (b : Progress) → Refuses a x → b ≡ passed l a → Spent more most u at b
-  unfolding Spent
-  other_spent (A.Done i v) l more most u at b w e = absurd w
-  other_spent (A.Refused k p) l more most u at b w e = rw e tt
-
-  pub by_other : (a : Parsed) (l : ℕ) (code : List ℕ) (u : ℕ) (b : Progress) → r ≡ H.Other a → b ≡ passed l a → Written cond_cells code u b code x
-  by_other a l code u b q e = other_written a l code u b (refuses a q) e
-
-  pub spent_other : (a : Parsed) (l more most u at : ℕ) (b : Progress) → r ≡ H.Other a → b ≡ passed l a → Spent more most u at b
-  spent_other a l more most u at b q e = other_spent a l more most u at b (refuses a q) e
+  by_refused k p q = rw q at h
 
 -- ---- no bracket opens where no level is left
 
@@ -122,27 +104,23 @@ module _ (s : List ℕ) (c : Scope) (n : ℕ) where
       (head_negation (d - 1) (token_at s b) (after_of (token_at s b))))
       ∙ sym (then_then (opening s d at) _ _)
 
-module _ (s : List ℕ) (d : ℕ) (c : Scope) (n at : ℕ) (r : ConditionHead)
+module _ (s : List ℕ) (d : ℕ) (c : Scope) (n at : ℕ) (r : Begun)
     (h : Begins s (d - 1) c true n (λ p e. conjunction s (d - 1) (condition (d - 1) s c) n) (λ p e. negation s (d - 1) c n) r
     (in_bracket s d c true n (λ p e. conjunction s (d - 1) (condition (d - 1) s c) n) (λ p e. negation s (d - 1) c n) at)) where
-  pub condition_and : (p e : ℕ) → r ≡ H.And p e → condition d s c n at ≡ conjunction s (d - 1) (condition (d - 1) s c) n e
+  pub condition_and : (p e : ℕ) → r ≡ Ok (H.And p e) → condition d s c n at ≡ conjunction s (d - 1) (condition (d - 1) s c) n e
   condition_and p e q = condition_bracket s c n d at ∙ by_and s (d - 1) c true n _ _ r _ h p e q
 
-  pub condition_not : (p e : ℕ) → r ≡ H.Not p e → condition d s c n at ≡ negation s (d - 1) c n e
+  pub condition_not : (p e : ℕ) → r ≡ Ok (H.Not p e) → condition d s c n at ≡ negation s (d - 1) c n e
   condition_not p e q = condition_bracket s c n d at ∙ by_not s (d - 1) c true n _ _ r _ h p e q
 
-  pub condition_atom : (p e : ℕ) → r ≡ H.Atom p e → condition d s c n at ≡ atom_at s (d - 1) c true n p e e
+  pub condition_atom : (p e : ℕ) → r ≡ Ok (H.Atom p e) → condition d s c n at ≡ atom_at s (d - 1) c true n p e e
   condition_atom p e q = condition_bracket s c n d at ∙ by_atom s (d - 1) c true n _ _ r _ h p e q
 
-  pub condition_comparison : (k e m : ℕ) → r ≡ H.Compared k e m → condition d s c n at ≡ compared s (d - 1) c true (comparison_of k) m e
+  pub condition_comparison : (k e m : ℕ) → r ≡ Ok (H.Compared k e m) → condition d s c n at ≡ compared s (d - 1) c true (comparison_of k) m e
   condition_comparison k e m q = condition_bracket s c n d at ∙ by_comparison s (d - 1) c true n _ _ r _ h k e m q
 
-  pub condition_other : (a : Parsed) (l : ℕ) (code : List ℕ) (u : ℕ) (b : Progress) → r ≡ H.Other a → b ≡ passed l a
-      → Written cond_cells code u b code (condition d s c n at)
-  condition_other a l code u b q e = rw (condition_bracket s c n d at) (by_other s (d - 1) c true n _ _ r _ h a l code u b q e)
-
-  pub condition_ended : (a : Parsed) (l most u from : ℕ) (b : Progress) → r ≡ H.Other a → b ≡ passed l a → Spent 0 most u from b
-  condition_ended a l most u from b q e = spent_other s (d - 1) c true n _ _ r _ h a l 0 most u from b q e
+  pub condition_refused : (k p : ℕ) → r ≡ Err (A.at k p) → condition d s c n at ≡ refused k p
+  condition_refused k p q = condition_bracket s c n d at ∙ by_refused s (d - 1) c true n _ _ r _ h k p q
 
 -- ---- after `not`
 
@@ -155,11 +133,11 @@ closed_written code u v l m t (refused k p) ev el h = refl
 
 module _ (s : List ℕ) (d : ℕ) (c : Scope) (n at : ℕ) (code : List ℕ) (u : ℕ) (r₁ : Progress) (m : List ℕ)
     (w : Written cond_cells code u r₁ m (in_bracket s d c false n (λ p e. refuse 11 p) (λ p e. atom_at s (d - 1) c false n p e) at)) where
-  pub negation_refused : (k p : ℕ) → r₁ ≡ Refused k p → Written cond_cells code u r₁ m (negation s d c n at)
+  pub negation_refused : (k p : ℕ) → r₁ ≡ Refused k p → Written cond_cells code u (Refused k p) m (negation s d c n at)
   negation_refused k p e =
-      written_refused cond_cells code u r₁ m _ k p
+      written_refused cond_cells code u _ m _ k p
       (negation_bracket s c n d at ∙ ap (λ (y : Read (Counted Cond)). and_then y (λ x b. and_then (closing s d b) (λ _ z. got x z)))
-      (written_not cond_cells code u r₁ m _ k p w e)) e
+      (written_not cond_cells code u r₁ m _ k p w e)) refl
 
   pub negation_done : (a v l : ℕ) (r : Progress) → r₁ ≡ Done a v l → r ≡ closed_by v l (closing s d a) → Written cond_cells code u r m (negation s d c n at)
   negation_done a v l r e q =

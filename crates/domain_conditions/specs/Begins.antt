@@ -1,5 +1,5 @@
 -- How a condition begins, by what the definition says is read there: the same heads for a condition and for what stands under `not`.
-use Rattle.std.specs.Prelude.{◌≡◌, ℕ, zero, suc, ◌+◌, ◌-◌, ◌≤◌, ◌<◌, List, Bool, true, false}
+use Rattle.std.specs.Prelude.{◌≡◌, ℕ, zero, suc, ◌+◌, ◌-◌, ◌≤◌, ◌<◌, List, Bool, true, false, Result, Ok, Err}
 use Rattle.text_words.specs.Fixed.{head_of}
 use Rattle.text_tokens.specs.Runs.{part}
 use Rattle.text_tokens.specs.declared.tokens.Token.{Token}
@@ -9,8 +9,7 @@ use Rattle.domain_meaning.specs.Read.{◌>>=◌, Read, Reader, refused, refuse}
 use Rattle.domain_meaning.specs.Due.{token, wrong, on_word, opening}
 use Rattle.domain_meaning.specs.Terms.{Scope, Counted, on_name}
 use Rattle.domain_meaning.specs.Conditions.{Comparison, equal, less, at_most, more, at_least, Cond, atom_at, comparison, equality, operated}
-use Rattle.domain_due.specs.declared.Parsed.{Parsed}
-use Rattle.domain_due.specs.declared.Parsed.TheVariants.{Done, Refused}
+use Rattle.domain_due.specs.declared.Refusal.{Refusal}
 use Rattle.domain_conditions.specs.declared.heads.ConditionHead.{ConditionHead}
 use Rattle.domain_conditions.specs.declared.heads.ConditionHead.TheVariants as H
 
@@ -53,32 +52,31 @@ in_bracket s d c yes' n f g = do
   _ ← opening s d
   in_head s (d - 1) c yes' n f g
 
--- a refusal is that of the definition
-abbrev pub Refuses : Parsed → Read (Counted Cond) → Type 0
-Refuses (Done a v) x = ⊥
-Refuses (Refused k p) x = x ≡ refused k p
+-- what the reader of a beginning answers
+abbrev pub Begun : Type 0
+Begun = Result ConditionHead Refusal
 
 -- what is read, by the head
 unfoldable pub Begins : List ℕ → ℕ → Scope → Bool → ℕ → (ℕ → ℕ → Reader (Counted Cond)) → (ℕ → ℕ → Reader (Counted Cond))
-    → ConditionHead → Read (Counted Cond) → Type 0
-Begins s d c yes' n f g (H.And p e) x = x ≡ f p e e
-Begins s d c yes' n f g (H.Not p e) x = x ≡ g p e e
-Begins s d c yes' n f g (H.Atom p e) x = x ≡ atom_at s d c yes' n p e e
-Begins s d c yes' n f g (H.Compared k e m) x = x ≡ compared s d c yes' (comparison_of k) m e
-Begins s d c yes' n f g (H.Other r) x = Refuses r x
+    → Begun → Read (Counted Cond) → Type 0
+Begins s d c yes' n f g (Ok (H.And p e)) x = x ≡ f p e e
+Begins s d c yes' n f g (Ok (H.Not p e)) x = x ≡ g p e e
+Begins s d c yes' n f g (Ok (H.Atom p e)) x = x ≡ atom_at s d c yes' n p e e
+Begins s d c yes' n f g (Ok (H.Compared k e m)) x = x ≡ compared s d c yes' (comparison_of k) m e
+Begins s d c yes' n f g (Err why) x = x ≡ refused why.0 why.1
 
 -- a head word ends past `at`, and not past `most`; there are five comparisons
-unfoldable pub Inside : ℕ → ℕ → ConditionHead → Type 0
-Inside at most (H.And p e) = (at < e) × (e ≤ most)
-Inside at most (H.Not p e) = (at < e) × (e ≤ most)
-Inside at most (H.Atom p e) = (at < e) × (e ≤ most)
-Inside at most (H.Compared k e m) = (at < e) × (e ≤ most) × (k ≤ 4)
-Inside at most (H.Other r) = Unit {0}
+unfoldable pub Inside : ℕ → ℕ → Begun → Type 0
+Inside at most (Ok (H.And p e)) = (at < e) × (e ≤ most)
+Inside at most (Ok (H.Not p e)) = (at < e) × (e ≤ most)
+Inside at most (Ok (H.Atom p e)) = (at < e) × (e ≤ most)
+Inside at most (Ok (H.Compared k e m)) = (at < e) × (e ≤ most) × (k ≤ 4)
+Inside at most (Err why) = Unit {0}
 
 -- a bracket and its head word are two bytes at least, and take a level
-unfoldable pub Placed : ℕ → ℕ → ℕ → ConditionHead → Type 0
-Placed at most d (H.And p e) = (at + 2 ≤ e) × (e ≤ most) × (0 < d)
-Placed at most d (H.Not p e) = (at + 2 ≤ e) × (e ≤ most) × (0 < d)
-Placed at most d (H.Atom p e) = (at + 2 ≤ e) × (e ≤ most) × (0 < d)
-Placed at most d (H.Compared k e m) = (at + 2 ≤ e) × (e ≤ most) × (0 < d) × (k ≤ 4)
-Placed at most d (H.Other r) = Unit {0}
+unfoldable pub Placed : ℕ → ℕ → ℕ → Begun → Type 0
+Placed at most d (Ok (H.And p e)) = (at + 2 ≤ e) × (e ≤ most) × (0 < d)
+Placed at most d (Ok (H.Not p e)) = (at + 2 ≤ e) × (e ≤ most) × (0 < d)
+Placed at most d (Ok (H.Atom p e)) = (at + 2 ≤ e) × (e ≤ most) × (0 < d)
+Placed at most d (Ok (H.Compared k e m)) = (at + 2 ≤ e) × (e ≤ most) × (0 < d) × (k ≤ 4)
+Placed at most d (Err why) = Unit {0}

@@ -10,7 +10,7 @@ ghost use Rattle.domain_stored_meaning.specs.Cells.{cond_cells};
 ghost use Rattle.domain_conditions.specs.Begins.{comparison_of, objects_due, compared};
 ghost use Rattle.domain_conditions.specs.Closed.{closed_by};
 
-use domain_due::Parsed;
+use domain_due::{Parsed, Refusal};
 use domain_expressions::leaves::Progress;
 use domain_expressions::{leaves, references, trees};
 use domain_rows::layout;
@@ -18,16 +18,12 @@ use domain_terms::scope::Counts;
 use domain_terms::{arguments, scope};
 use text_tokens::tokens::Token;
 use text_tokens::{runs, tokens};
-use text_words::spelling::Place;
 
 // One number as it is written, the other under `not`.
 fn chosen(yes: bool, a: usize, b: usize) -> usize
     ensures { result ≡ cond yes a b }
 {
-    if yes {
-        return a;
-    }
-    b
+    if yes { a } else { b }
 }
 
 // The closing bracket of a condition whose cells end before `free`.
@@ -35,11 +31,8 @@ pub fn closed_at(text: &[u8], from: usize, d: usize, free: usize, left: usize) -
     requires { from ≤ length text.now }
     ensures { (result ≡ closed_by free left (closing text.now d from)) × Spent 0 (length text.now) free from result }
 {
-    let a = domain_due::closing(text, from, d);
-    match a {
-        Parsed::Done(n, _) => Progress::Done(n, free, left),
-        Parsed::Refused(k, p) => Progress::Refused(k, p),
-    }
+    let (end, _) = domain_due::closing(text, from, d)?;
+    Ok((end, free, left))
 }
 
 // A fact, whose predicate's name stands from p to e.
@@ -61,36 +54,29 @@ pub fn atom_at(
         × Spent 0 (length text.now) (used + 2) e result }
 {
     let n = counts.predicates;
-    let f = scope::find_in(
-        tables,
-        layout::PREDICATES_AT,
-        layout::FUNCTIONS_AT,
-        n,
-        runs::part_of(text, p, e),
-    );
-    let Place::At(i) = f else {
-        return Progress::Refused(8, p);
+    let name = runs::part_of(text, p, e);
+    let Some(i) = scope::find_in(tables, layout::PREDICATES_AT, layout::FUNCTIONS_AT, n, name)
+    else {
+        return Err(Refusal(8, p));
     };
     if left == 0 {
-        return Progress::Refused(12, p);
+        return Err(Refusal(12, p));
     }
     let tag = chosen(yes, 4, 8);
-    leaves::progress_of(
-        references::reference_at(
-            text,
-            e,
-            d,
-            tables,
-            counts,
-            layout::PREDICATES_AT,
-            n,
-            i,
-            tag,
-            code,
-            used,
-        ),
-        left - 1,
-    )
+    let (end, free) = references::reference_at(
+        text,
+        e,
+        d,
+        tables,
+        counts,
+        layout::PREDICATES_AT,
+        n,
+        i,
+        tag,
+        code,
+        used,
+    )?;
+    Ok((end, free, left - 1))
 }
 
 // Comparison k of two expressions, after its word.
@@ -112,14 +98,8 @@ fn comparison_at(
         × Spent 2 (length text.now) used from result }
 {
     domain_literals::put(code, used, chosen(yes, 12, 17) + k);
-    let a = trees::expression_at(text, from, d, tables, counts, code, used + 1);
-    let Parsed::Done(mid, v) = a else {
-        return leaves::progress_of(a, left);
-    };
-    let b = trees::expression_at(text, mid, d, tables, counts, code, v);
-    let Parsed::Done(end, w) = b else {
-        return leaves::progress_of(b, left);
-    };
+    let (mid, v) = trees::expression_at(text, from, d, tables, counts, code, used + 1)?;
+    let (end, w) = trees::expression_at(text, mid, d, tables, counts, code, v)?;
     closed_at(text, end, d, w, left)
 }
 
@@ -140,14 +120,8 @@ fn same_at(
         → Written cond_cells code.old used result code.new (same_objects text.now d c yes left from))
         × Spent 2 (length text.now) used from result }
 {
-    let a = arguments::argument_at(text, from, d, tables, counts);
-    let Parsed::Done(mid, x) = a else {
-        return leaves::progress_of(a, left);
-    };
-    let b = arguments::argument_at(text, mid, d, tables, counts);
-    let Parsed::Done(end, y) = b else {
-        return leaves::progress_of(b, left);
-    };
+    let (mid, x) = arguments::argument_at(text, from, d, tables, counts)?;
+    let (end, y) = arguments::argument_at(text, mid, d, tables, counts)?;
     domain_literals::put(code, used, chosen(yes, 2, 3));
     domain_literals::put(code, used + 1, x);
     domain_literals::put(code, used + 2, y);
@@ -158,14 +132,7 @@ fn same_at(
 fn objects_due(text: &[u8], from: usize, k: usize) -> bool
     ensures { result ≡ objects_due k (token_at text.now from) }
 {
-    if 0 < k {
-        return false;
-    }
-    let t = tokens::token_at(text, from);
-    let Token::Word(_, _, _) = t else {
-        return false;
-    };
-    true
+    k == 0 && matches!(tokens::token_at(text, from), Token::Word(_, _, _))
 }
 
 // Comparison k, after its word.

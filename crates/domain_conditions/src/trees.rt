@@ -10,6 +10,7 @@ ghost use Rattle.domain_conditions.specs.Begins.{in_bracket};
 
 use crate::heads::ConditionHead;
 use crate::{heads, singles};
+use domain_due::Refusal;
 use domain_expressions::leaves;
 use domain_expressions::leaves::Progress;
 use domain_terms::scope::Counts;
@@ -33,19 +34,15 @@ fn negated_at(
         (in_bracket text.now d c false left (λ p e. refuse 11 p) (λ p e. atom_at text.now (d - 1) c false left p e) from))
         × Spent 0 (length text.now) used from result }
 {
-    let h = heads::begun_at(text, from, d, left);
-    match h {
-        ConditionHead::And(p, _) => Progress::Refused(11, p),
-        ConditionHead::Not(p, e) => {
-            singles::atom_at(text, p, e, d - 1, tables, counts, false, code, used, left)
-        }
-        ConditionHead::Atom(p, e) => {
+    let head = heads::begun_at(text, from, d, left)?;
+    match head {
+        ConditionHead::And(p, _) => Err(Refusal(11, p)),
+        ConditionHead::Not(p, e) | ConditionHead::Atom(p, e) => {
             singles::atom_at(text, p, e, d - 1, tables, counts, false, code, used, left)
         }
         ConditionHead::Compared(k, e, m) => {
             singles::compared_at(text, e, d - 1, tables, counts, false, k, code, used, m)
         }
-        ConditionHead::Other(a) => leaves::progress_of(a, left),
     }
 }
 
@@ -65,10 +62,7 @@ fn negation_at(
         → Written cond_cells code.old used result code.new (negation text.now d c left from))
         × Spent 0 (length text.now) used from result }
 {
-    let x = negated_at(text, from, d, tables, counts, code, used, left);
-    let Progress::Done(after, v, m) = x else {
-        return x;
-    };
+    let (after, v, m) = negated_at(text, from, d, tables, counts, code, used, left)?;
     singles::closed_at(text, after, d, v, m)
 }
 
@@ -89,8 +83,8 @@ pub fn condition_at(
         → Written cond_cells code.old used result code.new (condition d text.now c left from))
         × Spent 0 (length text.now) used from result }
 {
-    let h = heads::begun_at(text, from, d, left);
-    match h {
+    let head = heads::begun_at(text, from, d, left)?;
+    match head {
         ConditionHead::And(_, e) => {
             domain_literals::put(code, used, 1);
             conditions_to(text, e, d - 1, tables, counts, code, used + 1, left)
@@ -102,7 +96,6 @@ pub fn condition_at(
         ConditionHead::Compared(k, e, m) => {
             singles::compared_at(text, e, d - 1, tables, counts, true, k, code, used, m)
         }
-        ConditionHead::Other(a) => leaves::progress_of(a, left),
     }
 }
 
@@ -130,12 +123,9 @@ fn conditions_to(
         let t = tokens::token_at(text, at);
         if let Token::Close(_, next) = t {
             domain_literals::put(code, u, 0);
-            return Progress::Done(next, u + 1, l);
+            return Ok((next, u + 1, l));
         }
-        let x = condition_at(text, at, d, tables, counts, code, u, l);
-        let Progress::Done(after, v, m) = x else {
-            return x;
-        };
+        let (after, v, m) = condition_at(text, at, d, tables, counts, code, u, l)?;
         at = after;
         u = v;
         l = m;

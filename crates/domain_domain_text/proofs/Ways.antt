@@ -8,17 +8,14 @@ use Rattle.domain_meaning.specs.Read.{Read, got, refused}
 use Rattle.domain_meaning.specs.Actions.{Action}
 use Rattle.domain_meaning.specs.Domain.{Vocabulary, vocabulary, scope_in, actions_to, ending, domain_text, read_domain}
 use Rattle.domain_sections.proofs.Short.{ending_short}
-use Rattle.domain_due.specs.Answers.{answer_of}
-use Rattle.domain_due.specs.declared.Parsed.{Parsed}
-use Rattle.domain_due.specs.declared.Parsed.TheVariants as A
-use Rattle.domain_due.proofs.Dues.{never_done, answer_done, answer_refused}
+use Rattle.domain_due.specs.Answers.{answer_of, Parsed}
+use Rattle.domain_due.specs.Answers as A
+use Rattle.domain_due.proofs.Dues.{never_done, done_parts, refused_parts, answer_done, answer_refused}
 use Rattle.domain_terms.specs.declared.scope.Counts.{Counts}
-use Rattle.domain_preamble.specs.declared.Preamble.{Preamble}
-use Rattle.domain_preamble.specs.declared.Preamble.TheVariants as B
-use Rattle.domain_preamble.specs.Beginning.{counts_of, Declares}
+use Rattle.domain_preamble.specs.Beginning.{Preamble, counts_of, Declares}
+use Rattle.domain_preamble.specs.Beginning as B
 use Rattle.domain_actions.specs.Acted.{Stored, Stores}
-use Rattle.domain_domain_text.specs.declared.Known.TheVariants.{Done, Refused}
-use Rattle.domain_domain_text.specs.Knowing.{Preceded, Knows}
+use Rattle.domain_domain_text.specs.Knowing.{Done, Refused, Preceded, Knows}
 
 -- ---- what stands before the actions, by its answer
 
@@ -27,11 +24,12 @@ pub preceded : (x : Read Vocabulary) (s tables : List ℕ) (r : Preamble) (n p e
     → (v : Vocabulary) × Preceded s n p e c tables v × (6 ≤ n) × (n ≤ length s)
 unfolding Declares
 preceded (got v m) s tables r n p e c i h q =
-    let g = h.is in
-    let en : m ≡ n = cc in
-    let ep : h.from ≡ p = cc in
-    let ee : h.to ≡ e = cc in
-    let ec : counts_of v ≡ c = cc in (
+    let g = sym h.is ∙ q in
+    let z : ◌≡◌ {A = ℕ × ℕ × ℕ × Counts} (m, h.from, h.to, counts_of v) (n, p, e, c) = cc in
+    let en = ap (λ (x : ℕ × ℕ × ℕ × Counts). x.0) z in
+    let ep = ap (λ (x : ℕ × ℕ × ℕ × Counts). x.1) z in
+    let ee = ap (λ (x : ℕ × ℕ × ℕ × Counts). x.2) z in
+    let ec = ap (λ (x : ℕ × ℕ × ℕ × Counts). x.3) z in (
       v,
       record {
         is = sym i ∙ ap (λ (k : ℕ). got v k) en;
@@ -49,7 +47,9 @@ preceded (refused k j) s tables r n p e c i h q = absurd (let z : ◌≡◌ {A =
 undeclared : (x : Read Vocabulary) (s tables : List ℕ) (r : Preamble) (k p : ℕ) → Declares s r tables x → r ≡ B.Refused k p → x ≡ refused k p
 unfolding Declares
 undeclared (got v m) s tables r k p h q = absurd (let g = h.is in let z : ◌≡◌ {A = ℕ} 0 1 = cc in let y : ⊥ = omega arith in y)
-undeclared (refused j i) s tables r k p h q = let z : j ≡ k = cc in let y : i ≡ p = cc in cc
+undeclared (refused j i) s tables r k p h q =
+    let z = refused_parts j k i p (sym h ∙ q) in
+    rw (z.0, z.1)
 
 knows_refused : (s code starts : List ℕ) (tables rows code' starts' : List ℕ) (k p : ℕ) → read_domain s ≡ refused k p
     → Knows s code starts (Refused k p) tables rows code' starts' (read_domain s)
@@ -69,10 +69,8 @@ stores_got : (n : ℕ) (code starts : List ℕ) (r : Parsed) (rows code' starts'
     → (bs : List Action) × (x ≡ got bs a) × Stored n code starts r rows code' starts' bs a × (v ≡ length bs)
 unfolding Stores
 stores_got n code starts r rows code' starts' (got bs m) a v w e =
-    let q : A.Done m (length bs) ≡ A.Done a v = sym w.answer ∙ e in
-    let i : m ≡ a = cc in
-    let j : length bs ≡ v = cc in
-    (bs, rw i refl, rw i at w, sym j)
+    let q = done_parts m a (length bs) v (sym w.answer ∙ e) in
+    (bs, rw q.0 refl, rw q.0 at w, sym q.1)
 stores_got n code starts r rows code' starts' (refused k p) a v w e = never_done k p a v (sym w ∙ e)
 
 stores_not : (n : ℕ) (code starts : List ℕ) (r : Parsed) (rows code' starts' : List ℕ) (x : Read (List Action)) (k p : ℕ)
@@ -80,10 +78,8 @@ stores_not : (n : ℕ) (code starts : List ℕ) (r : Parsed) (rows code' starts'
 unfolding Stores
 stores_not n code starts r rows code' starts' (got bs m) k p w e = never_done k p m (length bs) (sym e ∙ w.answer)
 stores_not n code starts r rows code' starts' (refused j q) k p w e =
-    let o : A.Refused j q ≡ A.Refused k p = sym w ∙ e in
-    let i : j ≡ k = cc in
-    let l : q ≡ p = cc in
-    rw (i, l)
+    let o = refused_parts j k q p (sym w ∙ e) in
+    rw (o.0, o.1)
 
 module _ (s code starts : List ℕ) (at p e : ℕ) (counts : Counts) (tables : List ℕ) (v : Vocabulary) (b : Preceded s at p e counts tables v)
     (r : Parsed) (rows code' starts' : List ℕ)

@@ -1,19 +1,31 @@
 -- What is answered of a domain's text, and what was stored of it.
-use Rattle.std.specs.Prelude.{◌≡◌, ℕ, ◌≤◌, List, false, length}
+use Rattle.std.specs.Prelude.{◌≡◌, ℕ, ◌≤◌, List, false, length, Result, Ok, Err}
 use Rattle.std.proofs.lemmas.List.Edits.{sets}
 use Rattle.text_tokens.specs.Runs.{part}
 use Rattle.domain_meaning.specs.Read.{Read, got, refused}
 use Rattle.domain_meaning.specs.Domain.{Domain, Vocabulary, vocabulary, scope_in}
 use Rattle.domain_meaning.specs.Problem.{scope_of}
+use Rattle.domain_due.specs.declared.Refusal.{Refusal}
+use Rattle.domain_due.specs.Answers.{at}
 use Rattle.domain_rows.specs.Held.{Holds}
 use Rattle.domain_terms.specs.Scoped.{Scoped}
 use Rattle.domain_terms.specs.declared.scope.Counts.{Counts}
 use Rattle.domain_stored_meaning.specs.Cells.{actions_cells, starts_of}
 use Rattle.domain_preamble.specs.Beginning.{counts_of}
 use Rattle.domain_actions.specs.Acted.{declarations}
-use Rattle.domain_domain_text.specs.declared.Known.{Known}
-use Rattle.domain_domain_text.specs.declared.Known.TheVariants.{Done, Refused}
 use Rattle.domain_rows.specs.Layout.{tables_length}
+
+-- what is answered of a domain's text
+abbrev pub Known : Type 0
+Known = Result (ℕ × ℕ × Counts × ℕ) Refusal
+
+-- its name from, to; how many names each table has; how many actions there are
+pattern abbrev pub Done : ℕ → ℕ → Counts → ℕ → Known
+Done from to counts acting = Ok (from, to, counts, acting)
+
+-- the refusal's number and place
+abbrev pub Refused : ℕ → ℕ → Known
+Refused k p = Err (at k p)
 
 -- how many names each table of a domain has
 abbrev pub counts_in : Domain → Counts

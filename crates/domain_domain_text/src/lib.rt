@@ -9,17 +9,11 @@ ghost use Rattle.domain_domain_text.specs.Knowing.{Preceded, Knows};
 ghost use Rattle.domain_rows.specs.Layout.{tables_length};
 
 use domain_actions::acts;
-use domain_due::Parsed;
-use domain_preamble::Preamble;
+use domain_due::Refusal;
 use domain_terms::scope::Counts;
 
-#[derive(Clone, Copy)]
-pub enum Known {
-    // its name from, to; how many names each table has; how many actions there are
-    Done(usize, usize, Counts, usize),
-    // the refusal's number and place
-    Refused(u8, usize),
-}
+// A domain that was read: its name from, to; how many names each table has; how many actions there are.
+pub type Known = Result<(usize, usize, Counts, usize), Refusal>;
 
 // The actions of a domain whose name is from p to e, and the end of its text.
 fn acting_at(
@@ -38,17 +32,9 @@ fn acting_at(
         → Knows text.now code.old starts.old result tables.now rows.new code.new
         starts.new (read_domain text.now) }
 {
-    let a = acts::actions_to(text, at, tables, counts, rows, code, starts);
-    match a {
-        Parsed::Refused(k, q) => Known::Refused(k, q),
-        Parsed::Done(after, n) => {
-            let end = domain_sections::ending_at(text, after);
-            match end {
-                Parsed::Refused(k, q) => Known::Refused(k, q),
-                Parsed::Done(_, _) => Known::Done(p, e, counts, n),
-            }
-        }
-    }
+    let (after, n) = acts::actions_to(text, at, tables, counts, rows, code, starts)?;
+    domain_sections::ending_at(text, after)?;
+    Ok((p, e, counts, n))
 }
 
 // A domain: its tables, its actions' rows, their cells and where these begin.
@@ -63,11 +49,6 @@ pub fn domain_at(
     ensures { Knows text.now code.old starts.old result tables.new rows.new code.new
         starts.new (read_domain text.now) }
 {
-    let b = domain_preamble::preamble_at(text, tables);
-    match b {
-        Preamble::Refused(k, p) => Known::Refused(k, p),
-        Preamble::Done(at, p, e, counts) => {
-            acting_at(text, at, p, e, counts, tables, rows, code, starts)
-        }
-    }
+    let (at, p, e, counts) = domain_preamble::preamble_at(text, tables)?;
+    acting_at(text, at, p, e, counts, tables, rows, code, starts)
 }

@@ -1,5 +1,5 @@
 -- What a token is not, and the ways through what is due. Assumes nothing.
-use mathlib.Core.Path.{◌≡◌, refl, sym, ◌∙◌}
+use mathlib.Core.Path.{◌≡◌, refl, sym, ap, ◌∙◌}
 use mathlib.Core.List.{List, [], ◌∷◌}
 use mathlib.Core.Bool.{true, false, cond}
 use Prim.Native.Nat.{ℕ, ◌-◌, ◌≤◌, ◌<◌}
@@ -9,6 +9,7 @@ use lib.ListN.{length}
 use types.Run.{OneOf, miss}
 use denote.Enum.Declared.{tag_of}
 use borrow.Author.Tests.{eq-eqb, ne_eqb}
+use Rattle.base_laws.proofs.Pairs.{pair_parts}
 use Rattle.text_words.specs.Spelling.{same_word}
 use Rattle.text_words.specs.Fixed.{is_reserved}
 use Rattle.text_tokens.specs.Runs.{part}
@@ -24,8 +25,9 @@ use Rattle.domain_meaning.specs.Read.{Read, got, refused, give, refuse}
 use Rattle.domain_meaning.specs.Due.{after_of, number_of, place_of, wrong, on_word, on_number, on_open, on_close, on_refusal, on_end, opening, closing, word_due}
 use Rattle.domain_meaning.specs.Due.{is_name_word, Name, any_name, new_name}
 use Rattle.domain_due.specs.Answers.{answer_of, name_of, Ahead}
-use Rattle.domain_due.specs.declared.Parsed.{Parsed}
-use Rattle.domain_due.specs.declared.Parsed.TheVariants.{Done, Refused}
+use Rattle.domain_due.specs.Answers.{Parsed, at, Done, Refused}
+use Rattle.domain_due.specs.declared.Refusal.{Refusal}
+use Rattle.std.specs.Prelude.{Result, Err}
 
 -- ---- a token that is not of a kind
 
@@ -106,17 +108,26 @@ pub ahead_by : (n at a v : ℕ) → at < a → a ≤ n → Ahead n at (Done a v)
 unfolding Ahead
 ahead_by n at a v lo hi = (lo, hi)
 
+-- two equal answers have the same parts
+pub done_parts : (a b v w : ℕ) → Done a v ≡ Done b w → (a ≡ b) × (v ≡ w)
+done_parts a b v w e = let q : ◌≡◌ {A = ℕ × ℕ} (a, v) (b, w) = cc in pair_parts a b v w q
+
+pub refused_parts : {T : Type 0} (j k q p : ℕ) → ◌≡◌ {A = Result T Refusal} (Err (at j q)) (Err (at k p)) → (j ≡ k) × (q ≡ p)
+refused_parts j k q p e =
+    let h : at j q ≡ at k p = cc in
+    (ap (λ (r : Refusal). r.0) h, ap (λ (r : Refusal). r.1) h)
+
 -- what is refused is not read
 pub never_done : {A : Type 0} (k p a v : ℕ) → Refused k p ≡ Done a v → A
 never_done k p a v h = absurd (let z : ◌≡◌ {A = ℕ} 0 1 = cc in let y : ⊥ = omega arith in y)
 
 pub answer_done : (x : Read ℕ) (a v : ℕ) → answer_of x ≡ Done a v → x ≡ got v a
-answer_done (got w n) a v e = let z : n ≡ a = cc in let y : w ≡ v = cc in cc
+answer_done (got w n) a v e = let h = done_parts n a w v e in rw (h.0, h.1)
 answer_done (refused k p) a v e = absurd (let z : ◌≡◌ {A = ℕ} 0 1 = cc in let y : ⊥ = omega arith in y)
 
 pub answer_refused : (x : Read ℕ) (k p : ℕ) → answer_of x ≡ Refused k p → x ≡ refused k p
 answer_refused (got w n) k p e = absurd (let z : ◌≡◌ {A = ℕ} 0 1 = cc in let y : ⊥ = omega arith in y)
-answer_refused (refused j q) k p e = let z : j ≡ k = cc in let y : q ≡ p = cc in cc
+answer_refused (refused j q) k p e = let h = refused_parts j k q p e in rw (h.0, h.1)
 
 -- ---- where a token of a kind lies
 
@@ -200,7 +211,7 @@ pub record Named (s : List ℕ) (v a : ℕ) (x : Read Name) : Type 0 where
 any_of : (s : List ℕ) (d : ℕ) (t : Token) (v a : ℕ)
     → name_of (on_word t (λ k p e. cond (is_name_word k) (give (record { place = p; word = part s p e })) (refuse 3 p)) (wrong d t) (after_of t)) ≡ Done a v
     → Named s v a (on_word t (λ k p e. cond (is_name_word k) (give (record { place = p; word = part s p e })) (refuse 3 p)) (wrong d t) (after_of t))
-any_of s d (T.Word W.Name p e) v a h = let q : p ≡ v = cc in let r : e ≡ a = cc in record { is = rw (q, r) }
+any_of s d (T.Word W.Name p e) v a h = let q = done_parts e a p v h in record { is = rw (q.0, q.1) }
 any_of s d (T.Word W.Variable p e) v a h = never_done _ _ a v h
 any_of s d (T.Word W.Keyword p e) v a h = never_done _ _ a v h
 any_of s d (T.Word W.Operator p e) v a h = never_done _ _ a v h
@@ -217,14 +228,14 @@ any_named s d at v a h = any_of s d (token_at s at) v a h
 
 pub name_refused : (x : Read Name) (k p : ℕ) → name_of x ≡ Refused k p → x ≡ refused k p
 name_refused (got w n) k p e = absurd (let z : ◌≡◌ {A = ℕ} 0 1 = cc in let y : ⊥ = omega arith in y)
-name_refused (refused j q) k p e = let z : j ≡ k = cc in let y : q ≡ p = cc in cc
+name_refused (refused j q) k p e = let h = refused_parts j k q p e in rw (h.0, h.1)
 
 -- a name that is declared
 
 module _ (s : List ℕ) (d at : ℕ) (r : Parsed) (q : r ≡ name_of (any_name s d at)) where
-  pub new_refused : (k p : ℕ) → r ≡ Refused k p → (r ≡ name_of (new_name s d at)) × Ahead (length s) at r
+  pub new_refused : (k p : ℕ) → r ≡ Refused k p → (Refused k p ≡ name_of (new_name s d at)) × Ahead (length s) at (Refused k p)
   unfolding new_name
-  new_refused k p e = (rw (name_refused (any_name s d at) k p (sym q ∙ e)) e, ahead_refused _ _ _ _ r e)
+  new_refused k p e = (rw (name_refused (any_name s d at) k p (sym q ∙ e)), ahead_refused _ _ _ _ _ refl)
 
   module _ (a v : ℕ) (e : r ≡ Done a v) where
     pub new_reserved : is_reserved (part s v a) ≡ true → (Refused 3 v ≡ name_of (new_name s d at)) × Ahead (length s) at (Refused 3 v)
@@ -239,7 +250,7 @@ module _ (s : List ℕ) (d at : ℕ) (r : Parsed) (q : r ≡ name_of (any_name s
 any_between : (s : List ℕ) (d at : ℕ) (t : Token) (v a : ℕ) → Within s at t
     → name_of (on_word t (λ k p e. cond (is_name_word k) (give (record { place = p; word = part s p e })) (refuse 3 p)) (wrong d t) (after_of t)) ≡ Done a v → v < a
 unfolding Within
-any_between s d at (T.Word W.Name p e) v a w h = let q : p ≡ v = cc in let r : e ≡ a = cc in omega (arith, w.1)
+any_between s d at (T.Word W.Name p e) v a w h = let q = done_parts e a p v h in omega (arith, w.1, q.0, q.1)
 any_between s d at (T.Word W.Variable p e) v a w h = never_done _ _ a v h
 any_between s d at (T.Word W.Keyword p e) v a w h = never_done _ _ a v h
 any_between s d at (T.Word W.Operator p e) v a w h = never_done _ _ a v h

@@ -3,37 +3,36 @@
 
 ghost use Rattle.std.specs.Prelude.{◌≡◌, ℕ, ◌≤◌, length};
 ghost use Rattle.domain_meaning.specs.Due.{number_of, place_of, opening, closing, word_due, any_name, new_name};
-ghost use Rattle.domain_due.specs.Answers.{answer_of, name_of, Ahead};
+ghost use Rattle.domain_due.specs.Answers.{answer_of, name_of, at, Ahead};
 
 use text_tokens::tokens::{Token, Word};
 use text_tokens::{runs, tokens};
 use text_words::{fixed, spelling};
 
-#[derive(Clone, Copy)]
-pub enum Parsed {
-    // the place after what was read, and a number: a place, or one that the reader says
-    Done(usize, usize),
-    // the refusal's number and place
-    Refused(u8, usize),
-}
+// A refusal of a text: its number and its place.
+#[derive(Clone, Copy, PartialEq, Eq)]
+pub struct Refusal(pub u8, pub usize);
 
-// A token that may not stand here, where d levels of brackets are left.
-pub fn refusal(t: Token, d: usize) -> Parsed
-    ensures { result ≡ Parsed.Refused (number_of d t) (place_of t) }
+// The place after what was read, and a number: a place, or one that the reader says.
+pub type Parsed = Result<(usize, usize), Refusal>;
+
+// The refusal of a token that may not stand here, where d levels of brackets are left.
+pub fn not_due(t: Token, d: usize) -> Refusal
+    ensures { result ≡ at (number_of d t) (place_of t) }
 {
     match t {
-        Token::Word(_, p, _) => Parsed::Refused(3, p),
-        Token::Number(_, p, _) => Parsed::Refused(3, p),
+        Token::Word(_, p, _) => Refusal(3, p),
+        Token::Number(_, p, _) => Refusal(3, p),
         Token::Open(p, _) => {
             if d == 0 {
-                return Parsed::Refused(12, p);
+                return Refusal(12, p);
             }
-            Parsed::Refused(3, p)
+            Refusal(3, p)
         }
-        Token::Close(p, _) => Parsed::Refused(3, p),
-        Token::Mark(_, p, _) => Parsed::Refused(3, p),
-        Token::Refusal(k, p) => Parsed::Refused(k, p),
-        Token::End(p) => Parsed::Refused(4, p),
+        Token::Close(p, _) => Refusal(3, p),
+        Token::Mark(_, p, _) => Refusal(3, p),
+        Token::Refusal(k, p) => Refusal(k, p),
+        Token::End(p) => Refusal(4, p),
     }
 }
 
@@ -44,12 +43,12 @@ pub fn opening(text: &[u8], from: usize, d: usize) -> Parsed
 {
     let t = tokens::token_at(text, from);
     let Token::Open(p, next) = t else {
-        return refusal(t, d);
+        return Err(not_due(t, d));
     };
     if d == 0 {
-        return Parsed::Refused(12, p);
+        return Err(Refusal(12, p));
     }
-    Parsed::Done(next, p)
+    Ok((next, p))
 }
 
 // A closing bracket.
@@ -59,9 +58,9 @@ pub fn closing(text: &[u8], from: usize, d: usize) -> Parsed
 {
     let t = tokens::token_at(text, from);
     let Token::Close(p, next) = t else {
-        return refusal(t, d);
+        return Err(not_due(t, d));
     };
-    Parsed::Done(next, p)
+    Ok((next, p))
 }
 
 // The word w.
@@ -71,12 +70,12 @@ pub fn word_due(text: &[u8], from: usize, d: usize, w: &[u8]) -> Parsed
 {
     let t = tokens::token_at(text, from);
     let Token::Word(_, p, e) = t else {
-        return refusal(t, d);
+        return Err(not_due(t, d));
     };
     if spelling::same_word(tokens::word_of(text, t), w) {
-        return Parsed::Done(e, p);
+        return Ok((e, p));
     }
-    Parsed::Refused(3, p)
+    Err(Refusal(3, p))
 }
 
 // Any name: where it ends, and where it begins.
@@ -86,12 +85,12 @@ pub fn any_name(text: &[u8], from: usize, d: usize) -> Parsed
 {
     let t = tokens::token_at(text, from);
     let Token::Word(k, p, e) = t else {
-        return refusal(t, d);
+        return Err(not_due(t, d));
     };
     let Word::Name = k else {
-        return Parsed::Refused(3, p);
+        return Err(Refusal(3, p));
     };
-    Parsed::Done(e, p)
+    Ok((e, p))
 }
 
 // A name that is declared here.
@@ -99,14 +98,11 @@ pub fn new_name(text: &[u8], from: usize, d: usize) -> Parsed
     requires { from ≤ length text.now }
     ensures { (result ≡ name_of (new_name text.now d from)) × Ahead (length text.now) from result }
 {
-    let a = any_name(text, from, d);
-    let Parsed::Done(e, p) = a else {
-        return a;
-    };
+    let (e, p) = any_name(text, from, d)?;
     if fixed::is_reserved(runs::part_of(text, p, e)) {
-        return Parsed::Refused(3, p);
+        return Err(Refusal(3, p));
     }
-    Parsed::Done(e, p)
+    Ok((e, p))
 }
 
 // Where a token begins.

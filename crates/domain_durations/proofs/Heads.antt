@@ -1,4 +1,5 @@
 -- The ways through what stands before a rule's expression. Assumes nothing.
+use Rattle.std.specs.Prelude.{None, Some}
 use mathlib.Core.Path.{◌≡◌, sym, ap, ◌∙◌}
 use mathlib.Core.List.{List, [], ◌∷◌}
 use mathlib.Core.Bool.{Bool, true, false, cond}
@@ -16,16 +17,15 @@ use Rattle.text_tokens.specs.Tokens.{token_at, spot_at}
 use Rattle.text_tokens.specs.declared.tokens.Token.{Token}
 use Rattle.text_tokens.specs.declared.tokens.Token.TheVariants as T
 use Rattle.text_tokens.specs.declared.tokens.Word.{Word}
-use Rattle.text_tokens.specs.declared.tokens.Spot.TheVariants as P
 use Rattle.text_tokens.specs.contracts.tokens.Token as token-type
 use Rattle.text_tokens.proofs.Within.{Within, token_within}
 use Rattle.domain_meaning.specs.Read.{Read, refused, give, refuse}
 use Rattle.domain_meaning.specs.Due.{after_of, number_of, place_of, opening}
 use Rattle.domain_meaning.specs.Actions.{rule_head}
 use Rattle.domain_due.specs.Answers.{answer_of, Ahead}
-use Rattle.domain_due.specs.declared.Parsed.{Parsed}
-use Rattle.domain_due.specs.declared.Parsed.TheVariants.{Done, Refused}
-use Rattle.domain_due.proofs.Dues.{not_refusal, not_word, never_done, answer_done, answer_refused, ahead_refused, ahead_by}
+use Rattle.domain_due.specs.Answers.{Parsed}
+use Rattle.domain_due.specs.Answers.{Done, Refused}
+use Rattle.domain_due.proofs.Dues.{not_refusal, not_word, never_done, done_parts, answer_done, answer_refused, ahead_refused, ahead_by}
 use Rattle.domain_durations.specs.Lasts.{rule_begun}
 
 -- ---- the head word
@@ -54,7 +54,7 @@ unfolding Within
 head_end s at (T.Word k p e) a v w h = go (same_word (part s p e) (bytes "=")) h
   where
     go : (t : Bool) → answer_of (cond t (give p) (refuse 11 p) e) ≡ Done a v → (at < a) × (a ≤ length s)
-    go true q = let n : e ≡ a = cc in (omega (arith, w.0, w.1), omega (arith, w.2))
+    go true q = let n : e ≡ a = (done_parts e a p v q).0 in (omega (arith, w.0, w.1), omega (arith, w.2))
     go false q = never_done 11 p a v q
 head_end s at (T.Number z p e) a v w h = never_done _ _ a v h
 head_end s at (T.Open p n) a v w h = never_done _ _ a v h
@@ -90,7 +90,7 @@ module _ (s : List ℕ) (at : ℕ) (r : Parsed) (q : r ≡ answer_of (opening s 
         stops s at (rule_begun s at) r₂ k p (rw (o, h)) i
 
     module _ (b w : ℕ) (i : r₂ ≡ Done b w) where
-      pub begun_other : (t : Token) (r₃ : Parsed) → spot_at s b (bytes "?duration") ≡ P.Other → t ≡ token_at s b → r₃ ≡ Refused (number_of 13 t) (place_of t)
+      pub begun_other : (t : Token) (r₃ : Parsed) → spot_at s b (bytes "?duration") ≡ None → t ≡ token_at s b → r₃ ≡ Refused (number_of 13 t) (place_of t)
           → (r₃ ≡ answer_of (rule_begun s at)) × Ahead (length s) at r₃
       unfolding rule_begun
       begun_other t r₃ f g j =
@@ -98,7 +98,7 @@ module _ (s : List ℕ) (at : ℕ) (r : Parsed) (q : r ≡ answer_of (opening s 
           let h = answer_done (rule_head s (token_at s a) (after_of (token_at s a))) b w (sym q₂ ∙ i) in
           stops s at (rule_begun s at) r₃ (number_of 13 t) (place_of t) (rw (o, h, f, ← g)) j
 
-      pub begun_read : (p n : ℕ) → spot_at s b (bytes "?duration") ≡ P.At p n → at < n → n ≤ length s → (Done n p ≡ answer_of (rule_begun s at))
+      pub begun_read : (p n : ℕ) → spot_at s b (bytes "?duration") ≡ Some (p, n) → at < n → n ≤ length s → (Done n p ≡ answer_of (rule_begun s at))
           × Ahead (length s) at (Done n p)
       unfolding rule_begun
       begun_read p n f lo hi =

@@ -1,4 +1,5 @@
 -- What is said of the parts of a rule, said of the whole, and of what an action begins with. Assumes nothing.
+use Rattle.std.specs.Prelude.{Err}
 use mathlib.Core.Path.{◌≡◌, refl, sym, ◌∙◌}
 use mathlib.Core.List.{List}
 use mathlib.Core.Bool.{Bool, true, false}
@@ -14,8 +15,8 @@ use Rattle.domain_meaning.specs.Due.{after_of, opening, closing, fixed}
 use Rattle.domain_meaning.specs.Terms.{Scope, Expr, expression}
 use Rattle.domain_meaning.specs.Actions.{rule, rule_head, duration_spot, duration_rule}
 use Rattle.domain_due.specs.Answers.{answer_of, Ahead}
-use Rattle.domain_due.specs.declared.Parsed.{Parsed}
-use Rattle.domain_due.specs.declared.Parsed.TheVariants.{Done, Refused}
+use Rattle.domain_due.specs.Answers.{Parsed}
+use Rattle.domain_due.specs.Answers.{Done, Refused}
 use Rattle.domain_due.proofs.Dues.{answer_done, answer_refused, ahead_by}
 use Rattle.domain_terms.proofs.Taken.{wrote_got, wrote_not, wrote_by}
 use Rattle.domain_terms.specs.Cells.{Wrote, Room}
@@ -127,4 +128,4 @@ reached_moment n u at h = (omega arith, h, omega arith, omega arith)
 pub reached_rule : (n u from at : ℕ) (r : Parsed) → from < at → Ahead n at r → Room (u + 1) at r → Reached n u from r
 unfolding Reached Ahead Room
 reached_rule n u from at (Done a v) i h k = (omega (arith, h.0), h.1, omega (arith, k.0), omega (arith, k.1))
-reached_rule n u from at (Refused j p) i h k = tt
+reached_rule n u from at (Err why) i h k = tt

@@ -1,13 +1,13 @@
 -- How long an action lasts, as its reader answers it.
-use Rattle.std.specs.Prelude.{ℕ, ◌+◌, ◌≤◌, List, Bool, true, false}
+use Rattle.std.specs.Prelude.{ℕ, ◌+◌, ◌≤◌, List, Bool, true, false, Err}
 use Rattle.text_words.specs.Bytes.{bytes}
 use Rattle.text_tokens.specs.Tokens.{spot_at}
 use Rattle.domain_meaning.specs.Read.{◌>>=◌, Reader, give}
 use Rattle.domain_meaning.specs.Due.{token, opening, fixed}
 use Rattle.domain_meaning.specs.Terms.{Scope}
 use Rattle.domain_meaning.specs.Actions.{Lasting, moment, rule, rule_head, duration_spot, duration_rule}
-use Rattle.domain_due.specs.declared.Parsed.{Parsed}
-use Rattle.domain_due.specs.declared.Parsed.TheVariants.{Done, Refused}
+use Rattle.domain_due.specs.Answers.{Parsed}
+use Rattle.domain_due.specs.Answers.{Done, Refused}
 
 -- a rule up to its expression
 unfoldable pub rule_begun : List ℕ → Reader ℕ
@@ -28,4 +28,4 @@ lasting_of false s c = give moment
 -- the place after is within the text's n bytes and not before `at`; at most one cell more was written than bytes were read
 unfoldable pub Reached : ℕ → ℕ → ℕ → Parsed → Type 0
 Reached n used at (Done a v) = (at ≤ a) × (a ≤ n) × (used ≤ v) × (v + at ≤ used + a + 1)
-Reached n used at (Refused k p) = Unit {0}
+Reached n used at (Err why) = Unit {0}

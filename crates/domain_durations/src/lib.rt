@@ -12,11 +12,11 @@ ghost use Rattle.domain_expressions.specs.Codes.{cells_of};
 ghost use Rattle.domain_stored_meaning.specs.Cells.{lasting_cells};
 ghost use Rattle.domain_durations.specs.Lasts.{rule_begun, lasting_of, Reached};
 
-use domain_due::Parsed;
+use domain_due::{Parsed, Refusal};
 use domain_expressions::trees;
 use domain_terms::scope::Counts;
 use text_tokens::tokens;
-use text_tokens::tokens::{Spot, Token};
+use text_tokens::tokens::Token;
 use text_words::spelling;
 
 // A rule's head word: 11 if it is not `=`, however long.
@@ -25,17 +25,17 @@ fn rule_head(text: &[u8], t: Token) -> Parsed
 {
     if let Token::Refusal(k, p) = t {
         if k == 5 {
-            return Parsed::Refused(11, p);
+            return Err(Refusal(11, p));
         }
-        return Parsed::Refused(k, p);
+        return Err(Refusal(k, p));
     }
     let Token::Word(_, p, e) = t else {
-        return domain_due::refusal(t, 13);
+        return Err(domain_due::not_due(t, 13));
     };
     if spelling::same_word(tokens::word_of(text, t), b"=") {
-        return Parsed::Done(e, p);
+        return Ok((e, p));
     }
-    Parsed::Refused(11, p)
+    Err(Refusal(11, p))
 }
 
 // What stands before a rule's expression: `(= ?duration`.
@@ -43,19 +43,13 @@ fn rule_begun(text: &[u8], from: usize) -> Parsed
     requires { from ≤ length text.now }
     ensures { (result ≡ answer_of (rule_begun text.now from)) × Ahead (length text.now) from result }
 {
-    let first = domain_due::opening(text, from, 14);
-    let Parsed::Done(a, _) = first else {
-        return first;
-    };
-    let head = rule_head(text, tokens::token_at(text, a));
-    let Parsed::Done(b, _) = head else {
-        return head;
-    };
+    let (a, _) = domain_due::opening(text, from, 14)?;
+    let (b, _) = rule_head(text, tokens::token_at(text, a))?;
     let spot = tokens::spot_at(text, b, b"?duration");
-    let Spot::At(p, e) = spot else {
-        return domain_due::refusal(tokens::token_at(text, b), 13);
+    let Some((p, e)) = spot else {
+        return Err(domain_due::not_due(tokens::token_at(text, b), 13));
     };
-    Parsed::Done(e, p)
+    Ok((e, p))
 }
 
 // The rule `(= ?duration e)`: the cells of e, stored from `used` on.
@@ -72,19 +66,10 @@ fn duration_at(
         → Wrote cells_of code.old used result code.new (duration_rule text.now c from))
         × Ahead (length text.now) from result × Room used from result }
 {
-    let begun = rule_begun(text, from);
-    let Parsed::Done(at, _) = begun else {
-        return begun;
-    };
-    let x = trees::expression_at(text, at, 13, tables, counts, code, used);
-    let Parsed::Done(after, free) = x else {
-        return x;
-    };
-    let last = domain_due::closing(text, after, 13);
-    let Parsed::Done(end, _) = last else {
-        return last;
-    };
-    Parsed::Done(end, free)
+    let (at, _) = rule_begun(text, from)?;
+    let (after, free) = trees::expression_at(text, at, 13, tables, counts, code, used)?;
+    let (end, _) = domain_due::closing(text, after, 13)?;
+    Ok((end, free))
 }
 
 // How long an action lasts, stored from `used` on.
@@ -103,13 +88,10 @@ pub fn lasting_at(
         × Reached (length text.now) used from result }
 {
     if durative {
-        let word = domain_due::word_due(text, from, 14, b":duration");
-        let Parsed::Done(at, _) = word else {
-            return word;
-        };
+        let (at, _) = domain_due::word_due(text, from, 14, b":duration")?;
         domain_literals::put(code, used, 1);
         return duration_at(text, at, tables, counts, code, used + 1);
     }
     domain_literals::put(code, used, 0);
-    Parsed::Done(from, used + 1)
+    Ok((from, used + 1))
 }

@@ -1,4 +1,5 @@
 -- A change of a number: its target, its expression, its bracket, and what was written of them. Assumes nothing.
+use Rattle.std.specs.Prelude.{None, Some, Err}
 use mathlib.Core.Path.{◌≡◌, refl, sym, ap, ◌∙◌}
 use mathlib.Core.List.{List, [], ◌∷◌, ◌++◌}
 use Prim.Native.Nat.{ℕ, zero, suc, ◌+◌, ◌-◌, ◌≤◌}
@@ -6,7 +7,6 @@ use native.Mathlib.Omega.{arith}
 use lib.ListN.{length, length-append}
 use lib.Seq.{sets}
 use Rattle.base_laws.proofs.Sets.{sets_append}
-use Rattle.text_words.specs.declared.spelling.Place.TheVariants as F
 use Rattle.text_tokens.specs.Runs.{part}
 use Rattle.domain_meaning.specs.Read.{got, refused, and_then}
 use Rattle.domain_meaning.specs.Tables.{lookup, declared}
@@ -14,15 +14,16 @@ use Rattle.domain_meaning.specs.Due.{opening, closing, any_name}
 use Rattle.domain_meaning.specs.Terms.{Scope, Ref, Expr, counts, counted, reference, expression}
 use Rattle.domain_meaning.specs.Effects.{Change, changes, target, change_at}
 use Rattle.domain_due.specs.Answers.{answer_of, name_of, Ahead}
-use Rattle.domain_due.specs.declared.Parsed.{Parsed}
-use Rattle.domain_due.specs.declared.Parsed.TheVariants as A
+use Rattle.domain_due.specs.Answers.{Parsed}
+use Rattle.domain_due.specs.Answers as A
 use Rattle.domain_due.proofs.Dues.{answer_done, answer_refused, any_named, name_refused}
 use Rattle.domain_terms.proofs.Taken.{Took, wrote_got, wrote_not}
 use Rattle.domain_terms.specs.Cells.{Wrote, Room}
 use Rattle.domain_terms.proofs.Wanted.{wrote_refused}
-use Rattle.domain_expressions.specs.Codes.{ref_cells, cells_of, Written, Over, passed}
-use Rattle.domain_expressions.specs.declared.leaves.Progress.{Progress}
-use Rattle.domain_expressions.specs.declared.leaves.Progress.TheVariants.{Done, Refused}
+use Rattle.domain_expressions.specs.Codes.{ref_cells, cells_of, Written, Over}
+use Rattle.domain_expressions.proofs.Passed.{passed}
+use Rattle.domain_expressions.specs.Codes.{Progress}
+use Rattle.domain_expressions.specs.Codes.{Done, Refused}
 use Rattle.domain_expressions.proofs.Ends.{written_refused}
 use Rattle.domain_stored_meaning.specs.Cells.{change_cell, effect_cells, effects_cells}
 use Rattle.domain_effects.proofs.Facts.{one_cells}
@@ -46,13 +47,13 @@ module _ (s : List ℕ) (d : ℕ) (c : Scope) (from : ℕ) (tag : ℕ) (code : L
         )) q
 
     module _ (e p : ℕ) (qb : b ≡ A.Done e p) where
-      pub target_missing : (m : List ℕ) → lookup c.functions (part s p e) ≡ F.Nothing → Wrote (ref_cells tag) code u (A.Refused 8 p) m (target s d c from)
+      pub target_missing : (m : List ℕ) → lookup c.functions (part s p e) ≡ None → Wrote (ref_cells tag) code u (A.Refused 8 p) m (target s d c from)
       unfolding target declared
       target_missing m q =
           wrote_refused (ref_cells tag) code u (A.Refused 8 p) m _ 8 p
           (rw (answer_done (opening s d from) next o (sym ea ∙ qa), (any_named s (d - 1) next p e (sym eb ∙ qb)).is, q)) refl
 
-      pub target_stored : (i : ℕ) (r : Parsed) (m : List ℕ) → lookup c.functions (part s p e) ≡ F.At i
+      pub target_stored : (i : ℕ) (r : Parsed) (m : List ℕ) → lookup c.functions (part s p e) ≡ Some i
           → Wrote (ref_cells tag) code u r m (reference s (d - 1) c c.functions i e) → Wrote (ref_cells tag) code u r m (target s d c from)
       unfolding target declared
       target_stored i r m q h = rw (answer_done (opening s d from) next o (sym ea ∙ qa), (any_named s (d - 1) next p e (sym eb ∙ qb)).is, q) h
@@ -60,7 +61,7 @@ module _ (s : List ℕ) (d : ℕ) (c : Scope) (from : ℕ) (tag : ℕ) (code : L
 pub room_from : (r : Parsed) (n u at from : ℕ) → from + 2 ≤ at → Ahead n at r → Room (u + 2) at r → Ahead n from r × Room u from r
 unfolding Ahead Room
 room_from (A.Done a v) n u at from i h k = ((omega (arith, h.0), h.1), (omega (arith, k.0), omega (arith, k.1)))
-room_from (A.Refused j p) n u at from i h k = (tt, tt)
+room_from (Err why) n u at from i h k = (tt, tt)
 
 pub room_at : (u at a v : ℕ) (r : Parsed) → r ≡ A.Done a v → Room u at r → (u ≤ v) × (v + at ≤ u + a)
 unfolding Room

@@ -24,12 +24,13 @@ use Rattle.domain_meaning.specs.Due.{number_of, place_of, opening, closing}
 use Rattle.domain_meaning.specs.Terms.{Scope, Counted, on_name}
 use Rattle.domain_meaning.specs.Effects.{Effect, becomes_at, deleted_word, in_deletion, deletion}
 use Rattle.domain_due.specs.Answers.{answer_of}
-use Rattle.domain_due.specs.declared.Parsed.{Parsed}
-use Rattle.domain_due.specs.declared.Parsed.TheVariants as A
+use Rattle.domain_due.specs.Answers.{Parsed}
+use Rattle.domain_due.specs.Answers as A
 use Rattle.domain_due.proofs.Dues.{answer_done, answer_refused, not_word}
-use Rattle.domain_expressions.specs.Codes.{Written, passed}
-use Rattle.domain_expressions.specs.declared.leaves.Progress.{Progress}
-use Rattle.domain_expressions.specs.declared.leaves.Progress.TheVariants.{Done, Refused}
+use Rattle.domain_expressions.specs.Codes.{Written}
+use Rattle.domain_expressions.proofs.Passed.{passed}
+use Rattle.domain_expressions.specs.Codes.{Progress}
+use Rattle.domain_expressions.specs.Codes.{Done, Refused}
 use Rattle.domain_expressions.proofs.Ends.{written_refused}
 use Rattle.domain_expressions.proofs.Operands.{written_got, written_not}
 use Rattle.domain_stored_meaning.specs.Cells.{effects_cells}

@@ -1,4 +1,5 @@
 -- The ways in which an effect begins. Assumes nothing.
+use Rattle.std.specs.Prelude.{Ok, Err}
 use mathlib.Core.Path.{◌≡◌, refl}
 use mathlib.Core.List.{List, [], ◌∷◌}
 use Prim.Native.Nat.{ℕ, zero, suc, ◌-◌, ◌≤◌, ◌<◌}
@@ -22,10 +23,9 @@ use Rattle.domain_meaning.specs.Read.{Read, Reader, refused}
 use Rattle.domain_meaning.specs.Due.{number_of, place_of, opening}
 use Rattle.domain_meaning.specs.Terms.{Scope, Counted}
 use Rattle.domain_meaning.specs.Effects.{assign, raise, lower, Effect, effect_head, effect_word, effect}
-use Rattle.domain_due.specs.declared.Parsed.{Parsed}
-use Rattle.domain_due.specs.declared.Parsed.TheVariants.{Refused}
+use Rattle.domain_due.specs.Answers as A
 use Rattle.domain_due.proofs.Dues.{not_word, not_open}
-use Rattle.domain_effects.specs.Leads.{in_bracket, Refuses, Leads, Inside}
+use Rattle.domain_effects.specs.Leads.{Begun, in_bracket, Leads, Inside}
 use Rattle.domain_effects.specs.declared.heads.EffectHead.{EffectHead}
 use Rattle.domain_effects.specs.declared.heads.EffectHead.TheVariants as L
 
@@ -33,28 +33,28 @@ use Rattle.domain_effects.specs.declared.heads.EffectHead.TheVariants as L
 
 module _ (s : List ℕ) (d : ℕ) (c : Scope) (f : ℕ → Reader (Counted (List Effect))) (n : ℕ) where
   module _ (h : HeadWord) (p e : ℕ) where
-    pub lead_all : h ≡ H.And → Leads s d c f n (L.All e) (effect_head s d c f n h p e e)
+    pub lead_all : h ≡ H.And → Leads s d c f n (Ok (L.All e)) (effect_head s d c f n h p e e)
     unfolding Leads
     lead_all q = rw q
 
-    pub lead_not : h ≡ H.Not → Leads s d c f n (L.Not e) (effect_head s d c f n h p e e)
+    pub lead_not : h ≡ H.Not → Leads s d c f n (Ok (L.Not e)) (effect_head s d c f n h p e e)
     unfolding Leads
     lead_not q = rw q
 
-    pub lead_assign : h ≡ H.Assign → Leads s d c f n (L.Change 12 p e) (effect_head s d c f n h p e e)
+    pub lead_assign : h ≡ H.Assign → Leads s d c f n (Ok (L.Change 12 p e)) (effect_head s d c f n h p e e)
     unfolding Leads
     lead_assign q = rw q (assign, refl, refl)
 
-    pub lead_raise : h ≡ H.Increase → Leads s d c f n (L.Change 15 p e) (effect_head s d c f n h p e e)
+    pub lead_raise : h ≡ H.Increase → Leads s d c f n (Ok (L.Change 15 p e)) (effect_head s d c f n h p e e)
     unfolding Leads
     lead_raise q = rw q (raise, refl, refl)
 
-    pub lead_lower : h ≡ H.Decrease → Leads s d c f n (L.Change 18 p e) (effect_head s d c f n h p e e)
+    pub lead_lower : h ≡ H.Decrease → Leads s d c f n (Ok (L.Change 18 p e)) (effect_head s d c f n h p e e)
     unfolding Leads
     lead_lower q = rw q (lower, refl, refl)
 
   pub lead_fact : (h : HeadWord) (p e : ℕ) → OneOf (2 ∷ 3 ∷ 4 ∷ 5 ∷ 6 ∷ 7 ∷ 8 ∷ 12 ∷ []) (tag_of head-type.the_type h)
-      → Leads s d c f n (L.Fact p e) (effect_head s d c f n h p e e)
+      → Leads s d c f n (Ok (L.Fact p e)) (effect_head s d c f n h p e e)
   unfolding Leads
   lead_fact H.And p e o = absurd (miss (2 ∷ 3 ∷ 4 ∷ 5 ∷ 6 ∷ 7 ∷ 8 ∷ 12 ∷ []) 0 tt o)
   lead_fact H.Not p e o = absurd (miss (2 ∷ 3 ∷ 4 ∷ 5 ∷ 6 ∷ 7 ∷ 8 ∷ 12 ∷ []) 1 tt o)
@@ -70,11 +70,11 @@ module _ (s : List ℕ) (d : ℕ) (c : Scope) (f : ℕ → Reader (Counted (List
   lead_fact H.Minus p e o = refl
   lead_fact H.Other p e o = refl
 
-  pub lead_refused : (r : Parsed) (k p : ℕ) (x : Read (Counted (List Effect))) → r ≡ Refused k p → x ≡ refused k p → Leads s d c f n (L.Other r) x
-  unfolding Leads Refuses
+  pub lead_refused : (r : Begun) (k p : ℕ) (x : Read (Counted (List Effect))) → r ≡ Err (A.at k p) → x ≡ refused k p → Leads s d c f n r x
+  unfolding Leads
   lead_refused r k p x e q = rw e q
 
-  pub lead_by : (r : EffectHead) (x y : Read (Counted (List Effect))) → y ≡ x → Leads s d c f n r x → Leads s d c f n r y
+  pub lead_by : (r : Begun) (x y : Read (Counted (List Effect))) → y ≡ x → Leads s d c f n r x → Leads s d c f n r y
   lead_by r x y e h = rw e h
 
   -- ---- after a bracket
@@ -118,30 +118,30 @@ module _ (s : List ℕ) (c : Scope) where
 -- ---- places
 
 module _ (least most levels : ℕ) where
-  pub inside_all : (e : ℕ) → least ≤ e → e ≤ most → 0 < levels → Inside least most levels (L.All e)
+  pub inside_all : (e : ℕ) → least ≤ e → e ≤ most → 0 < levels → Inside least most levels (Ok (L.All e))
   unfolding Inside
   inside_all e lo hi l = (lo, hi, l)
 
-  pub inside_not : (e : ℕ) → least ≤ e → e ≤ most → 0 < levels → Inside least most levels (L.Not e)
+  pub inside_not : (e : ℕ) → least ≤ e → e ≤ most → 0 < levels → Inside least most levels (Ok (L.Not e))
   unfolding Inside
   inside_not e lo hi l = (lo, hi, l)
 
-  pub inside_change : (tag p e : ℕ) → least ≤ e → e ≤ most → 0 < levels → tag ≤ 251 → Inside least most levels (L.Change tag p e)
+  pub inside_change : (tag p e : ℕ) → least ≤ e → e ≤ most → 0 < levels → tag ≤ 251 → Inside least most levels (Ok (L.Change tag p e))
   unfolding Inside
   inside_change tag p e lo hi l small = (lo, hi, l, small)
 
-  pub inside_fact : (p e : ℕ) → least ≤ e → e ≤ most → 0 < levels → Inside least most levels (L.Fact p e)
+  pub inside_fact : (p e : ℕ) → least ≤ e → e ≤ most → 0 < levels → Inside least most levels (Ok (L.Fact p e))
   unfolding Inside
   inside_fact p e lo hi l = (lo, hi, l)
 
-  pub inside_other : (r : Parsed) → Inside least most levels (L.Other r)
+  pub inside_refused : (k p : ℕ) → Inside least most levels (Err (A.at k p))
   unfolding Inside
-  inside_other r = tt
+  inside_refused k p = tt
 
-  pub inside_from : (r : EffectHead) (lo hi few : ℕ) → least ≤ lo → hi ≤ most → few ≤ levels → Inside lo hi few r → Inside least most levels r
+  pub inside_from : (r : Begun) (lo hi few : ℕ) → least ≤ lo → hi ≤ most → few ≤ levels → Inside lo hi few r → Inside least most levels r
   unfolding Inside
-  inside_from (L.All e) lo hi few a b i h = (omega (arith, h.0), omega (arith, h.1), omega (arith, h.2))
-  inside_from (L.Not e) lo hi few a b i h = (omega (arith, h.0), omega (arith, h.1), omega (arith, h.2))
-  inside_from (L.Change tag p e) lo hi few a b i h = (omega (arith, h.0), omega (arith, h.1), omega (arith, h.2), h.3)
-  inside_from (L.Fact p e) lo hi few a b i h = (omega (arith, h.0), omega (arith, h.1), omega (arith, h.2))
-  inside_from (L.Other r) lo hi few a b i h = tt
+  inside_from (Ok (L.All e)) lo hi few a b i h = (omega (arith, h.0), omega (arith, h.1), omega (arith, h.2))
+  inside_from (Ok (L.Not e)) lo hi few a b i h = (omega (arith, h.0), omega (arith, h.1), omega (arith, h.2))
+  inside_from (Ok (L.Change tag p e)) lo hi few a b i h = (omega (arith, h.0), omega (arith, h.1), omega (arith, h.2), h.3)
+  inside_from (Ok (L.Fact p e)) lo hi few a b i h = (omega (arith, h.0), omega (arith, h.1), omega (arith, h.2))
+  inside_from (Err why) lo hi few a b i h = tt

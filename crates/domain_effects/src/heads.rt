@@ -5,7 +5,7 @@ ghost use Rattle.domain_meaning.specs.Terms.{Scope, Counted};
 ghost use Rattle.domain_meaning.specs.Effects.{Effect, effect_head, effect};
 ghost use Rattle.domain_effects.specs.Leads.{in_bracket, Leads, Inside};
 
-use domain_due::Parsed;
+use domain_due::Refusal;
 use text_tokens::tokens;
 use text_tokens::tokens::{Token, Word};
 use text_words::fixed;
@@ -21,28 +21,26 @@ pub enum EffectHead {
     Change(usize, usize, usize),
     // a fact: where its name begins and where it ends
     Fact(usize, usize),
-    // anything else: its refusal
-    Other(Parsed),
 }
 
 // What a name as head word from p to e says.
-fn led_by(h: HeadWord, p: usize, e: usize) -> EffectHead
+fn led_by(h: HeadWord, p: usize, e: usize) -> Result<EffectHead, Refusal>
     requires { p < e }
     ensures { ((s : List ℕ) (d : ℕ) (c : Scope) (f : ℕ → Reader (Counted (List Effect))) (n : ℕ) → Leads s d c f n result (effect_head s d c f n h p e e))
         × Inside (p + 1) e 1 result }
 {
     match h {
-        HeadWord::And => EffectHead::All(e),
-        HeadWord::Not => EffectHead::Not(e),
-        HeadWord::Assign => EffectHead::Change(12, p, e),
-        HeadWord::Increase => EffectHead::Change(15, p, e),
-        HeadWord::Decrease => EffectHead::Change(18, p, e),
-        _ => EffectHead::Fact(p, e),
+        HeadWord::And => Ok(EffectHead::All(e)),
+        HeadWord::Not => Ok(EffectHead::Not(e)),
+        HeadWord::Assign => Ok(EffectHead::Change(12, p, e)),
+        HeadWord::Increase => Ok(EffectHead::Change(15, p, e)),
+        HeadWord::Decrease => Ok(EffectHead::Change(18, p, e)),
+        _ => Ok(EffectHead::Fact(p, e)),
     }
 }
 
 // What stands after a bracket.
-fn head_at(text: &[u8], from: usize, d: usize) -> EffectHead
+fn head_at(text: &[u8], from: usize, d: usize) -> Result<EffectHead, Refusal>
     requires { from ≤ length text.now }
     ensures { ((c : Scope) (f : ℕ → Reader (Counted (List Effect))) (n : ℕ)
         → Leads text.now d c f n result (in_bracket text.now d c f n from))
@@ -50,16 +48,16 @@ fn head_at(text: &[u8], from: usize, d: usize) -> EffectHead
 {
     let t = tokens::token_at(text, from);
     let Token::Word(k, p, e) = t else {
-        return EffectHead::Other(domain_due::refusal(t, d));
+        return Err(domain_due::not_due(t, d));
     };
     let Word::Name = k else {
-        return EffectHead::Other(Parsed::Refused(3, p));
+        return Err(Refusal(3, p));
     };
     led_by(fixed::head_of(tokens::word_of(text, t)), p, e)
 }
 
 // How an effect begins, where d levels of brackets are left.
-pub fn begun_at(text: &[u8], from: usize, d: usize) -> EffectHead
+pub fn begun_at(text: &[u8], from: usize, d: usize) -> Result<EffectHead, Refusal>
     requires { from ≤ length text.now }
     ensures { ((c : Scope) (n : ℕ)
         → Leads text.now (d - 1) c (effect (d - 1) text.now c) n result (effect d text.now c n from))
@@ -67,10 +65,10 @@ pub fn begun_at(text: &[u8], from: usize, d: usize) -> EffectHead
 {
     let t = tokens::token_at(text, from);
     let Token::Open(_, next) = t else {
-        return EffectHead::Other(domain_due::refusal(t, d));
+        return Err(domain_due::not_due(t, d));
     };
     if d == 0 {
-        return EffectHead::Other(domain_due::refusal(t, d));
+        return Err(domain_due::not_due(t, d));
     }
     head_at(text, next, d - 1)
 }

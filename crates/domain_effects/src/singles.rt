@@ -8,7 +8,7 @@ ghost use Rattle.domain_terms.specs.Cells.{Wrote, Room};
 ghost use Rattle.domain_expressions.specs.Codes.{ref_cells, Written, Spent};
 ghost use Rattle.domain_stored_meaning.specs.Cells.{change_cell, effects_cells};
 
-use domain_due::Parsed;
+use domain_due::{Parsed, Refusal};
 use domain_expressions::leaves::Progress;
 use domain_expressions::{leaves, references, trees};
 use domain_rows::layout;
@@ -18,7 +18,6 @@ use text_tokens::tokens::{Token, Word};
 use text_tokens::{runs, tokens};
 use text_words::fixed;
 use text_words::fixed::HeadWord;
-use text_words::spelling::Place;
 
 // A fact, whose name stands from p to e: the tag says whether it becomes true.
 pub fn becomes_at(
@@ -46,28 +45,26 @@ pub fn becomes_at(
         n,
         runs::part_of(text, p, e),
     );
-    let Place::At(i) = f else {
-        return Progress::Refused(8, p);
+    let Some(i) = f else {
+        return Err(Refusal(8, p));
     };
     if left == 0 {
-        return Progress::Refused(12, p);
+        return Err(Refusal(12, p));
     }
-    leaves::progress_of(
-        references::reference_at(
-            text,
-            e,
-            d,
-            tables,
-            counts,
-            layout::PREDICATES_AT,
-            n,
-            i,
-            tag,
-            code,
-            used,
-        ),
-        left - 1,
-    )
+    let (end, free) = references::reference_at(
+        text,
+        e,
+        d,
+        tables,
+        counts,
+        layout::PREDICATES_AT,
+        n,
+        i,
+        tag,
+        code,
+        used,
+    )?;
+    Ok((end, free, left - 1))
 }
 
 // The number to be changed.
@@ -86,14 +83,8 @@ fn target_at(
         → Wrote (ref_cells tag) code.old used result code.new (target text.now d c from))
         × Ahead (length text.now) from result × Room used from result }
 {
-    let a = domain_due::opening(text, from, d);
-    let Parsed::Done(next, _) = a else {
-        return a;
-    };
-    let b = domain_due::any_name(text, next, d - 1);
-    let Parsed::Done(e, p) = b else {
-        return b;
-    };
+    let (next, _) = domain_due::opening(text, from, d)?;
+    let (e, p) = domain_due::any_name(text, next, d - 1)?;
     let n = counts.functions;
     let f = scope::find_in(
         tables,
@@ -102,8 +93,8 @@ fn target_at(
         n,
         runs::part_of(text, p, e),
     );
-    let Place::At(i) = f else {
-        return Parsed::Refused(8, p);
+    let Some(i) = f else {
+        return Err(Refusal(8, p));
     };
     references::reference_at(
         text,
@@ -139,21 +130,12 @@ pub fn change_at(
         × Spent 0 (length text.now) used e result }
 {
     if left == 0 {
-        return Progress::Refused(12, p);
+        return Err(Refusal(12, p));
     }
-    let a = target_at(text, e, d, tables, counts, tag, code, used);
-    let Parsed::Done(after, v) = a else {
-        return leaves::progress_of(a, left);
-    };
-    let x = trees::expression_at(text, after, d, tables, counts, code, v);
-    let Parsed::Done(end, free) = x else {
-        return leaves::progress_of(x, left);
-    };
-    let b = domain_due::closing(text, end, d);
-    let Parsed::Done(next, _) = b else {
-        return leaves::progress_of(b, left);
-    };
-    Progress::Done(next, free, left - 1)
+    let (after, v) = target_at(text, e, d, tables, counts, tag, code, used)?;
+    let (end, free) = trees::expression_at(text, after, d, tables, counts, code, v)?;
+    let (next, _) = domain_due::closing(text, end, d)?;
+    Ok((next, free, left - 1))
 }
 
 // After `not` and its bracket: a fact that becomes false.
@@ -174,13 +156,13 @@ fn deleted_at(
 {
     let t = tokens::token_at(text, from);
     let Token::Word(k, p, e) = t else {
-        return leaves::progress_of(domain_due::refusal(t, d), left);
+        return Err(domain_due::not_due(t, d));
     };
     let Word::Name = k else {
-        return Progress::Refused(3, p);
+        return Err(Refusal(3, p));
     };
     if let HeadWord::And = fixed::head_of(tokens::word_of(text, t)) {
-        return Progress::Refused(11, p);
+        return Err(Refusal(11, p));
     }
     becomes_at(text, p, e, d, tables, counts, 8, code, used, left)
 }
@@ -201,17 +183,8 @@ pub fn deletion_at(
         → Written effects_cells code.old used result code.new (deletion text.now d c left from))
         × Spent 0 (length text.now) used from result }
 {
-    let a = domain_due::opening(text, from, d);
-    let Parsed::Done(next, _) = a else {
-        return leaves::progress_of(a, left);
-    };
-    let x = deleted_at(text, next, d - 1, tables, counts, code, used, left);
-    let Progress::Done(end, v, l) = x else {
-        return x;
-    };
-    let b = domain_due::closing(text, end, d);
-    let Parsed::Done(after, _) = b else {
-        return leaves::progress_of(b, left);
-    };
-    Progress::Done(after, v, l)
+    let (next, _) = domain_due::opening(text, from, d)?;
+    let (end, v, l) = deleted_at(text, next, d - 1, tables, counts, code, used, left)?;
+    let (after, _) = domain_due::closing(text, end, d)?;
+    Ok((after, v, l))
 }

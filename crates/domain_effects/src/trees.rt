@@ -31,8 +31,8 @@ pub fn effect_at(
         → Written effects_cells code.old used result code.new (effect d text.now c left from))
         × Spent 0 (length text.now) used from result }
 {
-    let b = heads::begun_at(text, from, d);
-    match b {
+    let head = heads::begun_at(text, from, d)?;
+    match head {
         EffectHead::All(e) => effects_to(text, e, d - 1, tables, counts, code, used, left),
         EffectHead::Not(e) => singles::deletion_at(
             text,
@@ -50,7 +50,6 @@ pub fn effect_at(
         EffectHead::Fact(p, e) => {
             singles::becomes_at(text, p, e, d - 1, tables, counts, 4, code, used, left)
         }
-        EffectHead::Other(a) => leaves::progress_of(a, left),
     }
 }
 
@@ -77,12 +76,9 @@ fn effects_to(
     loop {
         let t = tokens::token_at(text, at);
         if let Token::Close(_, next) = t {
-            return Progress::Done(next, u, n);
+            return Ok((next, u, n));
         }
-        let x = effect_at(text, at, d, tables, counts, code, u, n);
-        let Progress::Done(after, v, l) = x else {
-            return x;
-        };
+        let (after, v, l) = effect_at(text, at, d, tables, counts, code, u, n)?;
         at = after;
         u = v;
         n = l;

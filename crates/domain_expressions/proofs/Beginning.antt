@@ -1,4 +1,5 @@
 -- The ways in which an expression begins. Assumes nothing.
+use Rattle.std.specs.Prelude.{Ok, Err}
 use mathlib.Core.Path.{◌≡◌, refl}
 use mathlib.Core.List.{List, [], ◌∷◌}
 use mathlib.Core.Bool.{Bool, true, false}
@@ -21,25 +22,24 @@ use Rattle.text_tokens.specs.contracts.tokens.Token as token-type
 use Rattle.domain_meaning.specs.Read.{Read, Reader, got, refused}
 use Rattle.domain_meaning.specs.Due.{number_of, place_of}
 use Rattle.domain_meaning.specs.Terms.{Scope, Expr, number, Counted, counts, counted, operation, headed, in_bracket, expr}
-use Rattle.domain_due.specs.declared.Parsed.{Parsed}
-use Rattle.domain_due.specs.declared.Parsed.TheVariants.{Refused}
+use Rattle.domain_due.specs.Answers.{at}
+use Rattle.domain_due.specs.declared.Refusal.{Refusal}
 use Rattle.domain_due.proofs.Dues.{not_word, not_number, not_open}
 use Rattle.domain_literals.specs.Literal.{number_cells}
-use Rattle.domain_expressions.specs.Begins.{Bracketed, Begins, Inside, Placed}
-use Rattle.domain_expressions.specs.declared.heads.ExpressionHead.{ExpressionHead}
+use Rattle.domain_expressions.specs.Begins.{Begun, Bracketed, Begins, Inside, Placed}
 use Rattle.domain_expressions.specs.declared.heads.ExpressionHead.TheVariants as B
 
 -- ---- after a bracket
 
 module _ (s : List ℕ) (d : ℕ) (c : Scope) (f : ℕ → Reader (Counted Expr)) (n : ℕ) where
-  pub bracket_refused : (r : Parsed) (k p : ℕ) (x : Read (Counted Expr)) → r ≡ Refused k p → x ≡ refused k p → Bracketed s d c f n (B.Other r) x
+  pub bracket_refused : (r : Begun) (k p : ℕ) (x : Read (Counted Expr)) → r ≡ Err (at k p) → x ≡ refused k p → Bracketed s d c f n r x
   unfolding Bracketed
   bracket_refused r k p x e q = rw e q
 
-  pub bracket_by : (r : ExpressionHead) (x y : Read (Counted Expr)) → y ≡ x → Bracketed s d c f n r x → Bracketed s d c f n r y
+  pub bracket_by : (r : Begun) (x y : Read (Counted Expr)) → y ≡ x → Bracketed s d c f n r x → Bracketed s d c f n r y
   bracket_by r x y e h = rw e h
 
-  pub bracket_name : (p e : ℕ) (x : Read (Counted Expr)) → x ≡ headed s d c f n W.Name p e e → Bracketed s d c f n (B.Function p e) x
+  pub bracket_name : (p e : ℕ) (x : Read (Counted Expr)) → x ≡ headed s d c f n W.Name p e e → Bracketed s d c f n (Ok (B.Function p e)) x
   unfolding Bracketed
   bracket_name p e x q = q
 
@@ -76,70 +76,70 @@ module _ (s : List ℕ) (d : ℕ) (c : Scope) (f : ℕ → Reader (Counted Expr)
   other_head H.Other p e o = refl
 
 module _ (s : List ℕ) (d : ℕ) (c : Scope) (f : ℕ → Reader (Counted Expr)) where
-  pub plus_some : (n : ℕ) (h : HeadWord) (p e : ℕ) → h ≡ H.Plus → (n ≡ 0 → ⊥) → Bracketed s d c f n (B.Operation false e (n - 1)) (operation s d f n h p e)
+  pub plus_some : (n : ℕ) (h : HeadWord) (p e : ℕ) → h ≡ H.Plus → (n ≡ 0 → ⊥) → Bracketed s d c f n (Ok (B.Operation false e (n - 1))) (operation s d f n h p e)
   unfolding counted Bracketed
   plus_some zero h p e q z = absurd (z refl)
   plus_some (suc n) h p e q z = let k : suc n - 1 ≡ n = omega arith in rw (q, k)
 
-  pub minus_some : (n : ℕ) (h : HeadWord) (p e : ℕ) → h ≡ H.Minus → (n ≡ 0 → ⊥) → Bracketed s d c f n (B.Operation true e (n - 1)) (operation s d f n h p e)
+  pub minus_some : (n : ℕ) (h : HeadWord) (p e : ℕ) → h ≡ H.Minus → (n ≡ 0 → ⊥) → Bracketed s d c f n (Ok (B.Operation true e (n - 1))) (operation s d f n h p e)
   unfolding counted Bracketed
   minus_some zero h p e q z = absurd (z refl)
   minus_some (suc n) h p e q z = let k : suc n - 1 ≡ n = omega arith in rw (q, k)
 
 -- ---- places
 
-pub inside_other : (at most : ℕ) (r : Parsed) → Inside at most (B.Other r)
+pub inside_refused : (at most : ℕ) (why : Refusal) → Inside at most (Err why)
 unfolding Inside
-inside_other at most r = tt
+inside_refused at most why = tt
 
-pub inside_operation : (at most : ℕ) (minus : Bool) (e m : ℕ) → at < e → e ≤ most → Inside at most (B.Operation minus e m)
+pub inside_operation : (at most : ℕ) (minus : Bool) (e m : ℕ) → at < e → e ≤ most → Inside at most (Ok (B.Operation minus e m))
 unfolding Inside
 inside_operation at most minus e m lo hi = (lo, hi)
 
-pub inside_function : (at most p e : ℕ) → at < e → e ≤ most → Inside at most (B.Function p e)
+pub inside_function : (at most p e : ℕ) → at < e → e ≤ most → Inside at most (Ok (B.Function p e))
 unfolding Inside
 inside_function at most p e lo hi = (lo, hi)
 
-pub inside_from : (r : ExpressionHead) (at p most e : ℕ) → at ≤ p → e ≤ most → Inside p e r → Inside at most r
+pub inside_from : (r : Begun) (at p most e : ℕ) → at ≤ p → e ≤ most → Inside p e r → Inside at most r
 unfolding Inside
-inside_from (B.Number z b m) at p most e lo hi h = h
-inside_from (B.Function a b) at p most e lo hi h = (omega (arith, h.0), omega (arith, h.1))
-inside_from (B.Operation minus b m) at p most e lo hi h = (omega (arith, h.0), omega (arith, h.1))
-inside_from (B.Other a) at p most e lo hi h = tt
+inside_from (Ok (B.Number z b m)) at p most e lo hi h = h
+inside_from (Ok (B.Function a b)) at p most e lo hi h = (omega (arith, h.0), omega (arith, h.1))
+inside_from (Ok (B.Operation minus b m)) at p most e lo hi h = (omega (arith, h.0), omega (arith, h.1))
+inside_from (Err why) at p most e lo hi h = tt
 
-pub placed_other : (at most d : ℕ) (r : Parsed) → Placed at most d (B.Other r)
+pub placed_refused : (at most d : ℕ) (why : Refusal) → Placed at most d (Err why)
 unfolding Placed
-placed_other at most d r = tt
+placed_refused at most d why = tt
 
 pub placed_number : (at most d : ℕ) (z : ℤ) (e m : ℕ) → at < e → e ≤ most → length (number_cells z) + at ≤ e + 1 → mag z < 1099511627776
-    → Placed at most d (B.Number z e m)
+    → Placed at most d (Ok (B.Number z e m))
 unfolding Placed
 placed_number at most d z e m lo hi room small = (lo, hi, room, small)
 
-pub placed_inside : (r : ExpressionHead) (at a most d : ℕ) → at < a → 0 < d → Inside a most r → Placed at most d r
+pub placed_inside : (r : Begun) (at a most d : ℕ) → at < a → 0 < d → Inside a most r → Placed at most d r
 unfolding Inside Placed
-placed_inside (B.Number z b m) at a most d lo k h = absurd h
-placed_inside (B.Function p b) at a most d lo k h = (omega (arith, h.0), h.1, k)
-placed_inside (B.Operation minus b m) at a most d lo k h = (omega (arith, h.0), h.1, k)
-placed_inside (B.Other r) at a most d lo k h = tt
+placed_inside (Ok (B.Number z b m)) at a most d lo k h = absurd h
+placed_inside (Ok (B.Function p b)) at a most d lo k h = (omega (arith, h.0), h.1, k)
+placed_inside (Ok (B.Operation minus b m)) at a most d lo k h = (omega (arith, h.0), h.1, k)
+placed_inside (Err why) at a most d lo k h = tt
 
 -- ---- an expression
 
 module _ (s : List ℕ) (c : Scope) where
-  pub begin_refused : (d n : ℕ) (r : Parsed) (k p : ℕ) (x : Read (Counted Expr)) → r ≡ Refused k p → x ≡ refused k p → Begins s c d n (B.Other r) x
+  pub begin_refused : (d n : ℕ) (r : Begun) (k p : ℕ) (x : Read (Counted Expr)) → r ≡ Err (at k p) → x ≡ refused k p → Begins s c d n r x
   unfolding Begins
   begin_refused d n r k p x e q = rw e q
 
-  pub begin_number : (d n : ℕ) (z : ℤ) (e m : ℕ) (x : Read (Counted Expr)) → x ≡ got (counts (number z) m) e → Begins s c d n (B.Number z e m) x
+  pub begin_number : (d n : ℕ) (z : ℤ) (e m : ℕ) (x : Read (Counted Expr)) → x ≡ got (counts (number z) m) e → Begins s c d n (Ok (B.Number z e m)) x
   unfolding Begins
   begin_number d n z e m x q = q
 
-  pub begin_bracket : (d n : ℕ) (r : ExpressionHead) (x : Read (Counted Expr)) → Bracketed s (d - 1) c (expr (d - 1) s c) n r x → Begins s c d n r x
+  pub begin_bracket : (d n : ℕ) (r : Begun) (x : Read (Counted Expr)) → Bracketed s (d - 1) c (expr (d - 1) s c) n r x → Begins s c d n r x
   unfolding Begins Bracketed
-  begin_bracket d n (B.Number z e m) x h = absurd h
-  begin_bracket d n (B.Function p e) x h = h
-  begin_bracket d n (B.Operation minus e m) x h = h
-  begin_bracket d n (B.Other r) x h = h
+  begin_bracket d n (Ok (B.Number z e m)) x h = absurd h
+  begin_bracket d n (Ok (B.Function p e)) x h = h
+  begin_bracket d n (Ok (B.Operation minus e m)) x h = h
+  begin_bracket d n (Err why) x h = h
 
   pub expr_none : (d n at : ℕ) (z : ℤ) (p e : ℕ) → token_at s at ≡ T.Number z p e → n ≡ 0 → expr d s c n at ≡ refused 12 p
   unfolding expr counted

@@ -5,3 +5,4 @@ pub mod Beginning
 pub mod Ends
 pub mod Operands
 pub mod Whole
+pub mod Passed

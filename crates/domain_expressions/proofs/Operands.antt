@@ -1,4 +1,5 @@
 -- An expression by its parts: what was written of the operands, and the operator's cell before them. Assumes nothing.
+use Rattle.std.specs.Prelude.{None, Some, Err}
 use mathlib.Core.Path.{◌≡◌, refl, sym, ap, ◌∙◌}
 use mathlib.Core.List.{List, ◌∷◌, ◌++◌}
 use mathlib.Core.Bool.{Bool, true, false}
@@ -7,19 +8,16 @@ use native.Mathlib.Omega.{arith}
 use lib.ListN.{length, set, length-append}
 use lib.Seq.{sets}
 use Rattle.base_laws.proofs.Sets.{set_before, sets_append}
-use Rattle.text_words.specs.declared.spelling.Place.TheVariants as F
 use Rattle.text_tokens.specs.Tokens.{token_at}
 use Rattle.text_tokens.specs.declared.tokens.Token.{Token}
 use Rattle.text_tokens.specs.declared.tokens.Token.TheVariants as T
 use Rattle.domain_meaning.specs.Read.{Read, Reader, got, refused, and_then}
 use Rattle.domain_meaning.specs.Due.{after_of, on_close, closing}
 use Rattle.domain_meaning.specs.Terms.{Expr, minus, difference, plus, Counted, counts, operands_end}
-use Rattle.domain_expressions.specs.Codes.{cells_of, Written, Spent, Joined, lone_end}
+use Rattle.domain_expressions.specs.Codes.{Progress, Done, Refused, cells_of, Written, Spent, Joined, lone_end}
 use Rattle.domain_expressions.specs.Begins.{operands}
-use Rattle.domain_expressions.specs.declared.leaves.Progress.{Progress}
-use Rattle.domain_expressions.specs.declared.leaves.Progress.TheVariants.{Done, Refused}
-
--- ---- cells stored before others
+use Rattle.domain_due.proofs.Dues.{refused_parts}
+use Rattle.domain_expressions.proofs.Passed.{read_parts, never_read}
 
 -- ---- what was read, by the answer
 
@@ -34,25 +32,14 @@ module _ {A : Type 0} (cells : A → List ℕ) (code : List ℕ) (u : ℕ) (r : 
   pub written_got : (x : Read (Counted A)) (a v l : ℕ) → Written cells code u r m x → r ≡ Done a v l → Arrived cells code u m a v l x
   unfolding Written
   written_got (got t n) a v l h e =
-      let q : Done n (u + length (cells t.tree)) t.left ≡ Done a v l = sym h.0 ∙ e in
-      let i : n ≡ a = cc in
-      let j : u + length (cells t.tree) ≡ v = cc in
-      let k : t.left ≡ l = cc in
-      record { tree = t; is = rw i; free = sym j; left = sym k; stored = h.1 }
-  written_got (refused k p) a v l h e =
-      let q : Refused k p ≡ Done a v l = sym h ∙ e in
-      absurd (let z : ◌≡◌ {A = ℕ} 0 1 = cc in let y : ⊥ = omega arith in y)
+      let q = read_parts n a (u + length (cells t.tree)) v t.left l (sym h.0 ∙ e) in
+      record { tree = t; is = rw q.0; free = sym q.1; left = sym q.2; stored = h.1 }
+  written_got (refused k p) a v l h e = never_read k p a v l (sym h ∙ e)
 
   pub written_not : (x : Read (Counted A)) (k p : ℕ) → Written cells code u r m x → r ≡ Refused k p → x ≡ refused k p
   unfolding Written
-  written_not (got t n) k p h e =
-      let q : Done n (u + length (cells t.tree)) t.left ≡ Refused k p = sym h.0 ∙ e in
-      absurd (let z : ◌≡◌ {A = ℕ} 0 1 = cc in let y : ⊥ = omega arith in y)
-  written_not (refused j q) k p h e =
-      let o : Refused j q ≡ Refused k p = sym h ∙ e in
-      let i : j ≡ k = cc in
-      let n : q ≡ p = cc in
-      rw (i, n)
+  written_not (got t n) k p h e = never_read k p n (u + length (cells t.tree)) t.left (sym e ∙ h.0)
+  written_not (refused j q) k p h e = let o = refused_parts j k q p (sym h ∙ e) in rw (o.0, o.1)
 
 -- ---- the ways through the operands
 
@@ -60,10 +47,10 @@ pub record Closes (t : Token) (n : ℕ) : Type 0 where
   pub place : ℕ
   pub is : t ≡ T.Close place n
 
-no_end : {A : Type 0} (n : ℕ) → F.Nothing ≡ F.At n → A
+no_end : {A : Type 0} (n : ℕ) → None ≡ Some n → A
 no_end n h = absurd (let z : ◌≡◌ {A = ℕ} 0 1 = cc in let y : ⊥ = omega arith in y)
 
-closes : (t : Token) (n : ℕ) → on_close t (λ p. F.At (after_of t)) F.Nothing ≡ F.At n → Closes t n
+closes : (t : Token) (n : ℕ) → on_close t (λ p. Some (after_of t)) None ≡ Some n → Closes t n
 closes (T.Word k p e) n h = no_end n h
 closes (T.Number z p e) n h = no_end n h
 closes (T.Open p e) n h = no_end n h
@@ -72,11 +59,11 @@ closes (T.Mark m p e) n h = no_end n h
 closes (T.Refusal k p) n h = no_end n h
 closes (T.End p) n h = no_end n h
 
-pub lone_token : (negative : Bool) (t : Token) (n : ℕ) → lone_end negative t ≡ F.At n → Closes t n
+pub lone_token : (negative : Bool) (t : Token) (n : ℕ) → lone_end negative t ≡ Some n → Closes t n
 lone_token true t n h = closes t n h
 lone_token false t n h = no_end n h
 
-open_yet : {A : Type 0} (t : Token) (f : ℕ → A) (g : A) → on_close t (λ p. F.At (after_of t)) F.Nothing ≡ F.Nothing → on_close t f g ≡ g
+open_yet : {A : Type 0} (t : Token) (f : ℕ → A) (g : A) → on_close t (λ p. Some (after_of t)) None ≡ None → on_close t f g ≡ g
 open_yet (T.Word k p e) f g h = refl
 open_yet (T.Number z p e) f g h = refl
 open_yet (T.Open p e) f g h = refl
@@ -96,18 +83,18 @@ module _ (s : List ℕ) (d : ℕ) (f : ℕ → Reader (Counted Expr)) (m e : ℕ
   operands_refused false k p q = rw q
 
   module _ (x : Counted Expr) (a : ℕ) (q : f m e ≡ got x a) where
-    pub operands_lone : (negative : Bool) (n : ℕ) → lone_end negative (token_at s a) ≡ F.At n
+    pub operands_lone : (negative : Bool) (n : ℕ) → lone_end negative (token_at s a) ≡ Some n
         → operands negative s d f m e ≡ got (counts (minus x.tree) x.left) n
     unfolding closing
     operands_lone true n h = let c = closes (token_at s a) n h in simp (q, c.is)
     operands_lone false n h = no_end n h
 
-    pub second_refused : (negative : Bool) (k p : ℕ) → lone_end negative (token_at s a) ≡ F.Nothing → f x.left a ≡ refused k p
+    pub second_refused : (negative : Bool) (k p : ℕ) → lone_end negative (token_at s a) ≡ None → f x.left a ≡ refused k p
         → operands negative s d f m e ≡ refused k p
     second_refused true k p h o = rw (q, open_yet (token_at s a) _ _ h, o)
     second_refused false k p h o = rw (q, o)
 
-    pub operands_two : (negative : Bool) (y : Counted Expr) (b : ℕ) → lone_end negative (token_at s a) ≡ F.Nothing → f x.left a ≡ got y b
+    pub operands_two : (negative : Bool) (y : Counted Expr) (b : ℕ) → lone_end negative (token_at s a) ≡ None → f x.left a ≡ got y b
         → operands negative s d f m e ≡ and_then (operands_end s d y.left b) (λ _ n. got (counts (both negative x.tree y.tree) y.left) n)
     operands_two true y b h o = rw (q, open_yet (token_at s a) _ _ h, o)
     operands_two false y b h o = rw (q, o)
@@ -162,4 +149,4 @@ spent_at more n u at a v l r e h = rw e at h
 pub spent_within : (r : Progress) (n u w at from : ℕ) → from ≤ at → u ≤ w → w + from ≤ u + at + 1 → Spent 0 n w at r → Spent 1 n u from r
 unfolding Spent
 spent_within (Done a v l) n u w at from i j k h = (omega (arith, h.0), h.1, omega (arith, h.2), omega (arith, h.3))
-spent_within (Refused k p) n u w at from i j q h = tt
+spent_within (Err why) n u w at from i j q h = tt

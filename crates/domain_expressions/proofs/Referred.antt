@@ -11,7 +11,7 @@ use Rattle.domain_meaning.specs.Read.{Read, Reader, got, refused, and_then, give
 use Rattle.domain_meaning.specs.Tables.{Table, entry_at, wanted_of}
 use Rattle.domain_meaning.specs.Due.{on_close, closing}
 use Rattle.domain_meaning.specs.Terms.{Scope, Arg, argument, fits, arguments, reference}
-use Rattle.domain_due.specs.declared.Parsed.{Parsed}
+use Rattle.domain_due.specs.Answers.{Parsed}
 use Rattle.domain_terms.specs.Cells.{arg_cells, Wrote}
 use Rattle.domain_expressions.specs.Codes.{ref_cells}
 

@@ -1,4 +1,5 @@
 -- What is said of the parts of an expression, said of the whole: one law for each way through it. Assumes nothing.
+use Rattle.std.specs.Prelude.{None, Option, Some, Ok, Err}
 use mathlib.Core.Path.{◌≡◌, refl, sym, ap, ◌∙◌}
 use mathlib.Core.List.{List}
 use mathlib.Core.Bool.{Bool}
@@ -7,105 +8,84 @@ use lib.IntN.{ℤ}
 use lib.ListN.{length, set}
 use lib.Seq.{sets}
 use lib.Signed.{mag}
-use Rattle.text_words.specs.declared.spelling.Place.{Place}
-use Rattle.text_words.specs.declared.spelling.Place.TheVariants as F
 use Rattle.text_tokens.specs.Tokens.{token_at}
 use Rattle.domain_meaning.specs.Read.{Read, got, refused, and_then, give}
 use Rattle.domain_meaning.specs.Terms.{Scope, Expr, number, Counted, counts, operands_end, function_at, expr, expression}
-use Rattle.domain_due.specs.Answers.{Ahead}
-use Rattle.domain_due.specs.declared.Parsed.{Parsed}
-use Rattle.domain_due.specs.declared.Parsed.TheVariants as A
+use Rattle.domain_due.specs.Answers.{Parsed, at, Ahead}
+use Rattle.domain_due.specs.Answers as A
 use Rattle.domain_due.proofs.Dues.{close_in}
 use Rattle.domain_terms.specs.Cells.{Wrote}
 use Rattle.domain_literals.specs.Literal.{number_cells}
-use Rattle.domain_expressions.specs.Codes.{cells_of, Written, Spent, passed, Joined, lone_end, Over}
-use Rattle.domain_expressions.specs.Begins.{operands, Refuses, Begins, Placed}
-use Rattle.domain_expressions.specs.declared.heads.ExpressionHead.{ExpressionHead}
+use Rattle.domain_expressions.specs.Codes.{Progress, Done, Refused, cells_of, Written, Spent, Joined, lone_end, Over}
+use Rattle.domain_expressions.specs.Begins.{Begun, operands, Begins, Placed}
 use Rattle.domain_expressions.specs.declared.heads.ExpressionHead.TheVariants as B
-use Rattle.domain_expressions.specs.declared.leaves.Progress.{Progress}
-use Rattle.domain_expressions.specs.declared.leaves.Progress.TheVariants.{Done, Refused}
 use Rattle.domain_expressions.proofs.Ends.{written_refused}
 use Rattle.domain_expressions.proofs.Operands.{written_got, written_not, lone_token, operands_refused, operands_lone, second_refused, operands_two}
 use Rattle.domain_expressions.proofs.Operands.{wrote_lone, wrote_two}
 
 -- ---- places
 
-module _ (at most d : ℕ) (r : ExpressionHead) where
-  pub number_place : (z : ℤ) (e m : ℕ) → r ≡ B.Number z e m → Placed at most d r → (at < e) × (e ≤ most) × (length (number_cells z) + at ≤ e + 1)
+module _ (at most d : ℕ) (r : Begun) where
+  pub number_place : (z : ℤ) (e m : ℕ) → r ≡ Ok (B.Number z e m) → Placed at most d r → (at < e) × (e ≤ most) × (length (number_cells z) + at ≤ e + 1)
       × (mag z < 1099511627776)
   unfolding Placed
   number_place z e m q h = rw q at h
 
-  pub function_place : (p e : ℕ) → r ≡ B.Function p e → Placed at most d r → (at + 2 ≤ e) × (e ≤ most) × (0 < d)
+  pub function_place : (p e : ℕ) → r ≡ Ok (B.Function p e) → Placed at most d r → (at + 2 ≤ e) × (e ≤ most) × (0 < d)
   unfolding Placed
   function_place p e q h = rw q at h
 
-  pub operation_place : (negative : Bool) (e m : ℕ) → r ≡ B.Operation negative e m → Placed at most d r → (at + 2 ≤ e) × (e ≤ most) × (0 < d)
+  pub operation_place : (negative : Bool) (e m : ℕ) → r ≡ Ok (B.Operation negative e m) → Placed at most d r → (at + 2 ≤ e) × (e ≤ most) × (0 < d)
   unfolding Placed
   operation_place negative e m q h = rw q at h
 
-pub lone_in : (s : List ℕ) (a n : ℕ) (negative : Bool) (f : Place) → a ≤ length s → f ≡ lone_end negative (token_at s a) → f ≡ F.At n → (a < n) × (n ≤ length s)
+pub lone_in : (s : List ℕ) (a n : ℕ) (negative : Bool) (f : Option ℕ) → a ≤ length s → f ≡ lone_end negative (token_at s a) → f ≡ Some n → (a < n) × (n ≤ length s)
 lone_in s a n negative f h e q = let c = lone_token negative (token_at s a) n (sym e ∙ q) in close_in s a h c.place n c.is
 
 -- ---- the ways
 
-module _ (s : List ℕ) (c : Scope) (d n : ℕ) (r : ExpressionHead) (x : Read (Counted Expr)) (h : Begins s c d n r x) where
-  pub whole_number : (z : ℤ) (e m : ℕ) (code : List ℕ) (u v : ℕ) (code' : List ℕ) → r ≡ B.Number z e m → v ≡ u + length (number_cells z)
+module _ (s : List ℕ) (c : Scope) (d n : ℕ) (r : Begun) (x : Read (Counted Expr)) (h : Begins s c d n r x) where
+  pub whole_number : (z : ℤ) (e m : ℕ) (code : List ℕ) (u v : ℕ) (code' : List ℕ) → r ≡ Ok (B.Number z e m) → v ≡ u + length (number_cells z)
       → code' ≡ sets code u (number_cells z)
       → Written cells_of code u (Done e v m) code' x
   unfolding Begins Written cells_of
   whole_number z e m code u v code' q i j = let k : x ≡ got (counts (number z) m) e = rw q at h in rw (k, i) (refl, j)
 
-  pub whole_function : (p e : ℕ) (code : List ℕ) (u : ℕ) (a : Progress) (code' : List ℕ) → r ≡ B.Function p e
+  pub whole_function : (p e : ℕ) (code : List ℕ) (u : ℕ) (a : Progress) (code' : List ℕ) → r ≡ Ok (B.Function p e)
       → Written cells_of code u a code' (function_at s (d - 1) c n p e e)
       → Written cells_of code u a code' x
   unfolding Begins
   whole_function p e code u a code' q w = let k : x ≡ function_at s (d - 1) c n p e e = rw q at h in rw k w
 
-  refuses : (a : Parsed) → r ≡ B.Other a → Refuses a x
+  pub whole_refused : (k p : ℕ) (code : List ℕ) (u : ℕ) (code' : List ℕ) → r ≡ Err (at k p) → Written cells_of code u (Refused k p) code' x
   unfolding Begins
-  refuses a q = rw q at h
+  whole_refused k p code u code' q = let w : x ≡ refused k p = rw q at h in written_refused cells_of code u (Refused k p) code' x k p w refl
 
-  other_written : (a : Parsed) (l : ℕ) (code : List ℕ) (u : ℕ) (b : Progress) → Refuses a x → b ≡ passed l a → Written cells_of code u b code x
-  other_written (A.Done i v) l code u b w e = absurd w
-  other_written (A.Refused k p) l code u b w e = written_refused cells_of code u b code x k p w e
-
-  other_spent : (a : Parsed) (l more most u at : ℕ) (b : Progress) → Refuses a x → b ≡ passed l a → Spent more most u at b
-  unfolding Spent
-  other_spent (A.Done i v) l more most u at b w e = absurd w
-  other_spent (A.Refused k p) l more most u at b w e = rw e tt
-
-  pub whole_other : (a : Parsed) (l : ℕ) (code : List ℕ) (u : ℕ) (b : Progress) → r ≡ B.Other a → b ≡ passed l a → Written cells_of code u b code x
-  whole_other a l code u b q e = other_written a l code u b (refuses a q) e
-
-  pub spent_other : (a : Parsed) (l more most u at : ℕ) (b : Progress) → r ≡ B.Other a → b ≡ passed l a → Spent more most u at b
-  spent_other a l more most u at b q e = other_spent a l more most u at b (refuses a q) e
-
-  module _ (negative : Bool) (e m : ℕ) (q : r ≡ B.Operation negative e m) (code : List ℕ) (u : ℕ) (r₁ : Progress) (m₁ : List ℕ)
+  module _ (negative : Bool) (e m : ℕ) (q : r ≡ Ok (B.Operation negative e m)) (code : List ℕ) (u : ℕ) (r₁ : Progress) (m₁ : List ℕ)
       (w₁ : Written cells_of code (u + 1) r₁ m₁ (expr (d - 1) s c m e)) where
     way : x ≡ operands negative s (d - 1) (expr (d - 1) s c) m e
     unfolding Begins
     way = rw q at h
 
-    pub whole_first : (k p : ℕ) → r₁ ≡ Refused k p → Written cells_of code u r₁ m₁ x
-    whole_first k p i = written_refused cells_of code u r₁ m₁ x k p
-        (way ∙ operands_refused s (d - 1) (expr (d - 1) s c) m e negative k p (written_not cells_of code (u + 1) r₁ m₁ _ k p w₁ i)) i
+    pub whole_first : (k p : ℕ) → r₁ ≡ Refused k p → Written cells_of code u (Refused k p) m₁ x
+    whole_first k p i = written_refused cells_of code u _ m₁ x k p
+        (way ∙ operands_refused s (d - 1) (expr (d - 1) s c) m e negative k p (written_not cells_of code (u + 1) r₁ m₁ _ k p w₁ i)) refl
 
-    module _ (a v l : ℕ) (i : r₁ ≡ Done a v l) (f : Place) (j : f ≡ lone_end negative (token_at s a)) where
-      pub whole_lone : (k : ℕ) (m₂ : List ℕ) → f ≡ F.At k → m₂ ≡ set m₁ u 0 → Written cells_of code u (Done k v l) m₂ x
+    module _ (a v l : ℕ) (i : r₁ ≡ Done a v l) (f : Option ℕ) (j : f ≡ lone_end negative (token_at s a)) where
+      pub whole_lone : (k : ℕ) (m₂ : List ℕ) → f ≡ Some k → m₂ ≡ set m₁ u 0 → Written cells_of code u (Done k v l) m₂ x
       whole_lone k m₂ o p =
           let g = written_got cells_of code (u + 1) r₁ m₁ _ a v l w₁ i in
           rw (way ∙ operands_lone s (d - 1) (expr (d - 1) s c) m e g.tree a g.is negative k (sym j ∙ o))
           (wrote_lone code u g.tree k v l m₁ m₂ g.free g.left g.stored p)
 
-      module _ (o : f ≡ F.Nothing) (r₂ : Progress) (m₂ : List ℕ) (w₂ : Written cells_of m₁ v r₂ m₂ (expr (d - 1) s c l a)) where
-        pub whole_second : (k p : ℕ) → r₂ ≡ Refused k p → Written cells_of code u r₂ m₂ x
+      module _ (o : f ≡ None) (r₂ : Progress) (m₂ : List ℕ) (w₂ : Written cells_of m₁ v r₂ m₂ (expr (d - 1) s c l a)) where
+        pub whole_second : (k p : ℕ) → r₂ ≡ Refused k p → Written cells_of code u (Refused k p) m₂ x
         whole_second k p t =
             let g = written_got cells_of code (u + 1) r₁ m₁ _ a v l w₁ i in
             let z = written_not cells_of m₁ v r₂ m₂ _ k p w₂ t in
-            written_refused cells_of code u r₂ m₂ x k p
+            written_refused cells_of code u _ m₂ x k p
             (way ∙ second_refused s (d - 1) (expr (d - 1) s c) m e g.tree a g.is negative k p (sym j ∙ o)
-            (ap (λ (y : ℕ). expr (d - 1) s c y a) (sym g.left) ∙ z)) t
+            (ap (λ (y : ℕ). expr (d - 1) s c y a) (sym g.left) ∙ z)) refl
 
         pub whole_two : (b w t : ℕ) (r₃ : Progress) (m₃ : List ℕ) → r₂ ≡ Done b w t → Joined m₂ u w t negative r₃ m₃ (operands_end s (d - 1) t b)
             → Written cells_of code u r₃ m₃ x
@@ -126,7 +106,7 @@ module _ (s : List ℕ) (c : Scope) (d n : ℕ) (r : ExpressionHead) (x : Read (
 
 abbrev alone : Progress → Parsed
 alone (Done a v l) = A.Done a v
-alone (Refused k p) = A.Refused k p
+alone (Err why) = Err why
 
 alone_wrote : (code : List ℕ) (u : ℕ) (r : Progress) (m : List ℕ) (x : Read (Counted Expr)) → Written cells_of code u r m x
     → Wrote cells_of code u (alone r) m (and_then x (λ y. give y.tree))
@@ -137,7 +117,7 @@ alone_wrote code u r m (refused k p) h = ap alone h
 alone_spent : (r : Progress) (n u at : ℕ) → Spent 1 n u at r → Ahead n at (alone r) × Over u at (alone r)
 unfolding Spent Ahead Over
 alone_spent (Done a v l) n u at h = ((h.0, h.1), (h.2, h.3))
-alone_spent (Refused k p) n u at h = (tt, tt)
+alone_spent (Err why) n u at h = (tt, tt)
 
 module _ (code : List ℕ) (u : ℕ) (r : Progress) (m s : List ℕ) (d : ℕ) (c : Scope) (at : ℕ) (h : Written cells_of code u r m (expr d s c 16 at)) where
   pub own_done : (a v l : ℕ) → r ≡ Done a v l → Wrote cells_of code u (A.Done a v) m (expression s d c at)

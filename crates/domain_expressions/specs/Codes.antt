@@ -1,18 +1,27 @@
 -- References and expressions as cells of the code, and what a reader of expressions answers.
-use Rattle.std.specs.Prelude.{◌≡◌, ℕ, ◌+◌, ◌≤◌, ◌<◌, List, ◌∷◌, ◌++◌, Bool, cond, length, set}
+use Rattle.std.specs.Prelude.{◌≡◌, ℕ, ◌+◌, ◌≤◌, ◌<◌, List, ◌∷◌, ◌++◌, Bool, cond, length, set, None, Option, Some, Result, Ok, Err}
 use Rattle.std.proofs.lemmas.List.Edits.{sets}
 use Rattle.text_tokens.specs.declared.tokens.Token.{Token}
-use Rattle.text_words.specs.declared.spelling.Place.{Place}
-use Rattle.text_words.specs.declared.spelling.Place.TheVariants.{At, Nothing}
 use Rattle.domain_meaning.specs.Read.{Read, got, refused}
 use Rattle.domain_meaning.specs.Due.{on_close, after_of}
 use Rattle.domain_meaning.specs.Terms.{Ref, Expr, number, value, minus, difference, plus, Counted}
 use Rattle.domain_literals.specs.Literal.{number_cells}
-use Rattle.domain_due.specs.declared.Parsed.{Parsed}
-use Rattle.domain_due.specs.declared.Parsed.TheVariants as A
+use Rattle.domain_due.specs.Answers.{Parsed, at}
+use Rattle.domain_due.specs.Answers as A
+use Rattle.domain_due.specs.declared.Refusal.{Refusal}
 use Rattle.domain_terms.specs.Cells.{arg_cells}
-use Rattle.domain_expressions.specs.declared.leaves.Progress.{Progress}
-use Rattle.domain_expressions.specs.declared.leaves.Progress.TheVariants.{Done, Refused}
+
+-- what a reader of expressions, conditions or effects answers
+abbrev pub Progress : Type 0
+Progress = Result (ℕ × ℕ × ℕ) Refusal
+
+-- the place after what was read, the first cell that is free, and how many may follow
+pattern abbrev pub Done : ℕ → ℕ → ℕ → Progress
+Done n v left = Ok (n, v, left)
+
+-- the refusal's number and place
+abbrev pub Refused : ℕ → ℕ → Progress
+Refused k p = Err (at k p)
 
 -- a tag with the count of arguments, the head's number, the arguments
 abbrev pub ref_cells : ℕ → Ref → List ℕ
@@ -35,17 +44,12 @@ Written cells code used r code' (refused k p) = r ≡ Refused k p
 -- the place after is past `from` and within n bytes; of cells were written at most `more` more than bytes were read
 unfoldable pub Spent : ℕ → ℕ → ℕ → ℕ → Progress → Type 0
 Spent more n used from (Done a v l) = (from < a) × (a ≤ n) × (used ≤ v) × (v + from ≤ used + a + more)
-Spent more n used from (Refused k p) = Unit {0}
+Spent more n used from (Err why) = Unit {0}
 
 -- of an expression of its own, at most one cell more was written than bytes were read
 unfoldable pub Over : ℕ → ℕ → Parsed → Type 0
 Over used from (A.Done a v) = (used ≤ v) × (v + from ≤ used + a + 1)
-Over used from (A.Refused k p) = Unit {0}
-
--- an answer as it is passed on, where so many may follow
-abbrev pub passed : ℕ → Parsed → Progress
-passed left (A.Done n v) = Done n v left
-passed left (A.Refused k p) = Refused k p
+Over used from (Err why) = Unit {0}
 
 -- after two operands: the bracket was read, and the operator's cell was stored at `used`
 unfoldable pub Joined : List ℕ → ℕ → ℕ → ℕ → Bool → Progress → List ℕ → Read ℕ → Type 0
@@ -53,5 +57,5 @@ Joined code used free left negative r code' (got p n) = (r ≡ Done n free left)
 Joined code used free left negative r code' (refused k p) = r ≡ Refused k p
 
 -- where the operands of `-` end after the first, if it is the only one
-abbrev pub lone_end : Bool → Token → Place
-lone_end negative t = cond negative (on_close t (λ p. At (after_of t)) Nothing) Nothing
+abbrev pub lone_end : Bool → Token → Option ℕ
+lone_end negative t = cond negative (on_close t (λ p. Some (after_of t)) None) None

@@ -4,34 +4,18 @@ ghost use Rattle.text_tokens.specs.Tokens.{token_at};
 ghost use Rattle.domain_due.specs.Answers.{answer_of, Ahead};
 ghost use Rattle.domain_meaning.specs.Terms.{Scope, function_at, operands_end};
 ghost use Rattle.domain_terms.specs.Scoped.{Scoped, Scopes};
-ghost use Rattle.domain_expressions.specs.Codes.{cells_of, Written, Spent, lone_end, passed, Joined};
+ghost use Rattle.domain_expressions.specs.Codes.{cells_of, Written, Spent, lone_end, Joined};
 
 use crate::references;
-use domain_due::Parsed;
+use domain_due::{Parsed, Refusal};
 use domain_rows::layout;
 use domain_terms::scope;
 use domain_terms::scope::Counts;
 use text_tokens::tokens::Token;
 use text_tokens::{runs, tokens};
-use text_words::spelling::Place;
 
-#[derive(Clone, Copy)]
-pub enum Progress {
-    // the place after what was read, the first cell that is free, and how many operators and operands may follow
-    Done(usize, usize, usize),
-    // the refusal's number and place
-    Refused(u8, usize),
-}
-
-// An answer as it is passed on, where so many may follow.
-pub fn progress_of(a: Parsed, left: usize) -> Progress
-    ensures { result ≡ passed left a }
-{
-    match a {
-        Parsed::Done(n, v) => Progress::Done(n, v, left),
-        Parsed::Refused(k, p) => Progress::Refused(k, p),
-    }
-}
+// The place after what was read, the first cell that is free, and how many operators and operands may follow.
+pub type Progress = Result<(usize, usize, usize), Refusal>;
 
 // A function's value, whose name stands from p to e.
 pub fn function_at(
@@ -51,49 +35,40 @@ pub fn function_at(
         × Spent 0 (length text.now) (used + 2) e result }
 {
     let n = counts.functions;
-    let f = scope::find_in(
-        tables,
-        layout::FUNCTIONS_AT,
-        layout::VARIABLES_AT,
-        n,
-        runs::part_of(text, p, e),
-    );
-    let Place::At(i) = f else {
-        return Progress::Refused(8, p);
+    let name = runs::part_of(text, p, e);
+    let Some(i) = scope::find_in(tables, layout::FUNCTIONS_AT, layout::VARIABLES_AT, n, name) else {
+        return Err(Refusal(8, p));
     };
     if left == 0 {
-        return Progress::Refused(12, p);
+        return Err(Refusal(12, p));
     }
-    progress_of(
-        references::reference_at(
-            text,
-            e,
-            d,
-            tables,
-            counts,
-            layout::FUNCTIONS_AT,
-            n,
-            i,
-            5,
-            code,
-            used,
-        ),
-        left - 1,
-    )
+    let (end, free) = references::reference_at(
+        text,
+        e,
+        d,
+        tables,
+        counts,
+        layout::FUNCTIONS_AT,
+        n,
+        i,
+        5,
+        code,
+        used,
+    )?;
+    Ok((end, free, left - 1))
 }
 
 // Where the operands of `-` end after the first, if it is the only one.
-pub fn lone_end(text: &[u8], from: usize, minus: bool) -> Place
+pub fn lone_end(text: &[u8], from: usize, minus: bool) -> Option<usize>
     ensures { result ≡ lone_end minus (token_at text.now from) }
 {
     if !minus {
-        return Place::Nothing;
+        return None;
     }
-    let t = tokens::token_at(text, from);
-    let Token::Close(_, n) = t else {
-        return Place::Nothing;
-    };
-    Place::At(n)
+    match tokens::token_at(text, from) {
+        Token::Close(_, n) => Some(n),
+        _ => None,
+    }
 }
 
 // After the last operand: a closing bracket.
@@ -103,15 +78,15 @@ pub fn operands_end(text: &[u8], from: usize, d: usize, left: usize) -> Parsed
 {
     let t = tokens::token_at(text, from);
     if let Token::Close(p, n) = t {
-        return Parsed::Done(n, p);
+        return Ok((n, p));
     }
     if let Token::Number(_, p, _) = t {
         if left == 0 {
-            return Parsed::Refused(12, p);
+            return Err(Refusal(12, p));
         }
-        return Parsed::Refused(3, p);
+        return Err(Refusal(3, p));
     }
-    domain_due::refusal(t, d)
+    Err(domain_due::not_due(t, d))
 }
 
 // After two operands: the bracket, and the operator's cell.
@@ -129,20 +104,14 @@ pub fn joined_at(
     ensures { Joined code.old used free left minus result code.new (operands_end text.now d left from)
         × Spent 0 (length text.now) free from result }
 {
-    let a = operands_end(text, from, d, left);
-    let Parsed::Done(n, _) = a else {
-        return progress_of(a, left);
-    };
+    let (n, _) = operands_end(text, from, d, left)?;
     domain_literals::put(code, used, operator_cell(minus));
-    Progress::Done(n, free, left)
+    Ok((n, free, left))
 }
 
 // The cell of an operator of two.
 fn operator_cell(minus: bool) -> usize
     ensures { result ≡ cond minus 1 2 }
 {
-    if minus {
-        return 1;
-    }
-    2
+    if minus { 1 } else { 2 }
 }

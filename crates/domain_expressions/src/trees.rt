@@ -9,9 +9,8 @@ ghost use Rattle.domain_expressions.specs.Codes.{cells_of, Written, Spent, Over}
 use crate::heads::ExpressionHead;
 use crate::leaves::Progress;
 use crate::{heads, leaves};
-use domain_due::Parsed;
+use domain_due::{Parsed, Refusal};
 use domain_terms::scope::Counts;
-use text_words::spelling::Place;
 
 // An expression, where d levels of brackets are left and `left` operators and operands may follow, stored from `used` on.
 pub fn expr_at(
@@ -29,30 +28,19 @@ pub fn expr_at(
         → Written cells_of code.old used result code.new (expr d text.now c left from))
         × Spent 1 (length text.now) used from result }
 {
-    let b = heads::begun_at(text, from, d, left);
-    match b {
-        ExpressionHead::Number(z, e, m) => Progress::Done(
-            e,
-            domain_literals::put_number(code, used, z),
-            m,
-        ),
+    let head = heads::begun_at(text, from, d, left)?;
+    match head {
+        ExpressionHead::Number(z, e, m) => Ok((e, domain_literals::put_number(code, used, z), m)),
         ExpressionHead::Function(p, e) => {
             leaves::function_at(text, p, e, d - 1, tables, counts, code, used, left)
         }
-        ExpressionHead::Other(a) => leaves::progress_of(a, left),
         ExpressionHead::Operation(minus, e, m) => {
-            let x = expr_at(text, e, d - 1, tables, counts, code, used + 1, m);
-            let Progress::Done(after, v, l) = x else {
-                return x;
-            };
-            if let Place::At(n) = leaves::lone_end(text, after, minus) {
+            let (after, v, l) = expr_at(text, e, d - 1, tables, counts, code, used + 1, m)?;
+            if let Some(n) = leaves::lone_end(text, after, minus) {
                 domain_literals::put(code, used, 0);
-                return Progress::Done(n, v, l);
+                return Ok((n, v, l));
             }
-            let y = expr_at(text, after, d - 1, tables, counts, code, v, l);
-            let Progress::Done(end, free, more) = y else {
-                return y;
-            };
+            let (end, free, more) = expr_at(text, after, d - 1, tables, counts, code, v, l)?;
             leaves::joined_at(text, end, d - 1, minus, code, used, free, more)
         }
     }
@@ -73,9 +61,6 @@ pub fn expression_at(
         → Wrote cells_of code.old used result code.new (expression text.now d c from))
         × Ahead (length text.now) from result × Over used from result }
 {
-    let x = expr_at(text, from, d, tables, counts, code, used, 16);
-    match x {
-        Progress::Done(n, v, _) => Parsed::Done(n, v),
-        Progress::Refused(k, p) => Parsed::Refused(k, p),
-    }
+    let (end, free, _) = expr_at(text, from, d, tables, counts, code, used, 16)?;
+    Ok((end, free))
 }

@@ -1,5 +1,6 @@
 -- What is held of a text in a block of at least 32,850 bytes is read as the whole text is: each has the same tokens. What begins at or past 32,768 of a
 -- text too long is 1 in both; a run that begins before it and reaches the block's end is refused in both, with the same number. Assumes nothing.
+use Rattle.std.specs.Prelude.{Option, None, Some}
 use mathlib.Core.Path.{◌≡◌, refl, sym, ap, ◌∙◌}
 use mathlib.Core.List.{List, [], ◌∷◌, ◌++◌}
 use mathlib.Core.Bool.{Bool, true, false, cond, ◌||◌}
@@ -17,7 +18,6 @@ use Rattle.text_words.specs.declared.bytes.Kind.TheVariants as K
 use Rattle.text_tokens.specs.Runs.{part, gap_end, run_end}
 use Rattle.text_tokens.specs.Tokens.{is_past, bracket_of, domain_run, end_of, token_at, spot_at}
 use Rattle.text_tokens.specs.declared.tokens.Token.TheVariants as T
-use Rattle.text_tokens.specs.declared.tokens.Spot.TheVariants as P
 use Rattle.domain_meaning.specs.Domain.{Domain, read_domain}
 use Rattle.domain_meaning.specs.Problem.{read_problem}
 use Rattle.domain_refusal_laws.specs.Lowest.{seen, next_of}
@@ -37,7 +37,7 @@ module _ (s : List ℕ) (at : ℕ) where
   unfolding token_at
   past_token h k = rw (past_is (length s) (gap_end s at) h k)
 
-  past_spot : (w : List ℕ) → 32768 < length s → 32768 ≤ gap_end s at → spot_at s at w ≡ P.Other
+  past_spot : (w : List ℕ) → 32768 < length s → 32768 ≤ gap_end s at → spot_at s at w ≡ None
   unfolding spot_at
   past_spot w h k = rw (past_is (length s) (gap_end s at) h k)
 
@@ -57,11 +57,11 @@ module _ (s : List ℕ) (at : ℕ) where
         go K.Mark f = long_word (part s g (end_of s 59 g)) g (end_of s 59 g) long
         go K.Refused f = absurd (let o : ⊥ = omega (arith, f 1 0) in o)
 
-    run_spot : (w : List ℕ) → length w < 34 → spot_at s at w ≡ P.Other
+    run_spot : (w : List ℕ) → length w < 34 → spot_at s at w ≡ None
     unfolding spot_at
     run_spot w h = rw (e, unlike (part s g (end_of s 59 g)) w (λ d. omega arith)) (go (is_past (length s) g || leb (length s) g))
       where
-        go : (t : Bool) → cond t P.Other (cond false (P.At g (end_of s 59 g)) P.Other) ≡ P.Other
+        go : (t : Bool) → ◌≡◌ {A = Option (ℕ × ℕ)} (cond t None (cond false (Some (g, end_of s 59 g)) None)) None
         go true = refl
         go false = refl
 
@@ -88,8 +88,8 @@ module _ (p : List ℕ) (b : ℕ) (bs : List ℕ) (long : 32849 ≤ length p) wh
 
   -- a token that is refused in both
   refused_both : (at k g : ℕ) → g < length p → token_at held at ≡ T.Refusal k g → token_at whole at ≡ T.Refusal k g
-      → spot_at held at (bytes "either") ≡ P.Other → spot_at whole at (bytes "either") ≡ P.Other
-      → spot_at held at (bytes "?duration") ≡ P.Other → spot_at whole at (bytes "?duration") ≡ P.Other → SameAt held whole at
+      → spot_at held at (bytes "either") ≡ None → spot_at whole at (bytes "either") ≡ None
+      → spot_at held at (bytes "?duration") ≡ None → spot_at whole at (bytes "?duration") ≡ None → SameAt held whole at
   refused_both at k g low e d x y v w =
       record {
         token = e ∙ sym d;

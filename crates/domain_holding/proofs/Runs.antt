@@ -1,24 +1,23 @@
 -- A run of more bytes than any word or number has is refused, by whether it begins as a number and whether it is a name. Assumes nothing.
+use Rattle.std.specs.Prelude.{Option, None, is_some}
 use mathlib.Core.Path.{◌≡◌, refl, sym}
 use mathlib.Core.List.{List, [], ◌∷◌, ◌++◌}
 use mathlib.Core.Bool.{Bool, true, false, cond, ◌&&◌, and-true, and-false}
 use Prim.Native.Nat.{ℕ, suc, ◌+◌, ◌-◌, ◌≤◌, ◌<◌}
 use native.Mathlib.Omega.{arith}
 use lib.ListN.{length, get_or, take, drop, length-drop}
+use lib.IntN.{ℤ}
 use lib.Dec.{eqb, leb, ltb}
 use borrow.Author.Tests.{leb-true, ltb-true, lt-ltb}
 use Rattle.base_laws.proofs.Lists.{at_cons}
 use Rattle.text_words.specs.Bytes.{bytes, lower_of, in_run}
-use Rattle.text_words.specs.Spelling.{same_word, name_byte, name_bytes, is_name, place_from, words_of, word_in, is_at}
+use Rattle.text_words.specs.Spelling.{same_word, name_byte, name_bytes, is_name, place_from, words_of, word_in}
 use Rattle.text_words.specs.Fixed.{is_listed, is_operator}
-use Rattle.text_words.specs.declared.spelling.Place.TheVariants.{Nothing}
 use Rattle.text_tokens.specs.Runs.{part, run, run_end}
 use Rattle.text_tokens.specs.Numbers.{leading, rest_of, number_from, number_of, decimal}
 use Rattle.text_tokens.specs.Classes.{begun_by, begins_number, is_marked, class_of}
 use Rattle.text_tokens.specs.Tokens.{sized_of, number_token, by_class, domain_word, end_of}
 use Rattle.text_tokens.proofs.Values.{fraction_fine}
-use Rattle.text_tokens.specs.declared.numbers.Numeral.TheVariants as N
-use Rattle.text_tokens.specs.declared.numbers.Number.TheVariants as M
 use Rattle.text_tokens.specs.declared.classes.Class.TheVariants as C
 use Rattle.text_tokens.specs.declared.tokens.Token.TheVariants as T
 use Rattle.domain_holding.specs.Keeping.{goes_on, decisive, last_of}
@@ -37,17 +36,17 @@ abbrev shorter : ℕ → List (List ℕ) → Bool
 shorter n [] = true
 shorter n (v ∷ vs) = ltb (length v) n && shorter n vs
 
-none_of : (vs : List (List ℕ)) (w : List ℕ) (i n : ℕ) → shorter n vs ≡ true → n ≤ length w → place_from i vs w ≡ Nothing
+none_of : (vs : List (List ℕ)) (w : List ℕ) (i n : ℕ) → shorter n vs ≡ true → n ≤ length w → place_from i vs w ≡ None
 unfolding place_from
 none_of [] w i n h l = refl
 none_of (v ∷ vs) w i n h l = go (ltb (length v) n) refl h (λ k. none_of vs w (i + 1) n k l)
   where
-    go : (t : Bool) → ltb (length v) n ≡ t → (t && shorter n vs) ≡ true → (shorter n vs ≡ true → place_from (i + 1) vs w ≡ Nothing)
-        → place_from i (v ∷ vs) w ≡ Nothing
+    go : (t : Bool) → ltb (length v) n ≡ t → (t && shorter n vs) ≡ true → (shorter n vs ≡ true → place_from (i + 1) vs w ≡ None)
+        → place_from i (v ∷ vs) w ≡ None
     go true e k f = rw (unlike v w (λ d. omega (arith, ltb-true (length v) n e))) (f k)
     go false e k f = absurd (let z : ◌≡◌ {A = ℕ} 0 1 = cc in let y : ⊥ = omega arith in y)
 
-not_in : (list w : List ℕ) → shorter 32 (words_of list) ≡ true → 32 ≤ length w → is_at (word_in list w) ≡ false
+not_in : (list w : List ℕ) → shorter 32 (words_of list) ≡ true → 32 ≤ length w → is_some (word_in list w) ≡ false
 unfolding word_in
 not_in list w h l = rw (none_of (words_of list) w 0 32 h l)
 
@@ -61,28 +60,28 @@ not_operator w l = not_in _ w refl l
 
 -- ---- no number
 
-rest_long : (whole : ℕ) (ds : List ℕ) → 4 < length ds → rest_of whole ds ≡ N.Malformed
+rest_long : (whole : ℕ) (ds : List ℕ) → 4 < length ds → rest_of whole ds ≡ None
 rest_long whole [] h = absurd (let y : ⊥ = omega arith in y)
 rest_long whole (b ∷ ds) h = rw (← fraction_fine whole ds (omega arith)) (go (eqb b 46))
   where
-    go : (t : Bool) → cond t N.Malformed N.Malformed ≡ N.Malformed
+    go : (t : Bool) → ◌≡◌ {A = Option ℕ} (cond t None None) None
     go true = refl
     go false = refl
 
-from_long : (w : List ℕ) → 13 < length w → number_from w ≡ N.Malformed
+from_long : (w : List ℕ) → 13 < length w → number_from w ≡ None
 unfolding number_from
 from_long w h = go (leb 1 (leading w)) (leb (leading w) 9) refl
   where
-    go : (t u : Bool) → leb (leading w) 9 ≡ u → cond (t && u) (rest_of (decimal 0 (take (leading w) w)) (drop (leading w) w)) N.Malformed ≡ N.Malformed
+    go : (t u : Bool) → leb (leading w) 9 ≡ u → cond (t && u) (rest_of (decimal 0 (take (leading w) w)) (drop (leading w) w)) None ≡ None
     go true true e = rest_long _ (drop (leading w) w) (omega (arith, length-drop (leading w) w, leb-true (leading w) 9 e))
     go true false e = refl
     go false u e = refl
 
-number_long : (w : List ℕ) → 14 < length w → number_of w ≡ M.Malformed
+number_long : (w : List ℕ) → 14 < length w → number_of w ≡ None
 unfolding number_of
 number_long w h = rw (from_long w (omega arith), from_long (drop 1 w) (omega (arith, length-drop 1 w))) (go (begun_by 45 w))
   where
-    go : (t : Bool) → cond t M.Malformed M.Malformed ≡ M.Malformed
+    go : (t : Bool) → ◌≡◌ {A = Option ℤ} (cond t None None) None
     go true = refl
     go false = refl
 

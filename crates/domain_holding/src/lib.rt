@@ -56,8 +56,7 @@ fn take_byte(block: &mut [u8], held: Held, b: u8) -> Held
             going: on,
         };
     }
-    let going = held.going;
-    if !going {
+    if !held.going {
         return held;
     }
     if !on {
@@ -75,10 +74,8 @@ pub fn take(block: &mut [u8], held: Held, piece: &[u8]) -> Held
     ensures { kept_in block.new result ≡ go_on (length block.old) (kept_in block.old held) piece.now }
 {
     let mut kept = held;
-    let mut i = 0;
-    while i < piece.len() {
-        kept = take_byte(block, kept, piece[i]);
-        i += 1;
+    for b in piece {
+        kept = take_byte(block, kept, *b);
     }
     kept
 }

@@ -16,9 +16,9 @@ use Rattle.domain_meaning.specs.Read.{Read, got, refused, and_then}
 use Rattle.domain_meaning.specs.Due.{opening, closing}
 use Rattle.domain_meaning.specs.Terms.{Scope}
 use Rattle.domain_meaning.specs.Problem.{Init, nothing, init_to}
-use Rattle.domain_due.specs.declared.Parsed.{Parsed}
-use Rattle.domain_due.specs.declared.Parsed.TheVariants.{Done, Refused}
-use Rattle.domain_due.proofs.Dues.{not_close}
+use Rattle.domain_due.specs.Answers.{Parsed}
+use Rattle.domain_due.specs.Answers.{Done, Refused}
+use Rattle.domain_due.proofs.Dues.{done_parts, refused_parts, not_close}
 use Rattle.domain_init.specs.State.{Begins}
 use Rattle.domain_meaning.specs.First.{no_facts, no_numbers}
 use Rattle.domain_init.specs.Parts.{entry_of, Stands, Took}
@@ -36,7 +36,7 @@ module _ (r : Parsed) (facts : List ℕ) (numbers : List ℤ) where
   unfolding Took
   took_done (got y n) a v h e =
       let q : Done n 0 ≡ Done a v = sym h.0 ∙ e in
-      let i : n ≡ a = cc in
+      let i : n ≡ a = (done_parts n a 0 v q).0 in
       record { now = y; is = ap (λ (j : ℕ). got y j) i; stands = h.1 }
   took_done (refused k p) a v h e = absurd (let z : ◌≡◌ {A = ℕ} 0 1 = cc in let y : ⊥ = omega arith in y)
 
@@ -45,9 +45,8 @@ module _ (r : Parsed) (facts : List ℕ) (numbers : List ℤ) where
   took_not (got y n) k p h e = absurd (let q = h.0 in let z : ◌≡◌ {A = ℕ} 0 1 = cc q in let w : ⊥ = omega arith in w)
   took_not (refused j q) k p h e =
       let o : Refused j q ≡ Refused k p = sym h ∙ e in
-      let i : j ≡ k = cc in
-      let n : q ≡ p = cc in
-      rw (i, n)
+      let i = refused_parts j k q p o in
+      rw (i.0, i.1)
 
 begins_refused : (r : Parsed) (facts : List ℕ) (numbers : List ℤ) (x : Read Init) (k p : ℕ) → x ≡ refused k p → r ≡ Refused k p → Begins r facts numbers x
 unfolding Begins

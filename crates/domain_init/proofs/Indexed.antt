@@ -1,4 +1,5 @@
 -- The index of a ground fact or number, by the cells of its arguments. Assumes nothing.
+use Rattle.std.specs.Prelude.{None, Option, Some}
 use mathlib.Core.Path.{◌≡◌, refl, sym, ap, ◌∙◌}
 use mathlib.Core.List.{List}
 use mathlib.Core.Bool.{false}
@@ -7,8 +8,6 @@ use native.Mathlib.Omega.{arith}
 use lib.ListN.{length, take, length-map}
 use lib.Seq.{length-sets}
 use Rattle.base_laws.proofs.Sets.{sets_front}
-use Rattle.text_words.specs.declared.spelling.Place.{Place}
-use Rattle.text_words.specs.declared.spelling.Place.TheVariants as F
 use Rattle.text_tokens.specs.Runs.{part}
 use Rattle.domain_meaning.specs.Read.{Read, got, refused, and_then, give, refuse}
 use Rattle.domain_meaning.specs.Tables.{Table, entry_at, wanted_of, lookup, on_found, declared}
@@ -17,8 +16,9 @@ use Rattle.domain_indexes.specs.Firsts.{first_of}
 use Rattle.domain_indexes.proofs.Sums.{base_first}
 use Rattle.domain_meaning.specs.Indexes.{sum_of, digits, index_in, index_of}
 use Rattle.domain_due.specs.Answers.{answer_of}
-use Rattle.domain_due.specs.declared.Parsed.{Parsed}
-use Rattle.domain_due.specs.declared.Parsed.TheVariants.{Done, Refused}
+use Rattle.domain_due.specs.Answers.{Parsed}
+use Rattle.domain_due.specs.Answers.{Done, Refused}
+use Rattle.domain_due.proofs.Dues.{done_parts, refused_parts}
 use Rattle.domain_terms.specs.Scoped.{AllSigned}
 use Rattle.domain_terms.specs.Cells.{cell_of, arg_cells, Wrote}
 use Rattle.domain_terms.proofs.Kept.{found_below}
@@ -42,8 +42,8 @@ module _ (code : List ℕ) (r : Parsed) (m : List ℕ) where
   unfolding Wrote
   stored_done (got as' n) a v h e =
       let q : Done n (0 + length (arg_cells as')) ≡ Done a v = sym h.0 ∙ e in
-      let n≡ : n ≡ a = cc in
-      let v≡ : 0 + length (arg_cells as') ≡ v = cc in
+      let n≡ : n ≡ a = (done_parts n a _ v q).0 in
+      let v≡ : 0 + length (arg_cells as') ≡ v = (done_parts n a _ v q).1 in
       let long : length (arg_cells as') ≡ v = omega arith in
       record {
         args = as';
@@ -59,9 +59,8 @@ module _ (code : List ℕ) (r : Parsed) (m : List ℕ) where
   stored_refused (got as' n) k p h e = absurd (let q = h.0 in let z : ◌≡◌ {A = ℕ} 0 1 = cc q in let y : ⊥ = omega arith in y)
   stored_refused (refused j q) k p h e =
       let o : Refused j q ≡ Refused k p = sym h ∙ e in
-      let i : j ≡ k = cc in
-      let n : q ≡ p = cc in
-      rw (i, n)
+      let i = refused_parts j k q p o in
+      rw (i.0, i.1)
 
 -- ---- after the name
 
@@ -131,7 +130,7 @@ module _ (s : List ℕ) (d : ℕ) (c : Scope) (t : Table) (i at : ℕ) where
 -- ---- with the name
 
 module _ (s : List ℕ) (d : ℕ) (c : Scope) (t : Table) (p e : ℕ) where
-  pub ground_missing : lookup t (part s p e) ≡ F.Nothing → Refused 8 p ≡ answer_of (ground_of s d c t p e e)
+  pub ground_missing : lookup t (part s p e) ≡ None → Refused 8 p ≡ answer_of (ground_of s d c t p e e)
   unfolding ground_of declared
   ground_missing q = rw q
 
@@ -140,11 +139,11 @@ module _ (s : List ℕ) (d : ℕ) (c : Scope) (t : Table) (p e : ℕ) where
   unfolding ground_of declared
   ground_below out g v a h = go (lookup t (part s p e)) refl h
     where
-      go : (f : Place) → lookup t (part s p e) ≡ f → and_then (on_found f (λ i. give i) (refuse 8 p) e) (λ i. ground_behind s d c t i) ≡ got v a
+      go : (f : Option ℕ) → lookup t (part s p e) ≡ f → and_then (on_found f (λ i. give i) (refuse 8 p) e) (λ i. ground_behind s d c t i) ≡ got v a
           → v < sum_of (length c.objects) t
-      go (F.At i) q k = behind_below s d c t i e out v a g (found_below t (part s p e) i q) k
-      go F.Nothing q k = absurd (let z : ◌≡◌ {A = ℕ} 0 1 = cc k in let y : ⊥ = omega arith in y)
+      go (Some i) q k = behind_below s d c t i e out v a g (found_below t (part s p e) i q) k
+      go None q k = absurd (let z : ◌≡◌ {A = ℕ} 0 1 = cc k in let y : ⊥ = omega arith in y)
 
-  pub ground_found : (i : ℕ) → lookup t (part s p e) ≡ F.At i → ground_of s d c t p e e ≡ ground_behind s d c t i e
+  pub ground_found : (i : ℕ) → lookup t (part s p e) ≡ Some i → ground_of s d c t p e e ≡ ground_behind s d c t i e
   unfolding ground_of declared
   ground_found i q = rw q

@@ -1,11 +1,10 @@
 -- Where there is no action, the arguments that are read are objects of the table, as many as are wanted. Assumes nothing.
+use Rattle.std.specs.Prelude.{None, Option, Some}
 use mathlib.Core.Path.{◌≡◌, refl, ap}
 use mathlib.Core.List.{List, [], ◌∷◌}
 use mathlib.Core.Bool.{Bool, true, false, cond}
 use Prim.Native.Nat.{ℕ, suc}
 use lib.ListN.{length}
-use Rattle.text_words.specs.declared.spelling.Place.{Place}
-use Rattle.text_words.specs.declared.spelling.Place.TheVariants as F
 use Rattle.text_tokens.specs.Runs.{part}
 use Rattle.text_tokens.specs.Tokens.{token_at}
 use Rattle.text_tokens.specs.declared.tokens.Token.{Token}
@@ -56,9 +55,9 @@ module _ (s : List ℕ) (d : ℕ) (c : Scope) (out : c.in_action ≡ false) wher
   unfolding Every declared
   word_object W.Name p e at = go (lookup c.objects (part s p e)) refl
     where
-      go : (f : Place) → lookup c.objects (part s p e) ≡ f → Every Whole (and_then (on_found f (λ i. give i) (refuse 8 p) at) (λ i. give (object_at c p i)))
-      go (F.At i) q = found_below c.objects (part s p e) i q
-      go F.Nothing q = tt
+      go : (f : Option ℕ) → lookup c.objects (part s p e) ≡ f → Every Whole (and_then (on_found f (λ i. give i) (refuse 8 p) at) (λ i. give (object_at c p i)))
+      go (Some i) q = found_below c.objects (part s p e) i q
+      go None q = tt
   word_object W.Variable p e at = rw out tt
   word_object W.Keyword p e at = tt
   word_object W.Operator p e at = tt

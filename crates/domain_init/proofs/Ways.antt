@@ -1,4 +1,5 @@
 -- The ways of reading a fact or a number of init. Assumes nothing.
+use Rattle.std.specs.Prelude.{Err}
 use mathlib.Core.Path.{◌≡◌, refl, sym, ap, ◌∙◌}
 use mathlib.Core.List.{List, [], ◌∷◌}
 use mathlib.Core.Bool.{Bool, true, false, ◌&&◌}
@@ -29,8 +30,8 @@ use Rattle.domain_meaning.specs.Terms.{Scope, reference}
 use Rattle.domain_meaning.specs.Problem.{Init, is_given, once, with_fact, with_number, fact_of, value_of, init_word, sums_fit}
 use Rattle.domain_meaning.specs.Indexes.{sum_of, index_of}
 use Rattle.domain_due.specs.Answers.{answer_of, name_of, Ahead}
-use Rattle.domain_due.specs.declared.Parsed.{Parsed}
-use Rattle.domain_due.specs.declared.Parsed.TheVariants.{Done, Refused}
+use Rattle.domain_due.specs.Answers.{Parsed}
+use Rattle.domain_due.specs.Answers.{Done, Refused}
 use Rattle.domain_due.proofs.Dues.{not_word, not_number, answer_done, answer_refused, any_named, name_refused}
 use Rattle.domain_terms.specs.Scoped.{Scoped, Signatures}
 use Rattle.domain_terms.specs.declared.scope.Counts.{Counts}
@@ -71,7 +72,7 @@ module _ (tables : List ℕ) (n : Counts) (c : Scope) (h : Scoped tables n c) wh
 pub ahead_later : (n at b : ℕ) (r : Parsed) → at ≤ b → Ahead n b r → Ahead n at r
 unfolding Ahead
 ahead_later n at b (Done a v) h w = (omega (arith, w.0), w.1)
-ahead_later n at b (Refused k p) h w = tt
+ahead_later n at b (Err why) h w = tt
 
 pub number_in_lem : (s : List ℕ) (at : ℕ) (z : ℤ) (p e : ℕ) → at ≤ length s → token_at s at ≡ T.Number z p e → (at < e) × (e ≤ length s)
 unfolding Within

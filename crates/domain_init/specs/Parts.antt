@@ -10,8 +10,8 @@ use Rattle.domain_meaning.specs.Problem.{Valued, Init, once, number_due, with_nu
 use Rattle.domain_meaning.specs.Indexes.{index_of}
 use Rattle.domain_rows.specs.Held.{Holds}
 use Rattle.domain_terms.specs.Scoped.{AllSigned}
-use Rattle.domain_due.specs.declared.Parsed.{Parsed}
-use Rattle.domain_due.specs.declared.Parsed.TheVariants.{Done, Refused}
+use Rattle.domain_due.specs.Answers.{Parsed}
+use Rattle.domain_due.specs.Answers.{Done, Refused}
 use Rattle.domain_meaning.specs.First.{undefined, first_facts, first_numbers}
 use Rattle.domain_rows.specs.Layout.{tables_length}
 

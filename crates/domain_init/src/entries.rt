@@ -9,7 +9,7 @@ ghost use Rattle.domain_meaning.specs.First.{no_facts, no_numbers};
 ghost use Rattle.domain_init.specs.Parts.{Stands, Took, target_of, value_for, entry_of};
 
 use crate::{grounds, values};
-use domain_due::Parsed;
+use domain_due::{Parsed, Refusal};
 use domain_rows::layout;
 use domain_terms::scope::Counts;
 use text_tokens::tokens;
@@ -31,7 +31,7 @@ fn fact_at(
         × Ahead (length text.now) e result }
 {
     let n = counts.predicates;
-    let a = grounds::ground_at(
+    let (after, i) = grounds::ground_at(
         text,
         p,
         e,
@@ -41,12 +41,9 @@ fn fact_at(
         layout::PREDICATES_AT,
         layout::FUNCTIONS_AT,
         n,
-    );
-    let Parsed::Done(after, i) = a else {
-        return a;
-    };
+    )?;
     domain_literals::put(facts, i, 1);
-    Parsed::Done(after, 0)
+    Ok((after, 0))
 }
 
 // After `=`: the index of the number that is given, if it is not given yet.
@@ -56,16 +53,10 @@ fn target_at(text: &[u8], from: usize, tables: &[u8], counts: Counts, numbers: &
         → Stands facts numbers.now x → result ≡ answer_of (target_of text.now c x from))
         × Ahead (length text.now) from result }
 {
-    let o = domain_due::opening(text, from, 13);
-    let Parsed::Done(inside, _) = o else {
-        return o;
-    };
-    let w = domain_due::any_name(text, inside, 12);
-    let Parsed::Done(e, p) = w else {
-        return w;
-    };
+    let (inside, _) = domain_due::opening(text, from, 13)?;
+    let (e, p) = domain_due::any_name(text, inside, 12)?;
     let n = counts.functions;
-    let a = grounds::ground_at(
+    let (after, i) = grounds::ground_at(
         text,
         p,
         e,
@@ -75,14 +66,11 @@ fn target_at(text: &[u8], from: usize, tables: &[u8], counts: Counts, numbers: &
         layout::FUNCTIONS_AT,
         layout::VARIABLES_AT,
         n,
-    );
-    let Parsed::Done(_, i) = a else {
-        return a;
-    };
+    )?;
     if values::is_defined(numbers, i) {
-        return Parsed::Refused(7, p);
+        return Err(Refusal(7, p));
     }
-    a
+    Ok((after, i))
 }
 
 // The value of number i, and the closing bracket.
@@ -94,14 +82,11 @@ fn value_at(text: &[u8], from: usize, i: usize, numbers: &mut [i64]) -> Parsed
 {
     let t = tokens::token_at(text, from);
     let Token::Number(z, _, e) = t else {
-        return domain_due::refusal(t, 13);
+        return Err(domain_due::not_due(t, 13));
     };
-    let a = domain_due::closing(text, e, 13);
-    let Parsed::Done(after, _) = a else {
-        return a;
-    };
+    let (after, _) = domain_due::closing(text, e, 13)?;
     values::put(numbers, i, z);
-    Parsed::Done(after, 0)
+    Ok((after, 0))
 }
 
 // After `=`: a number with its value, to the closing bracket.
@@ -111,10 +96,7 @@ fn number_at(text: &[u8], from: usize, tables: &[u8], counts: Counts, numbers: &
         → Stands facts numbers.old x → Took result facts numbers.new (value_of text.now c x from))
         × Ahead (length text.now) from result }
 {
-    let a = target_at(text, from, tables, counts, numbers);
-    let Parsed::Done(after, i) = a else {
-        return a;
-    };
+    let (after, i) = target_at(text, from, tables, counts, numbers)?;
     value_at(text, after, i, numbers)
 }
 
@@ -132,13 +114,10 @@ fn entry_at(
         → Stands facts.old numbers.old x → Took result facts.new numbers.new (entry_of text.now c x from))
         × Ahead (length text.now) from result }
 {
-    let o = domain_due::opening(text, from, 14);
-    let Parsed::Done(inside, _) = o else {
-        return o;
-    };
+    let (inside, _) = domain_due::opening(text, from, 14)?;
     let t = tokens::token_at(text, inside);
     let Token::Word(k, p, e) = t else {
-        return domain_due::refusal(t, 13);
+        return Err(domain_due::not_due(t, 13));
     };
     match k {
         Word::Name => fact_at(text, p, e, tables, counts, facts),
@@ -146,10 +125,10 @@ fn entry_at(
             if spelling::same_word(tokens::word_of(text, t), b"=") {
                 return number_at(text, e, tables, counts, numbers);
             }
-            Parsed::Refused(3, p)
+            Err(Refusal(3, p))
         }
-        Word::Variable => Parsed::Refused(3, p),
-        Word::Keyword => Parsed::Refused(3, p),
+        Word::Variable => Err(Refusal(3, p)),
+        Word::Keyword => Err(Refusal(3, p)),
     }
 }
 
@@ -171,12 +150,9 @@ pub fn init_to(
     loop {
         let t = tokens::token_at(text, at);
         if let Token::Close(_, next) = t {
-            return Parsed::Done(next, 0);
+            return Ok((next, 0));
         }
-        let a = entry_at(text, at, tables, counts, facts, numbers);
-        let Parsed::Done(after, _) = a else {
-            return a;
-        };
+        let (after, _) = entry_at(text, at, tables, counts, facts, numbers)?;
         at = after;
     }
 }

@@ -9,11 +9,10 @@ ghost use Rattle.domain_rows.specs.Held.{Holds};
 ghost use Rattle.domain_terms.specs.Scoped.{Scoped, Scopes, AllSigned, Signatures};
 ghost use Rattle.domain_init.specs.Parts.{ground_behind, ground_of, Listed};
 
-use domain_due::Parsed;
+use domain_due::{Parsed, Refusal};
 use domain_terms::scope::Counts;
 use domain_terms::{arguments, scope};
 use text_tokens::runs;
-use text_words::spelling::Place;
 
 // The first k cells as digits in base n, the first highest.
 fn numeral_of(cells: &[u8], k: usize, n: usize) -> usize
@@ -21,10 +20,8 @@ fn numeral_of(cells: &[u8], k: usize, n: usize) -> usize
     ensures { (result ≡ digits n 0 (take k cells.now)) × (result < 4294967296) }
 {
     let mut acc = 0;
-    let mut i = 0;
-    while i < k {
+    for i in 0..k {
         acc = acc * n + domain_rows::byte(cells, i) as usize;
-        i += 1;
     }
     acc
 }
@@ -47,15 +44,14 @@ fn index_at(
 {
     let objects = counts.objects;
     let mut cells = [0u8; 4];
-    let a = arguments::arguments_at(text, from, d, tables, counts, off, n, i, &mut cells, 0);
-    let Parsed::Done(after, k) = a else {
-        return a;
-    };
+    let (after, k) = arguments::arguments_at(
+        text, from, d, tables, counts, off, n, i, &mut cells, 0,
+    )?;
     let low = numeral_of(&cells, k, objects);
-    Parsed::Done(
+    Ok((
         after,
         domain_indexes::first_of(tables, off, n, objects, i) + low,
-    )
+    ))
 }
 
 // The index of a ground fact or number, whose name from p to e is one of the table from `off` to `to`.
@@ -76,8 +72,8 @@ pub fn ground_at(
         × Ahead (length text.now) e result }
 {
     let f = scope::find_in(tables, off, to, n, runs::part_of(text, p, e));
-    let Place::At(i) = f else {
-        return Parsed::Refused(8, p);
+    let Some(i) = f else {
+        return Err(Refusal(8, p));
     };
     index_at(text, e, d, tables, counts, off, n, i)
 }

@@ -20,11 +20,11 @@ use Rattle.domain_meaning.specs.First.{first_facts, first_numbers}
 use Rattle.domain_problem_text.specs.Grounded.{with_objects}
 use Rattle.domain_actions.specs.Acted.{declarations}
 use Rattle.domain_domain_text.specs.Knowing.{counts_in, Knows}
-use Rattle.domain_domain_text.specs.declared.Known.{Known}
-use Rattle.domain_domain_text.specs.declared.Known.TheVariants as K
-use Rattle.domain_due.specs.declared.Parsed.{Parsed}
-use Rattle.domain_due.specs.declared.Parsed.TheVariants as A
-use Rattle.domain_due.proofs.Dues.{never_done}
+use Rattle.domain_domain_text.specs.Knowing.{Known}
+use Rattle.domain_domain_text.specs.Knowing as K
+use Rattle.domain_due.specs.Answers.{Parsed}
+use Rattle.domain_due.specs.Answers as A
+use Rattle.domain_due.proofs.Dues.{done_parts, refused_parts, never_done}
 use Rattle.domain_problem_text.specs.Posed.{Poses, Posed}
 use Rattle.domain_load.specs.declared.Sizes.{Sizes}
 use Rattle.domain_load.specs.declared.Model.{Model}
@@ -57,6 +57,16 @@ domain_model tables actions c n =
       acting = n;
     }
 
+-- two equal answers have the same parts
+known_parts : (p q e f : ℕ) (c b : Counts) (n m : ℕ) → K.Done p e c n ≡ K.Done q f b m → (p ≡ q) × (e ≡ f) × (c ≡ b) × (n ≡ m)
+known_parts p q e f c b n m h =
+    let g : ◌≡◌ {A = ℕ × ℕ × Counts × ℕ} (p, e, c, n) (q, f, b, m) = cc in (
+      ap (λ (x : ℕ × ℕ × Counts × ℕ). x.0) g,
+      ap (λ (x : ℕ × ℕ × Counts × ℕ). x.1) g,
+      ap (λ (x : ℕ × ℕ × Counts × ℕ). x.2) g,
+      ap (λ (x : ℕ × ℕ × Counts × ℕ). x.3) g,
+    )
+
 module _ (s : List ℕ) (r : Known) (tables actions code starts : List ℕ) where
   abbrev Answers : Read Domain → Type 0
   Answers x = Knows s (zeros 32768) (zeros 96) r tables actions code starts x
@@ -66,10 +76,11 @@ module _ (s : List ℕ) (r : Known) (tables actions code starts : List ℕ) wher
   unfolding Knows
   knows_got (got d m) p e c n i h q =
       let g : K.Done h.from h.to (counts_in d) (length d.actions) ≡ K.Done p e c n = sym h.is ∙ q in
-      let ep : h.from ≡ p = cc in
-      let ee : h.to ≡ e = cc in
-      let ec : counts_in d ≡ c = cc in
-      let en : length d.actions ≡ n = cc in
+      let w = known_parts h.from p h.to e (counts_in d) c (length d.actions) n g in
+      let ep : h.from ≡ p = w.0 in
+      let ee : h.to ≡ e = w.1 in
+      let ec : counts_in d ≡ c = w.2 in
+      let en : length d.actions ≡ n = w.3 in
       record {
         domain = d;
         end = m;
@@ -97,10 +108,8 @@ module _ (s : List ℕ) (r : Known) (tables actions code starts : List ℕ) wher
       absurd (let g : K.Done h.from h.to (counts_in d) (length d.actions) ≡ K.Refused k p = sym h.is ∙ q in let z : ◌≡◌ {A = ℕ} 0 1 =
       cc in let y : ⊥ = omega arith in y)
   knows_not (refused j i) k p h q =
-      let g : K.Refused j i ≡ K.Refused k p = sym h ∙ q in
-      let z : j ≡ k = cc in
-      let y : i ≡ p = cc in
-      rw (z, y)
+      let z = refused_parts j k i p (sym h ∙ q) in
+      rw (z.0, z.1)
 
   module _ (h : Answers (read_domain s)) where
     pub understood : (p e : ℕ) (c : Counts) (n : ℕ) → r ≡ K.Done p e c n → (name : List ℕ) → name ≡ part s p e
@@ -119,8 +128,8 @@ posed_got : (t : List ℕ) (d : Domain) (c : Counts) (r : Parsed) (tables facts 
 unfolding Posed
 posed_got t d c r tables facts numbers was goal (got p m) a v h q =
     let g : A.Done m (length p.objects) ≡ A.Done a v = sym h.answer ∙ q in
-    let i : m ≡ a = cc in
-    let j : length p.objects ≡ v = cc in
+    let i : m ≡ a = (done_parts m a _ v g).0 in
+    let j : length p.objects ≡ v = (done_parts m a _ v g).1 in
     (p, rw i refl, rw i at h, sym j)
 posed_got t d c r tables facts numbers was goal (refused k j) a v h q = never_done k j a v (sym h ∙ q)
 
@@ -129,10 +138,8 @@ posed_not : (t : List ℕ) (d : Domain) (c : Counts) (r : Parsed) (tables facts 
 unfolding Posed
 posed_not t d c r tables facts numbers was goal (got y m) k p h q = never_done k p m (length y.objects) (sym q ∙ h.answer)
 posed_not t d c r tables facts numbers was goal (refused j i) k p h q =
-    let g : A.Refused j i ≡ A.Refused k p = sym h ∙ q in
-    let z : j ≡ k = cc in
-    let y : i ≡ p = cc in
-    rw (z, y)
+    let z = refused_parts j k i p (sym h ∙ q) in
+    rw (z.0, z.1)
 
 module _ (t : List ℕ) (d : Domain) (c : Counts) (r : Parsed) (tables facts : List ℕ) (numbers : List ℤ) (was goal : List ℕ)
     (h : Posed t d c r tables facts numbers was goal (read_problem t d)) where

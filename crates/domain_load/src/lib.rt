@@ -9,22 +9,21 @@ ghost use Rattle.domain_terms.specs.Scoped.{Scoped};
 ghost use Rattle.domain_indexes.specs.Firsts.{firsts_of};
 ghost use Rattle.domain_load.specs.Load.{sizes_of, Models, fixed_of, of_problem, load_of};
 
-use domain_domain_text::Known;
-use domain_due::Parsed;
+use domain_due::Refusal;
 use domain_indexes::bases;
 use domain_rows::layout;
 use domain_terms::scope::Counts;
 use text_tokens::runs;
 
 // How many facts and how many numbers there are.
-#[derive(Clone, Copy)]
+#[derive(Clone, Copy, PartialEq, Eq)]
 pub struct Sizes {
     pub facts: usize,
     pub numbers: usize,
 }
 
 // What domain and problem say, as numbers.
-#[derive(Clone, Copy)]
+#[derive(Clone, Copy, PartialEq, Eq)]
 pub struct Model {
     // rows of 38 bytes: 17 of types, 64 of objects, 32 of predicates, 16 of functions, 4 of zeros
     pub tables: [u8; layout::TABLES_LENGTH],
@@ -41,7 +40,7 @@ pub struct Model {
 }
 
 // What load answers.
-#[derive(Clone, Copy)]
+#[derive(Clone, Copy, PartialEq, Eq)]
 pub enum LoadAnswer {
     Loaded,
     // a refusal of one of the texts: its number and place
@@ -156,28 +155,27 @@ fn load_problem<'a>(
         &mut numbers,
         &mut cells,
     );
-    match p {
-        Parsed::Refused(k, at) => fixed(LoadAnswer::Problem(k, at)),
-        Parsed::Done(_, objects) => {
-            counts.objects = objects;
-            let firsts = firsts_of(&tables, counts);
-            let sizes = sizes_of(&tables, counts);
-            let mut rows = [0u8; 33153];
-            let mut goal = [0u8; 7233];
-            domain_preparing::prepare(code, starts, &firsts, model.acting, &mut rows);
-            domain_preparing::prepare_goal(&cells, &firsts, &mut goal);
-            model.sizes = sizes;
-            model.tables = tables;
-            model.rows = rows;
-            model.goal = goal;
-            model.counts = counts;
-            Loaded {
-                model,
-                facts,
-                numbers,
-                answer: LoadAnswer::Loaded,
-            }
-        }
+    let (_, objects) = match p {
+        Ok(read) => read,
+        Err(Refusal(k, at)) => return fixed(LoadAnswer::Problem(k, at)),
+    };
+    counts.objects = objects;
+    let firsts = firsts_of(&tables, counts);
+    let sizes = sizes_of(&tables, counts);
+    let mut rows = [0u8; 33153];
+    let mut goal = [0u8; 7233];
+    domain_preparing::prepare(code, starts, &firsts, model.acting, &mut rows);
+    domain_preparing::prepare_goal(&cells, &firsts, &mut goal);
+    model.sizes = sizes;
+    model.tables = tables;
+    model.rows = rows;
+    model.goal = goal;
+    model.counts = counts;
+    Loaded {
+        model,
+        facts,
+        numbers,
+        answer: LoadAnswer::Loaded,
     }
 }
 
@@ -196,24 +194,23 @@ pub fn load(domain: &[u8], problem: &[u8]) -> Loaded
         &mut code,
         &mut starts,
     );
-    match d {
-        Known::Refused(k, at) => fixed(LoadAnswer::Domain(k, at)),
-        Known::Done(from, to, counts, acting) => {
-            let sizes = Sizes {
-                facts: 0,
-                numbers: 0,
-            };
-            let model = Model {
-                tables,
-                actions,
-                rows: [0u8; 33153],
-                goal: [0u8; 7233],
-                sizes,
-                counts,
-                acting,
-            };
-            let name = runs::part_of(domain, from, to);
-            load_problem(model, &code, &starts, name, problem)
-        }
-    }
+    let (from, to, counts, acting) = match d {
+        Ok(known) => known,
+        Err(Refusal(k, at)) => return fixed(LoadAnswer::Domain(k, at)),
+    };
+    let sizes = Sizes {
+        facts: 0,
+        numbers: 0,
+    };
+    let model = Model {
+        tables,
+        actions,
+        rows: [0u8; 33153],
+        goal: [0u8; 7233],
+        sizes,
+        counts,
+        acting,
+    };
+    let name = runs::part_of(domain, from, to);
+    load_problem(model, &code, &starts, name, problem)
 }

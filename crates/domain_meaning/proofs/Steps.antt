@@ -1,4 +1,5 @@
 -- What is due takes a byte at least, and a name has at most 32; what is looked up takes none. Assumes nothing.
+use Rattle.std.specs.Prelude.{None, Option, Some}
 use mathlib.Core.Path.{◌≡◌, refl}
 use mathlib.Core.List.{List}
 use mathlib.Core.Bool.{Bool, true, false, cond, ◌&&◌}
@@ -10,16 +11,12 @@ use borrow.Author.Tests.{ltb-true}
 use Rattle.text_words.specs.Bytes.{bytes}
 use Rattle.text_words.specs.Spelling.{same_word}
 use Rattle.text_words.specs.Fixed.{is_reserved}
-use Rattle.text_words.specs.declared.spelling.Place.{Place}
-use Rattle.text_words.specs.declared.spelling.Place.TheVariants as F
 use Rattle.text_tokens.specs.Runs.{part}
 use Rattle.text_tokens.specs.Tokens.{token_at, spot_at}
 use Rattle.text_tokens.specs.declared.tokens.Token.{Token}
 use Rattle.text_tokens.specs.declared.tokens.Token.TheVariants as T
 use Rattle.text_tokens.specs.declared.tokens.Word.{Word}
 use Rattle.text_tokens.specs.declared.tokens.Word.TheVariants as W
-use Rattle.text_tokens.specs.declared.tokens.Spot.{Spot}
-use Rattle.text_tokens.specs.declared.tokens.Spot.TheVariants as S
 use Rattle.text_tokens.proofs.Within.{Sized, Within, token_in, part_length, spot_within}
 use Rattle.domain_meaning.specs.Read.{Reader, got, give, refuse, and_then}
 use Rattle.domain_meaning.specs.Tables.{Table, lookup, on_found, fresh}
@@ -91,9 +88,9 @@ fresh_fits max t p w at = go (lookup t w)
     room true e = fits (ltb-true (length t) max e) (omega arith) (omega arith)
     room false e = stops
 
-    go : (f : Place) → Fits (λ _. length t < max) (λ _. 0) at 0 (on_found f (λ i. refuse 7 p) (cond (ltb (length t) max) (give p) (refuse 12 p)) at)
-    go (F.At i) = stops
-    go F.Nothing = room (ltb (length t) max) refl
+    go : (f : Option ℕ) → Fits (λ _. length t < max) (λ _. 0) at 0 (on_found f (λ i. refuse 7 p) (cond (ltb (length t) max) (give p) (refuse 12 p)) at)
+    go (Some i) = stops
+    go None = room (ltb (length t) max) refl
 
 pub counted_fits : (p n at : ℕ) → Ahead 0 at (counted p n at)
 unfolding counted
@@ -123,9 +120,9 @@ module _ (s : List ℕ) where
   unfolding Within
   rule_ahead {A} {P} at f r = go (token_at s at) (token_in s at)
     where
-      spot : (i : ℕ) → at < i → i ≤ length s → (x : Spot) → spot_at s i (bytes "?duration") ≡ x → Given P Any (and_then (duration_spot s x i) f)
-      spot i h l (S.At p e) q = r p e (omega (arith, spot_within s i (bytes "?duration") p e l q))
-      spot i h l S.Other q = stops
+      spot : (i : ℕ) → at < i → i ≤ length s → (x : Option (ℕ × ℕ)) → spot_at s i (bytes "?duration") ≡ x → Given P Any (and_then (duration_spot s x i) f)
+      spot i h l (Some (p, e)) q = r p e (omega (arith, spot_within s i (bytes "?duration") p e l q))
+      spot i h l None q = stops
 
       head : (t : Bool) (p e : ℕ) → at < e → e ≤ length s → Given P Any
           (and_then (cond t (give p) (refuse 11 p) e) (λ _ i. and_then (duration_spot s (spot_at s i (bytes "?duration")) i) f))

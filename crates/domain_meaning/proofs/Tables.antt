@@ -1,4 +1,5 @@
 -- What every name more and every type that is given keep, holds of a table that is read. Assumes nothing.
+use Rattle.std.specs.Prelude.{None, Option, Some}
 use mathlib.Core.Path.{◌≡◌, refl, ap}
 use mathlib.Core.List.{List, [], ◌∷◌, ◌++◌}
 use mathlib.Core.Bool.{Bool, true, false, cond, ◌||◌}
@@ -9,14 +10,10 @@ use lib.ListN.{length, length-append, length-map}
 use Rattle.text_words.specs.Bytes.{bytes}
 use Rattle.text_words.specs.Spelling.{same_word}
 use Rattle.text_words.specs.Fixed.{is_reserved}
-use Rattle.text_words.specs.declared.spelling.Place.{Place}
-use Rattle.text_words.specs.declared.spelling.Place.TheVariants as F
 use Rattle.text_tokens.specs.Runs.{part}
 use Rattle.text_tokens.specs.Tokens.{token_at, spot_at}
 use Rattle.text_tokens.specs.declared.tokens.Word.{Word}
 use Rattle.text_tokens.specs.declared.tokens.Word.TheVariants as W
-use Rattle.text_tokens.specs.declared.tokens.Spot.{Spot}
-use Rattle.text_tokens.specs.declared.tokens.Spot.TheVariants as S
 use Rattle.text_tokens.proofs.Within.{Sized, part_length}
 use Rattle.domain_meaning.specs.Read.{Reader, and_then, give, refuse}
 use Rattle.domain_meaning.specs.Tables.{entry, Table, lookup, on_found, with_type, retype}
@@ -34,9 +31,9 @@ type_named_ahead : (ts : Table) (b p : ℕ) (w : List ℕ) (at n : ℕ) → at �
 unfolding type_named
 type_named_ahead ts b p w at n h = go (lookup ts w)
   where
-    go : (f : Place) → Ahead 0 at (on_found f (λ i. cond (ltb i b) (give i) (refuse 8 p)) (refuse 8 p) n)
-    go (F.At i) = either_gives (ltb i b) _ _ n (ahead at n h) stops
-    go F.Nothing = stops
+    go : (f : Option ℕ) → Ahead 0 at (on_found f (λ i. cond (ltb i b) (give i) (refuse 8 p)) (refuse 8 p) n)
+    go (Some i) = either_gives (ltb i b) _ _ n (ahead at n h) stops
+    go None = stops
 
 module _ (s : List ℕ) where
   type_word_ahead : (ts : Table) (b : ℕ) (k : Word) (p e at n : ℕ) → at ≤ n → Ahead 0 at (type_of_word s ts b k p e n)
@@ -48,9 +45,9 @@ module _ (s : List ℕ) where
   type_other_ahead : (p at n : ℕ) → Ahead 0 at (type_of_other s p n)
   type_other_ahead p at n = go (spot_at s (p + 1) (bytes "either"))
     where
-      go : (x : Spot) → Ahead 0 at (either_of p x n)
-      go (S.At q e) = stops
-      go S.Other = stops
+      go : (x : Option (ℕ × ℕ)) → Ahead 0 at (either_of p x n)
+      go (Some (q, e)) = stops
+      go None = stops
 
   type_ahead : (ts : Table) (b at : ℕ) → Ahead 0 at (type_due s ts b at)
   unfolding type_due

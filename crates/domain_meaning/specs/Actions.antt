@@ -1,13 +1,11 @@
 -- Actions of both kinds, and reading them: "an action parameters, duration, condition (`:precondition` if simple), effect, the last two optional". RULES 4.
-use Rattle.std.specs.Prelude.{ℕ, zero, suc, ◌+◌, ◌-◌, List, [], ◌∷◌, ◌++◌, map, Bool, true, false, cond, ◌&&◌, length, eqb}
+use Rattle.std.specs.Prelude.{ℕ, zero, suc, ◌+◌, ◌-◌, List, [], ◌∷◌, ◌++◌, map, Bool, true, false, cond, ◌&&◌, length, eqb, None, Option, Some}
 use Prim.Native.String.{String}
 use Rattle.text_words.specs.Bytes.{bytes}
 use Rattle.text_words.specs.Spelling.{same_word}
 use Rattle.text_tokens.specs.Runs.{part}
 use Rattle.text_tokens.specs.Tokens.{spot_at}
 use Rattle.text_tokens.specs.declared.tokens.Token.{Token}
-use Rattle.text_tokens.specs.declared.tokens.Spot.{Spot}
-use Rattle.text_tokens.specs.declared.tokens.Spot.TheVariants as P
 use Rattle.domain_meaning.specs.Read.{◌>>=◌, Reader, got, give, refuse}
 use Rattle.domain_meaning.specs.Tables.{Entry, Table, fresh}
 use Rattle.domain_meaning.specs.Due.{token, peek, wrong, on_refusal, opening, closing, on_close, on_word, fixed, new_name}
@@ -110,9 +108,9 @@ rule_head s t =
     (on_refusal t (λ k p. cond (eqb k 5) (refuse 11 p) (refuse k p)) (wrong 13 t))
 
 -- `?duration` may stand here and nowhere else
-abbrev pub duration_spot : List ℕ → Spot → Reader ℕ
-duration_spot s (P.At p e) = λ at. got p e
-duration_spot s P.Other = do
+abbrev pub duration_spot : List ℕ → Option (ℕ × ℕ) → Reader ℕ
+duration_spot s (Some (p, e)) = λ at. got p e
+duration_spot s None = do
   t ← token s
   wrong 13 t
 

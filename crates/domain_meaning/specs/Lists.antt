@@ -1,6 +1,6 @@
 -- Typed lists: names, each group of them before its type; and declarations with typed arguments. RULES 4.
 -- In a section's own list 14 levels of brackets are left, in a declaration or after `:parameters (` 13: a bracket is never too deep there.
-use Rattle.std.specs.Prelude.{ℕ, zero, suc, ◌+◌, List, [], ◌∷◌, ◌++◌, map, Bool, true, false, cond, ◌||◌, length, ltb}
+use Rattle.std.specs.Prelude.{ℕ, zero, suc, ◌+◌, List, [], ◌∷◌, ◌++◌, map, Bool, true, false, cond, ◌||◌, length, ltb, None, Option, Some}
 use Rattle.text_words.specs.Bytes.{bytes}
 use Rattle.text_words.specs.Spelling.{same_word}
 use Rattle.text_words.specs.Fixed.{is_reserved}
@@ -8,8 +8,6 @@ use Rattle.text_tokens.specs.Runs.{part}
 use Rattle.text_tokens.specs.Tokens.{spot_at}
 use Rattle.text_tokens.specs.declared.tokens.Word.{Word}
 use Rattle.text_tokens.specs.declared.tokens.Word.TheVariants as W
-use Rattle.text_tokens.specs.declared.tokens.Spot.{Spot}
-use Rattle.text_tokens.specs.declared.tokens.Spot.TheVariants as P
 use Rattle.domain_meaning.specs.Read.{◌>>=◌, Reader, give, refuse}
 use Rattle.domain_meaning.specs.Tables.{Entry, entry, Table, type_of, lookup, on_found, fresh, retype}
 use Rattle.domain_meaning.specs.Due.{token, peek, wrong, on_open, opening, closing, on_close, on_word, Name, new_name}
@@ -21,9 +19,9 @@ unfoldable pub type_named : Table → ℕ → ℕ → List ℕ → Reader ℕ
 type_named ts b p w = on_found (lookup ts w) (λ i. cond (ltb i b) (give i) (refuse 8 p)) (refuse 8 p)
 
 -- `- (either ..)` is not carried; any other bracket at p, where a type is due, is 3
-abbrev pub either_of : ℕ → Spot → Reader ℕ
-either_of p (P.At q e) = refuse 11 q
-either_of p P.Other = refuse 3 p
+abbrev pub either_of : ℕ → Option (ℕ × ℕ) → Reader ℕ
+either_of p (Some (q, e)) = refuse 11 q
+either_of p None = refuse 3 p
 
 abbrev pub type_of_word : List ℕ → Table → ℕ → Word → ℕ → ℕ → Reader ℕ
 type_of_word s ts b W.Name p e = type_named ts b p (part s p e)

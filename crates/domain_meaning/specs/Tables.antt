@@ -1,8 +1,6 @@
 -- Tables of declared names. RULES 6.
-use Rattle.std.specs.Prelude.{ℕ, zero, suc, List, [], ◌∷◌, map, Bool, cond, ◌||◌, length, get_or, drop, eqb, ltb}
+use Rattle.std.specs.Prelude.{ℕ, zero, suc, List, [], ◌∷◌, map, Bool, cond, ◌||◌, length, get_or, drop, eqb, ltb, None, Option, Some}
 use Rattle.text_words.specs.Spelling.{place_from}
-use Rattle.text_words.specs.declared.spelling.Place.{Place}
-use Rattle.text_words.specs.declared.spelling.Place.TheVariants.{At, Nothing}
 use Rattle.domain_meaning.specs.Read.{Reader, refuse, give}
 
 -- a declared name, and the numbers that are kept with it: of a type its parent, of an object or a variable its type,
@@ -32,12 +30,12 @@ abbrev pub wanted_of : Entry → List ℕ
 wanted_of e = drop 1 (info_of e)
 
 -- where a name first stands in a table
-unfoldable pub lookup : Table → List ℕ → Place
+unfoldable pub lookup : Table → List ℕ → Option ℕ
 lookup t w = place_from 0 (map name_of t) w
 
-abbrev pub on_found : {A : Type 0} → Place → (ℕ → A) → A → A
-on_found (At i) f n = f i
-on_found Nothing f n = n
+abbrev pub on_found : {A : Type 0} → Option ℕ → (ℕ → A) → A → A
+on_found (Some i) f n = f i
+on_found None f n = n
 
 -- a name w at p, new in a table that has room for `max`. "7 name .. given twice"; "12 another size is passed"; "7, 8 before 12"
 unfoldable pub fresh : ℕ → Table → ℕ → List ℕ → Reader ℕ

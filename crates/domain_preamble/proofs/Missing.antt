@@ -1,10 +1,12 @@
 -- A section that may be missing: what is read where it stands, and where it does not. Assumes nothing.
+use Rattle.std.specs.Prelude.{None, Option, Some, Err}
 use mathlib.Core.Path.{◌≡◌, refl, sym, ◌∙◌}
 use mathlib.Core.List.{List, []}
 use mathlib.Core.Bool.{Bool, true, false, cond}
 use Prim.Native.Nat.{ℕ, ◌+◌, ◌≤◌, ◌<◌}
 use native.Mathlib.Omega.{arith}
 use lib.ListN.{length}
+use Rattle.std.proofs.lemmas.Option.{some_pair_parts}
 use Rattle.text_words.specs.Bytes.{bytes}
 use Rattle.text_words.specs.Spelling.{same_word}
 use Rattle.text_tokens.specs.Runs.{part}
@@ -17,12 +19,8 @@ use Rattle.domain_meaning.specs.Lists.{types_to, names_to, declarations}
 use Rattle.domain_meaning.specs.Domain as G
 use Rattle.domain_meaning.specs.Domain.{opened, other, section_word, behind_open, begins_with, flags_to, only_object, flags_section, types_section, constants_section}
 use Rattle.domain_meaning.specs.Domain.{declared_section}
-use Rattle.domain_due.specs.Answers.{Ahead}
-use Rattle.domain_due.specs.declared.Parsed.{Parsed}
-use Rattle.domain_due.specs.declared.Parsed.TheVariants.{Done, Refused}
+use Rattle.domain_due.specs.Answers.{Ahead, Parsed, Done}
 use Rattle.domain_sections.specs.Openings.{opened_of, Further}
-use Rattle.domain_sections.specs.declared.Opened.{Opened}
-use Rattle.domain_sections.specs.declared.Opened.TheVariants.{At, Other}
 use Rattle.domain_preamble.specs.Onwards.{Onwards}
 
 -- ---- a section stands there, or nothing is read
@@ -57,22 +55,22 @@ begun : (s w : List ℕ) (at : ℕ) → Begun at (begins_with s w at)
 unfolding begins_with
 begun s w at = by_open s w at (token_at s at)
 
-none_by : (at : ℕ) (x : Read G.Opened) → Begun at x → Other ≡ opened_of x → x ≡ got other at
+none_by : (at : ℕ) (x : Read G.Opened) → Begun at x → None ≡ opened_of x → x ≡ got other at
 none_by at x (absent e) h = e
 none_by at x (present p e q) h = absurd (let h' = rw q at h in let z : ◌≡◌ {A = ℕ} 0 1 = cc in let y : ⊥ = omega arith in y)
 
-some_by : (at p e : ℕ) (x : Read G.Opened) → Begun at x → At p e ≡ opened_of x → x ≡ got (opened p) e
+some_by : (at p e : ℕ) (x : Read G.Opened) → Begun at x → Some (p, e) ≡ opened_of x → x ≡ got (opened p) e
 some_by at p e x (absent q) h = absurd (let h' = rw q at h in let z : ◌≡◌ {A = ℕ} 0 1 = cc in let y : ⊥ = omega arith in y)
-some_by at p e x (present p' e' q) h = let h' = rw q at h in let a : p' ≡ p = cc in let b : e' ≡ e = cc in rw (q, a, b)
+some_by at p e x (present p' e' q) h = let h' = rw q at h in let z = some_pair_parts p p' e e' h' in rw (q, z.0, z.1)
 
-module _ (s w : List ℕ) (at : ℕ) (r : Opened) (q : r ≡ opened_of (begins_with s w at)) where
-  pub is_missing : r ≡ Other → begins_with s w at ≡ got other at
+module _ (s w : List ℕ) (at : ℕ) (r : Option (ℕ × ℕ)) (q : r ≡ opened_of (begins_with s w at)) where
+  pub is_missing : r ≡ None → begins_with s w at ≡ got other at
   is_missing e = none_by at (begins_with s w at) (begun s w at) (sym e ∙ q)
 
-  pub is_there : (p e : ℕ) → r ≡ At p e → begins_with s w at ≡ got (opened p) e
+  pub is_there : (p e : ℕ) → r ≡ Some (p, e) → begins_with s w at ≡ got (opened p) e
   is_there p e h = some_by at p e (begins_with s w at) (begun s w at) (sym h ∙ q)
 
-pub further_at : (n from p e : ℕ) (r : Opened) → r ≡ At p e → Further n from r → (from < e) × (e ≤ n)
+pub further_at : (n from p e : ℕ) (r : Option (ℕ × ℕ)) → r ≡ Some (p, e) → Further n from r → (from < e) × (e ≤ n)
 unfolding Further
 further_at n from p e r q h = rw q at h
 
@@ -85,7 +83,7 @@ onwards_here n at v h = (omega arith, h)
 pub onwards_by : (r : Parsed) (n at b : ℕ) → at ≤ b → Ahead n b r → Onwards n at r
 unfolding Onwards Ahead
 onwards_by (Done a v) n at b h k = (omega arith, k.1)
-onwards_by (Refused k p) n at b h q = tt
+onwards_by (Err why) n at b h q = tt
 
 -- ---- the sections
 

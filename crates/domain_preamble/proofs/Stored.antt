@@ -16,11 +16,9 @@ use Rattle.domain_rows.proofs.Rows.{length_rows, rows_long}
 use Rattle.domain_rows.proofs.Parts.{part_before, part_behind_lem, part_stored}
 use Rattle.domain_terms.specs.Scoped.{Scoped}
 use Rattle.domain_typed_lists.proofs.Outcomes.{holds_none}
-use Rattle.domain_sections.specs.Openings.{titled_of}
-use Rattle.domain_sections.specs.declared.Titled.{Titled}
-use Rattle.domain_sections.specs.declared.Titled.TheVariants as T
-use Rattle.domain_preamble.specs.Beginning.{counts_of, Lists, Listed, Declares}
-use Rattle.domain_preamble.specs.declared.Preamble.{Preamble}
+use Rattle.domain_sections.specs.Openings.{Titled, titled_of}
+use Rattle.domain_sections.specs.Openings as T
+use Rattle.domain_preamble.specs.Beginning.{Preamble, Refused, counts_of, Lists, Listed, Declares}
 use Rattle.domain_meaning.proofs.Headings.{headed}
 use Rattle.domain_preamble.proofs.Ways.{Title, titled}
 use Rattle.domain_rows.specs.Layout.{objects_at, predicates_at, functions_at, variables_at, tables_length}
@@ -89,6 +87,21 @@ module _ (ts os ps fs l l1 l2 l3 l4 : List ℕ) (e1 : l1 ≡ sets l 0 ts) (e2 : 
   }
 
 -- ---- the heading, the flags and the tables together
+
+module _ (s : List ℕ) (a from p e v : ℕ) (r : Preamble) (ts os ps fs tables : List ℕ) (k i : ℕ) (w : r ≡ Refused k i) where
+  undeclared_by : (h : Name) (y : Read Vocabulary) → Listed (length s) h from p e r ts os ps fs y → Declares s (Refused k i) tables y
+  unfolding Listed Declares
+  undeclared_by h (refused j q) y = sym w ∙ y
+  undeclared_by h (got u n) y = absurd (let d = sym w ∙ y.is in let z : ◌≡◌ {A = ℕ} 0 1 = cc in let x : ⊥ = omega arith in x)
+
+  -- a section after the flags was refused
+  pub undeclared : (t : Titled) → t ≡ titled_of (heading_of s (bytes "domain") 0) → t ≡ T.At a p e → flags_section s a ≡ got v from
+      → ((h : Name) (b w : ℕ) → heading_of s (bytes "domain") 0 ≡ got h b → flags_section s b ≡ got w from
+      → Listed (length s) h from p e r ts os ps fs (vocabulary s 0))
+      → Declares s (Refused k i) tables (vocabulary s 0)
+  undeclared t g q c f =
+      let x = titled (heading_of s (bytes "domain") 0) a p e (sym g ∙ q) in
+      undeclared_by x.name (vocabulary s 0) (f x.name a v x.is c)
 
 module _ (s : List ℕ) (a from p e v : ℕ) (r : Preamble) (ts os ps fs l l4 : List ℕ) (z : l ≡ rows_of 133 [])
     (q : l4 ≡ sets (sets (sets (sets l 0 ts) objects_at os) predicates_at ps) functions_at fs) where

@@ -10,13 +10,12 @@ use Rattle.domain_meaning.specs.Read.{Read, got, refused}
 use Rattle.domain_meaning.specs.Tables.{Table}
 use Rattle.domain_meaning.specs.Due.{Name}
 use Rattle.domain_meaning.specs.Domain.{Vocabulary, heading_of, flags_section, types_section, constants_section, declared_section, vocabulary}
-use Rattle.domain_due.specs.Answers.{answer_of}
-use Rattle.domain_due.specs.declared.Parsed.{Parsed}
-use Rattle.domain_due.specs.declared.Parsed.TheVariants as A
-use Rattle.domain_due.proofs.Dues.{answer_refused}
-use Rattle.domain_sections.specs.Openings.{titled_of, TitledIn}
-use Rattle.domain_sections.specs.declared.Titled.{Titled}
-use Rattle.domain_sections.specs.declared.Titled.TheVariants as T
+use Rattle.domain_due.specs.Answers.{answer_of, Parsed}
+use Rattle.domain_due.specs.Answers as A
+use Rattle.domain_due.proofs.Dues.{answer_refused, refused_parts}
+use Rattle.domain_sections.specs.Openings.{Titled, titled_of, TitledIn}
+use Rattle.domain_sections.specs.Openings as T
+use Rattle.domain_sections.proofs.Frames.{heading_parts}
 use Rattle.domain_preamble.specs.Onwards.{Onwards}
 use Rattle.domain_rows.specs.Held.{Holds}
 use Rattle.domain_typed_lists.specs.Outcome.{Outcome}
@@ -24,8 +23,7 @@ use Rattle.domain_typed_lists.proofs.Outcomes.{As, outcome_refused}
 use Rattle.domain_terms.specs.Scoped.{AllSigned}
 use Rattle.domain_terms.proofs.Signing.{section_signed}
 use Rattle.domain_meaning.proofs.Given.{given_got}
-use Rattle.domain_preamble.specs.Beginning.{Listed, Declares}
-use Rattle.domain_preamble.specs.declared.Preamble.TheVariants.{Done, Refused}
+use Rattle.domain_preamble.specs.Beginning.{Done, Refused, Listed, Declares}
 
 -- ---- the heading, and the flags
 
@@ -41,8 +39,8 @@ pub record Headline (x : Read Name) (a p e : ℕ) : Type 0 where
 
 pub titled : (x : Read Name) (a p e : ℕ) → titled_of x ≡ T.At a p e → Headline x a p e
 titled (got n b) a p e h =
-    let i : b ≡ a = cc in
-    record { name = n; is = ap (λ (k : ℕ). got n k) i; title = record { starts = cc; ends = cc } }
+    let i = heading_parts b a n.place p (n.place + length n.word) e h in
+    record { name = n; is = ap (λ (k : ℕ). got n k) i.0; title = record { starts = i.1; ends = i.2 } }
 titled (refused k i) a p e h = absurd (let z : ◌≡◌ {A = ℕ} 0 1 = cc in let y : ⊥ = omega arith in y)
 
 pub titled_in : (n a p e : ℕ) (t : Titled) → t ≡ T.At a p e → TitledIn n t → a ≤ n
@@ -51,7 +49,7 @@ titled_in n a p e t q h = rw q at h
 
 untitled_by : (x : Read Name) (k i : ℕ) → titled_of x ≡ T.Refused k i → x ≡ refused k i
 untitled_by (got n b) k i h = absurd (let z : ◌≡◌ {A = ℕ} 0 1 = cc in let y : ⊥ = omega arith in y)
-untitled_by (refused j o) k i h = let z : j ≡ k = cc in let y : o ≡ i = cc in cc
+untitled_by (refused j o) k i h = let z = refused_parts j k o i h in rw (z.0, z.1)
 
 pub untitled : (s tables : List ℕ) (t : Titled) (k i : ℕ) → t ≡ titled_of (heading_of s (bytes "domain") 0) → t ≡ T.Refused k i
     → Declares s (Refused k i) tables (vocabulary s 0)

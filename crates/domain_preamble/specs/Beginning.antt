@@ -1,15 +1,27 @@
 -- What is answered of a domain's text up to its actions, and what its tables hold then, by what the definition says is read.
-use Rattle.std.specs.Prelude.{◌≡◌, ℕ, ◌≤◌, List, false, length}
+use Rattle.std.specs.Prelude.{◌≡◌, ℕ, ◌≤◌, List, false, length, Result, Ok, Err}
 use Rattle.text_tokens.specs.Runs.{part}
 use Rattle.domain_meaning.specs.Read.{Read, got, refused}
 use Rattle.domain_meaning.specs.Due.{Name}
 use Rattle.domain_meaning.specs.Domain.{Vocabulary, scope_in}
+use Rattle.domain_due.specs.declared.Refusal.{Refusal}
+use Rattle.domain_due.specs.Answers.{at}
 use Rattle.domain_rows.specs.Held.{Holds}
 use Rattle.domain_terms.specs.Scoped.{AllSigned, Scoped}
 use Rattle.domain_terms.specs.declared.scope.Counts.{Counts}
-use Rattle.domain_preamble.specs.declared.Preamble.{Preamble}
-use Rattle.domain_preamble.specs.declared.Preamble.TheVariants.{Done, Refused}
 use Rattle.domain_rows.specs.Layout.{tables_length}
+
+-- what is answered of a domain's text up to its actions
+abbrev pub Preamble : Type 0
+Preamble = Result (ℕ × ℕ × ℕ × Counts) Refusal
+
+-- the place after it, the name from, to, and how many names each table has
+pattern abbrev pub Done : ℕ → ℕ → ℕ → Counts → Preamble
+Done a p e counts = Ok (a, p, e, counts)
+
+-- the refusal's number and place
+abbrev pub Refused : ℕ → ℕ → Preamble
+Refused k p = Err (at k p)
 
 -- how many names each table has
 abbrev pub counts_of : Vocabulary → Counts

@@ -13,25 +13,13 @@ ghost use Rattle.domain_rows.specs.Held.{rows_of};
 ghost use Rattle.domain_preamble.specs.Beginning.{Listed, Declares};
 ghost use Rattle.domain_rows.specs.Layout.{objects_at, predicates_at, functions_at, tables_length};
 
-use domain_due::Parsed;
+use domain_due::Refusal;
 use domain_rows::layout;
-use domain_sections::Titled;
 use domain_terms::scope::Counts;
 use vocabulary::declared_section;
 
 // What was begun: the place after it, the name from, to, and how many names each table has.
-#[derive(Clone, Copy)]
-pub enum Preamble {
-    Done(usize, usize, usize, Counts),
-    Refused(u8, usize),
-}
-
-// A section that was read: the place after it, and how many names it declares.
-#[derive(Clone, Copy)]
-pub struct Section {
-    pub end: usize,
-    pub n: usize,
-}
+pub type Preamble = Result<(usize, usize, usize, Counts), Refusal>;
 
 // The declarations after the flags of a domain whose name is from p to e, each kind in a table of its own.
 fn tables_at(
@@ -50,34 +38,19 @@ fn tables_at(
         → Listed (length text.now) n from p e result types.new objects.new predicates.new functions.new
         (vocabulary text.now 0) }
 {
-    let ts = match vocabulary::types_section(text, from, types) {
-        Parsed::Done(end, n) => Section { end, n },
-        Parsed::Refused(k, q) => return Preamble::Refused(k, q),
+    let (at, tn) = vocabulary::types_section(text, from, types)?;
+    let (at, constants) = vocabulary::constants_section(text, at, types, tn, objects)?;
+    let (at, pn) = declared_section(text, at, b":predicates", types, tn, predicates, 32, 3)?;
+    let (end, count) = declared_section(text, at, b":functions", types, tn, functions, 16, 2)?;
+    let counts = Counts {
+        types: tn,
+        objects: constants,
+        predicates: pn,
+        functions: count,
+        variables: 0,
+        in_action: false,
     };
-    let os = match vocabulary::constants_section(text, ts.end, types, ts.n, objects) {
-        Parsed::Done(end, n) => Section { end, n },
-        Parsed::Refused(k, q) => return Preamble::Refused(k, q),
-    };
-    let more = declared_section(text, os.end, b":predicates", types, ts.n, predicates, 32, 3);
-    let ps = match more {
-        Parsed::Done(end, n) => Section { end, n },
-        Parsed::Refused(k, q) => return Preamble::Refused(k, q),
-    };
-    let last = declared_section(text, ps.end, b":functions", types, ts.n, functions, 16, 2);
-    match last {
-        Parsed::Refused(k, q) => Preamble::Refused(k, q),
-        Parsed::Done(end, count) => {
-            let counts = Counts {
-                types: ts.n,
-                objects: os.n,
-                predicates: ps.n,
-                functions: count,
-                variables: 0,
-                in_action: false,
-            };
-            Preamble::Done(end, p, e, counts)
-        }
-    }
+    Ok((end, p, e, counts))
 }
 
 // Each table in its place among the tables of a scope.
@@ -99,29 +72,22 @@ pub fn preamble_at(text: &[u8], tables: &mut [u8]) -> Preamble
     requires { tables.old ≡ rows_of 133 [] }
     ensures { Declares text.now result tables.new (vocabulary text.now 0) }
 {
-    match domain_sections::heading_at(text, 0, b"domain") {
-        Titled::Refused(k, p) => Preamble::Refused(k, p),
-        Titled::At(behind, p, e) => {
-            let from = match vocabulary::flags_section(text, behind) {
-                Parsed::Done(from, _) => from,
-                Parsed::Refused(k, q) => return Preamble::Refused(k, q),
-            };
-            let mut types = [0u8; layout::TYPES_LENGTH];
-            let mut objects = [0u8; layout::OBJECTS_LENGTH];
-            let mut predicates = [0u8; layout::PREDICATES_LENGTH];
-            let mut functions = [0u8; layout::FUNCTIONS_LENGTH];
-            let r = tables_at(
-                text,
-                from,
-                p,
-                e,
-                &mut types,
-                &mut objects,
-                &mut predicates,
-                &mut functions,
-            );
-            store(tables, &types, &objects, &predicates, &functions);
-            r
-        }
-    }
+    let (behind, p, e) = domain_sections::heading_at(text, 0, b"domain")?;
+    let (from, _) = vocabulary::flags_section(text, behind)?;
+    let mut types = [0u8; layout::TYPES_LENGTH];
+    let mut objects = [0u8; layout::OBJECTS_LENGTH];
+    let mut predicates = [0u8; layout::PREDICATES_LENGTH];
+    let mut functions = [0u8; layout::FUNCTIONS_LENGTH];
+    let preamble = tables_at(
+        text,
+        from,
+        p,
+        e,
+        &mut types,
+        &mut objects,
+        &mut predicates,
+        &mut functions,
+    )?;
+    store(tables, &types, &objects, &predicates, &functions);
+    Ok(preamble)
 }

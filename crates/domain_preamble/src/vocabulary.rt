@@ -8,7 +8,6 @@ ghost use Rattle.domain_typed_lists.specs.Outcome.{Outcome};
 ghost use Rattle.domain_preamble.specs.Onwards.{Onwards};
 
 use domain_due::Parsed;
-use domain_sections::Opened;
 use domain_typed_lists::{declarations, typed};
 
 // The requirement flags.
@@ -16,9 +15,8 @@ pub fn flags_section(text: &[u8], from: usize) -> Parsed
     requires { from ≤ length text.now }
     ensures { (result ≡ answer_of (flags_section text.now from)) × Onwards (length text.now) from result }
 {
-    let o = domain_sections::begins_at(text, from, b":requirements");
-    let Opened::At(_, inside) = o else {
-        return Parsed::Done(from, 0);
+    let Some((_, inside)) = domain_sections::begins_at(text, from, b":requirements") else {
+        return Ok((from, 0));
     };
     domain_sections::flags_to(text, inside)
 }
@@ -28,11 +26,10 @@ pub fn types_section(text: &[u8], from: usize, rows: &mut [u8]) -> Parsed
     requires { (from ≤ length text.now) × (rows.old ≡ rows_of 17 []) }
     ensures { Outcome 17 result rows.new (types_section text.now from) × Onwards (length text.now) from result }
 {
-    let o = domain_sections::begins_at(text, from, b":types");
-    let Opened::At(_, inside) = o else {
+    let Some((_, inside)) = domain_sections::begins_at(text, from, b":types") else {
         let root = [0u8; 1];
         domain_rows::enter(rows, 17, 0, b"object", &root);
-        return Parsed::Done(from, 1);
+        return Ok((from, 1));
     };
     typed::types_to(text, inside, rows)
 }
@@ -48,9 +45,8 @@ pub fn constants_section(
     ensures { ((ts : Table) → Holds 17 types.now tn ts → Outcome 64 result rows.new (constants_section text.now ts from))
         × Onwards (length text.now) from result }
 {
-    let o = domain_sections::begins_at(text, from, b":constants");
-    let Opened::At(_, inside) = o else {
-        return Parsed::Done(from, 0);
+    let Some((_, inside)) = domain_sections::begins_at(text, from, b":constants") else {
+        return Ok((from, 0));
     };
     typed::names_to(text, inside, types, tn, rows, 0)
 }
@@ -71,9 +67,8 @@ pub fn declared_section(
         → Outcome max result rows.new (declared_section text.now w.now ts max most from))
         × Onwards (length text.now) from result }
 {
-    let o = domain_sections::begins_at(text, from, w);
-    let Opened::At(_, inside) = o else {
-        return Parsed::Done(from, 0);
+    let Some((_, inside)) = domain_sections::begins_at(text, from, w) else {
+        return Ok((from, 0));
     };
     declarations::declarations_at(text, inside, types, tn, rows, max, most, 0)
 }

@@ -13,12 +13,12 @@ use Rattle.domain_meaning.specs.Terms.{Scope}
 use Rattle.domain_meaning.specs.Conditions.{Cond, condition}
 use Rattle.domain_meaning.specs.Problem.{goal_to, sums_fit, sums_at, section_due_of}
 use Rattle.domain_due.specs.Answers.{answer_of}
-use Rattle.domain_due.specs.declared.Parsed.{Parsed}
-use Rattle.domain_due.specs.declared.Parsed.TheVariants.{Done, Refused}
-use Rattle.domain_due.proofs.Dues.{answer_done, answer_refused, never_done}
+use Rattle.domain_due.specs.Answers.{Parsed}
+use Rattle.domain_due.specs.Answers.{Done, Refused}
+use Rattle.domain_due.proofs.Dues.{done_parts, refused_parts, answer_done, answer_refused, never_done}
 use Rattle.domain_expressions.specs.Codes.{Written, Spent}
-use Rattle.domain_expressions.specs.declared.leaves.Progress.{Progress}
-use Rattle.domain_expressions.specs.declared.leaves.Progress.TheVariants as P
+use Rattle.domain_expressions.specs.Codes.{Progress}
+use Rattle.domain_expressions.specs.Codes as P
 use Rattle.domain_expressions.proofs.Operands.{written_got, written_not}
 use Rattle.domain_stored_meaning.specs.Cells.{cond_cells}
 use Rattle.domain_problem_text.specs.Parts.{goal_from, Reached, Aimed}
@@ -90,11 +90,11 @@ module _ (n : ℕ) (c : Scope) (judged : Bool) (r : Parsed) (was goal' : List �
   unfolding Aimed
   aimed_got (got g i) a v h e =
       let q : Done i 0 ≡ Done a v = sym h.0 ∙ e in
-      let z : i ≡ a = cc in
+      let z : i ≡ a = (done_parts i a 0 v q).0 in
       record { tree = g; is = rw z; stored = h.1; few = h.2; fits = h.3 }
   aimed_got (refused k p) a v h e = never_done k p a v (sym h ∙ e)
 
   pub aimed_not : (x : Read Cond) (k p : ℕ) → Aimed n c judged r was goal' x → r ≡ Refused k p → x ≡ refused k p
   unfolding Aimed
   aimed_not (got g i) k p h e = never_done k p i 0 (sym e ∙ h.0)
-  aimed_not (refused j q) k p h e = let o : Refused j q ≡ Refused k p = sym h ∙ e in let i : j ≡ k = cc in let z : q ≡ p = cc in rw (i, z)
+  aimed_not (refused j q) k p h e = let i = refused_parts j k q p (sym h ∙ e) in rw (i.0, i.1)

@@ -12,8 +12,8 @@ use Rattle.domain_meaning.specs.Tables.{Table}
 use Rattle.domain_meaning.specs.Lists.{names_to}
 use Rattle.domain_meaning.specs.Domain.{Domain, opened, other, begins_with, section}
 use Rattle.domain_meaning.specs.Problem.{scope_of}
-use Rattle.domain_due.specs.declared.Parsed.{Parsed}
-use Rattle.domain_due.specs.declared.Parsed.TheVariants.{Done, Refused}
+use Rattle.domain_due.specs.Answers.{Parsed}
+use Rattle.domain_due.specs.Answers.{Done, Refused}
 use Rattle.domain_rows.specs.Held.{Holds}
 use Rattle.domain_rows.proofs.Parts.{part_before, part_behind_lem, part_stored}
 use Rattle.domain_rows.proofs.Rows.{rows_long}

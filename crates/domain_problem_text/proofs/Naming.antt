@@ -1,4 +1,5 @@
 -- The ways through the domain's name, and through what stands before init. Assumes nothing.
+use Rattle.std.specs.Prelude.{Err}
 use mathlib.Core.Path.{◌≡◌, sym, ap, ◌∙◌}
 use mathlib.Core.List.{List}
 use mathlib.Core.Bool.{Bool, true, false}
@@ -13,13 +14,14 @@ use Rattle.domain_meaning.specs.Lists.{names_to}
 use Rattle.domain_meaning.specs.Domain.{Domain, section, heading_of}
 use Rattle.domain_meaning.specs.Problem.{section_due_of, of_domain, premises}
 use Rattle.domain_due.specs.Answers.{answer_of, Ahead}
-use Rattle.domain_due.specs.declared.Parsed.{Parsed}
-use Rattle.domain_due.specs.declared.Parsed.TheVariants.{Done, Refused}
-use Rattle.domain_due.proofs.Dues.{answer_done}
+use Rattle.domain_due.specs.Answers.{Parsed}
+use Rattle.domain_due.specs.Answers.{Done, Refused}
+use Rattle.domain_due.proofs.Dues.{answer_done, refused_parts}
 use Rattle.domain_preamble.specs.Onwards.{Onwards}
 use Rattle.domain_sections.specs.Openings.{titled_of, TitledIn}
-use Rattle.domain_sections.specs.declared.Titled.{Titled}
-use Rattle.domain_sections.specs.declared.Titled.TheVariants as H
+use Rattle.domain_sections.specs.Openings.{Titled}
+use Rattle.domain_sections.specs.Openings as H
+use Rattle.domain_sections.proofs.Frames.{heading_parts}
 
 -- what was read, by what was answered of it
 pub read_by : (x : Read ℕ) (r : Parsed) (a v : ℕ) → r ≡ answer_of x → r ≡ Done a v → x ≡ got v a
@@ -34,12 +36,12 @@ same_as r t v w x y q e f h = rw (← e, ← f) (sym q ∙ h)
 pub ahead_further : (r : Parsed) (n at b : ℕ) → at ≤ b → Ahead n b r → Ahead n at r
 unfolding Ahead
 ahead_further (Done a v) n at b h k = (omega (arith, k.0), k.1)
-ahead_further (Refused k p) n at b h q = tt
+ahead_further (Err why) n at b h q = tt
 
 pub onwards_further : (r : Parsed) (n at b : ℕ) → at ≤ b → Onwards n b r → Onwards n at r
 unfolding Onwards
 onwards_further (Done a v) n at b h k = (omega (arith, k.0), k.1)
-onwards_further (Refused k p) n at b h q = tt
+onwards_further (Err why) n at b h q = tt
 
 pub onwards_refused : (n at k p : ℕ) (r : Parsed) → r ≡ Refused k p → Onwards n at r
 unfolding Onwards
@@ -73,12 +75,12 @@ pub record Headed (a : ℕ) (x : Read Name) : Type 0 where
   pub is : x ≡ got name a
 
 pub headed : (x : Read Name) (a p e : ℕ) → titled_of x ≡ H.At a p e → Headed a x
-headed (got n b) a p e h = let q : b ≡ a = cc in record { name = n; is = ap (λ (j : ℕ). got n j) q }
+headed (got n b) a p e h = let q : b ≡ a = (heading_parts b a _ p _ e h).0 in record { name = n; is = ap (λ (j : ℕ). got n j) q }
 headed (refused k q) a p e h = absurd (let z : ◌≡◌ {A = ℕ} 0 1 = cc in let y : ⊥ = omega arith in y)
 
 pub unheaded : (x : Read Name) (k p : ℕ) → titled_of x ≡ H.Refused k p → x ≡ refused k p
 unheaded (got n b) k p h = absurd (let z : ◌≡◌ {A = ℕ} 0 1 = cc in let y : ⊥ = omega arith in y)
-unheaded (refused j q) k p h = let z : j ≡ k = cc in let y : q ≡ p = cc in cc
+unheaded (refused j q) k p h = let z = refused_parts j k q p h in rw (z.0, z.1)
 
 -- ---- what stands before init
 

@@ -11,9 +11,9 @@ use Rattle.domain_meaning.specs.Tables.{Table}
 use Rattle.domain_meaning.specs.Terms.{Scope}
 use Rattle.domain_meaning.specs.Domain.{Domain}
 use Rattle.domain_meaning.specs.Problem.{Problem, scope_of, premises, problem_text, read_problem}
-use Rattle.domain_due.specs.declared.Parsed.{Parsed}
-use Rattle.domain_due.specs.declared.Parsed.TheVariants.{Done, Refused}
-use Rattle.domain_due.proofs.Dues.{never_done}
+use Rattle.domain_due.specs.Answers.{Parsed}
+use Rattle.domain_due.specs.Answers.{Done, Refused}
+use Rattle.domain_due.proofs.Dues.{done_parts, refused_parts, never_done}
 use Rattle.domain_terms.specs.Scoped.{Scoped, Scopes}
 use Rattle.domain_terms.specs.declared.scope.Counts.{Counts}
 use Rattle.domain_problem_text.specs.Grounded.{Grounded, with_objects}
@@ -57,15 +57,15 @@ module _ (counts : Counts) (r : Parsed) (tables : List ℕ) (d : Domain) where
   unfolding Grounded
   grounded_got (got os n) a v h e =
       let q : Done n (length os) ≡ Done a v = sym h.0 ∙ e in
-      let z : n ≡ a = cc in
-      let l : length os ≡ v = cc in
+      let z : n ≡ a = (done_parts n a _ v q).0 in
+      let l : length os ≡ v = (done_parts n a _ v q).1 in
       record { objects = os; is = rw z; count = sym l; scope = rw l at h.1; long = h.2 }
   grounded_got (refused k p) a v h e = never_done k p a v (sym h ∙ e)
 
   pub grounded_not : (x : Read Table) (k p : ℕ) → Grounded counts r tables d x → r ≡ Refused k p → x ≡ refused k p
   unfolding Grounded
   grounded_not (got os n) k p h e = never_done k p n _ (sym e ∙ h.0)
-  grounded_not (refused j q) k p h e = let o : Refused j q ≡ Refused k p = sym h ∙ e in let i : j ≡ k = cc in let z : q ≡ p = cc in rw (i, z)
+  grounded_not (refused j q) k p h e = let i = refused_parts j k q p (sym h ∙ e) in rw (i.0, i.1)
 
 -- what a call may ask of the tables then
 pub premises_scope : (counts : Counts) (tables : List ℕ) (d : Domain) (a v : ℕ) (x : Read Table) → Premises counts tables d a v x

@@ -13,8 +13,8 @@ use Rattle.domain_meaning.specs.Conditions.{Cond}
 use Rattle.domain_meaning.specs.Domain.{Opened, opened, other, on_opened, begins_with, ending}
 use Rattle.domain_meaning.specs.Problem.{Init, Problem, nothing, init_at, sums_fit, sums_at, section_due_of, goal_to, init_and_goal}
 use Rattle.domain_due.specs.Answers.{answer_of}
-use Rattle.domain_due.specs.declared.Parsed.{Parsed}
-use Rattle.domain_due.specs.declared.Parsed.TheVariants.{Done, Refused}
+use Rattle.domain_due.specs.Answers.{Parsed}
+use Rattle.domain_due.specs.Answers.{Done, Refused}
 use Rattle.domain_due.proofs.Dues.{answer_done, answer_refused}
 use Rattle.domain_preamble.specs.Onwards.{Onwards}
 use Rattle.domain_sections.proofs.Short.{ending_short}

@@ -12,9 +12,9 @@ use Rattle.domain_meaning.specs.Terms.{Scope}
 use Rattle.domain_meaning.specs.Domain.{opened, other, begins_with}
 use Rattle.domain_meaning.specs.Problem.{Init, nothing, init_to, sums_fit, sums_at}
 use Rattle.domain_due.specs.Answers.{answer_of}
-use Rattle.domain_due.specs.declared.Parsed.{Parsed}
-use Rattle.domain_due.specs.declared.Parsed.TheVariants.{Done, Refused}
-use Rattle.domain_due.proofs.Dues.{answer_refused, never_done}
+use Rattle.domain_due.specs.Answers.{Parsed}
+use Rattle.domain_due.specs.Answers.{Done, Refused}
+use Rattle.domain_due.proofs.Dues.{done_parts, refused_parts, answer_refused, never_done}
 use Rattle.domain_init.specs.State.{Begins}
 use Rattle.domain_meaning.specs.First.{no_facts, no_numbers, facts_from, numbers_from, first_facts, first_numbers}
 use Rattle.domain_problem_text.specs.Parts.{Start, starting, start_at, Started}
@@ -31,7 +31,7 @@ start_begins : (c : Scope) (r : Parsed) (facts : List ℕ) (numbers : List ℤ) 
     → sums_fit c ≡ true
     → Started c (Done a 1) facts numbers (and_then x (λ i. give (starting true i)))
 unfolding Begins Started
-start_begins c r facts numbers (got i n) a v h e f = let q : Done n 0 ≡ Done a v = sym h.0 ∙ e in let z : n ≡ a = cc in (rw z, h.1, h.2, λ _. f)
+start_begins c r facts numbers (got i n) a v h e f = let q : Done n 0 ≡ Done a v = sym h.0 ∙ e in let z : n ≡ a = (done_parts n a 0 v q).0 in (rw z, h.1, h.2, λ _. f)
 start_begins c r facts numbers (refused k p) a v h e f = never_done k p a v (sym h ∙ e)
 
 start_ends : (c : Scope) (r : Parsed) (facts : List ℕ) (numbers : List ℤ) (x : Read Init) (k p : ℕ) → Begins r facts numbers x → r ≡ Refused k p
@@ -79,12 +79,12 @@ module _ (c : Scope) (r : Parsed) (facts : List ℕ) (numbers : List ℤ) where
   unfolding Started
   started_got (got i n) a v h e =
       let q : Done n (cond i.judged 1 0) ≡ Done a v = sym h.0 ∙ e in
-      let z : n ≡ a = cc in
-      let w : cond i.judged 1 0 ≡ v = cc in
+      let z : n ≡ a = (done_parts n a _ v q).0 in
+      let w : cond i.judged 1 0 ≡ v = (done_parts n a _ v q).1 in
       record { start = i; is = rw z; flag = flag_is i.judged v w; facts_are = h.1; numbers_are = h.2; fits = h.3 }
   started_got (refused k p) a v h e = never_done k p a v (sym h ∙ e)
 
   pub started_not : (x : Read Start) (k p : ℕ) → Started c r facts numbers x → r ≡ Refused k p → x ≡ refused k p
   unfolding Started
   started_not (got i n) k p h e = never_done k p n _ (sym e ∙ h.0)
-  started_not (refused j q) k p h e = let o : Refused j q ≡ Refused k p = sym h ∙ e in let i : j ≡ k = cc in let n : q ≡ p = cc in rw (i, n)
+  started_not (refused j q) k p h e = let i = refused_parts j k q p (sym h ∙ e) in rw (i.0, i.1)

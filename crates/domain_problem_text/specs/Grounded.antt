@@ -4,8 +4,8 @@ use Rattle.domain_meaning.specs.Read.{Read, got, refused}
 use Rattle.domain_meaning.specs.Tables.{Table}
 use Rattle.domain_meaning.specs.Domain.{Domain}
 use Rattle.domain_meaning.specs.Problem.{scope_of}
-use Rattle.domain_due.specs.declared.Parsed.{Parsed}
-use Rattle.domain_due.specs.declared.Parsed.TheVariants.{Done, Refused}
+use Rattle.domain_due.specs.Answers.{Parsed}
+use Rattle.domain_due.specs.Answers.{Done, Refused}
 use Rattle.domain_terms.specs.Scoped.{Scoped}
 use Rattle.domain_terms.specs.declared.scope.Counts.{Counts}
 use Rattle.domain_rows.specs.Layout.{tables_length}

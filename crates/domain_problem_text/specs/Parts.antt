@@ -6,8 +6,8 @@ use Rattle.domain_meaning.specs.Terms.{Scope}
 use Rattle.domain_meaning.specs.Conditions.{Cond}
 use Rattle.domain_meaning.specs.Domain.{on_opened, begins, ending}
 use Rattle.domain_meaning.specs.Problem.{Init, nothing, init_at, sums_fit, sums_at, section_due, goal_to, Problem, init_and_goal}
-use Rattle.domain_due.specs.declared.Parsed.{Parsed}
-use Rattle.domain_due.specs.declared.Parsed.TheVariants.{Done, Refused}
+use Rattle.domain_due.specs.Answers.{Parsed}
+use Rattle.domain_due.specs.Answers.{Done, Refused}
 use Rattle.domain_stored_meaning.specs.Cells.{cond_cells}
 use Rattle.domain_meaning.specs.First.{first_facts, first_numbers}
 

@@ -15,10 +15,9 @@ ghost use Rattle.domain_problem_text.specs.Posed.{Posed};
 ghost use Rattle.domain_rows.specs.Layout.{tables_length};
 
 use domain_conditions::trees;
-use domain_due::Parsed;
+use domain_due::{Parsed, Refusal};
 use domain_expressions::leaves::Progress;
 use domain_init::entries;
-use domain_sections::Opened;
 use domain_terms::scope::Counts;
 
 // Init, if there is one: the place after it, and 1; else 0. The sums are judged at its word.
@@ -36,18 +35,12 @@ fn init_at(
         × Onwards (length text.now) from result }
 {
     let o = domain_sections::begins_at(text, from, b":init");
-    let Opened::At(p, inside) = o else {
-        return Parsed::Done(from, 0);
+    let Some((p, inside)) = o else {
+        return Ok((from, 0));
     };
-    let a = premises::sums_at(tables, counts, inside, p);
-    let Parsed::Done(_, _) = a else {
-        return a;
-    };
-    let b = entries::init_to(text, inside, tables, counts, facts, numbers);
-    let Parsed::Done(after, _) = b else {
-        return b;
-    };
-    Parsed::Done(after, 1)
+    premises::sums_at(tables, counts, inside, p)?;
+    let (after, _) = entries::init_to(text, inside, tables, counts, facts, numbers)?;
+    Ok((after, 1))
 }
 
 // The goal's condition, to the section's closing bracket: at most 64 single ones.
@@ -56,17 +49,9 @@ fn goal_to(text: &[u8], from: usize, tables: &[u8], counts: Counts, goal: &mut [
     ensures { (c : Scope) → Scoped tables.now counts c
         → Reached (length text.now) result goal.old goal.new (goal_to text.now c from) }
 {
-    let g = trees::condition_at(text, from, 14, tables, counts, goal, 0, 64);
-    match g {
-        Progress::Refused(k, p) => Parsed::Refused(k, p),
-        Progress::Done(after, _, _) => {
-            let z = domain_due::closing(text, after, 14);
-            let Parsed::Done(behind, _) = z else {
-                return z;
-            };
-            Parsed::Done(behind, 0)
-        }
-    }
+    let (after, _, _) = trees::condition_at(text, from, 14, tables, counts, goal, 0, 64)?;
+    let (behind, _) = domain_due::closing(text, after, 14)?;
+    Ok((behind, 0))
 }
 
 // The goal. Where the sums were not judged, they are at its word.
@@ -82,17 +67,11 @@ fn goal_at(
     ensures { (c : Scope) → Scoped tables.now counts c
         → Aimed (length text.now) c judged result goal.old goal.new (goal_from text.now c judged from) }
 {
-    let s = premises::section_due(text, from, b":goal");
-    let Parsed::Done(inside, p) = s else {
-        return s;
-    };
+    let (inside, p) = premises::section_due(text, from, b":goal")?;
     if judged {
         return goal_to(text, inside, tables, counts, goal);
     }
-    let a = premises::sums_at(tables, counts, inside, p);
-    let Parsed::Done(_, _) = a else {
-        return a;
-    };
+    premises::sums_at(tables, counts, inside, p)?;
     goal_to(text, inside, tables, counts, goal)
 }
 
@@ -111,19 +90,10 @@ fn rest_at(
         → Settled text.now c result facts.new numbers.new goal.old goal.new
         (rest_of text.now c from) }
 {
-    let i = init_at(text, from, tables, counts, facts, numbers);
-    let Parsed::Done(a, given) = i else {
-        return i;
-    };
-    let g = goal_at(text, a, tables, counts, given == 1, goal);
-    let Parsed::Done(b, _) = g else {
-        return g;
-    };
-    let z = domain_sections::ending_at(text, b);
-    let Parsed::Done(end, _) = z else {
-        return z;
-    };
-    Parsed::Done(end, counts.objects)
+    let (a, given) = init_at(text, from, tables, counts, facts, numbers)?;
+    let (b, _) = goal_at(text, a, tables, counts, given == 1, goal)?;
+    let (end, _) = domain_sections::ending_at(text, b)?;
+    Ok((end, counts.objects))
 }
 
 // The text of a problem, NAME being its domain's: where it ends, and how many objects there are. They replace the objects' rows of `tables`.
@@ -142,10 +112,7 @@ pub fn problem_at(
         → Posed text.now d counts result tables.new facts.new numbers.new goal.old goal.new
         (read_problem text.now d) }
 {
-    let p = premises::premises_at(text, tables, counts, name);
-    let Parsed::Done(from, objects) = p else {
-        return p;
-    };
+    let (from, objects) = premises::premises_at(text, tables, counts, name)?;
     let all = Counts {
         types: counts.types,
         objects,

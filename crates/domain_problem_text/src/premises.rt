@@ -10,11 +10,10 @@ ghost use Rattle.domain_terms.specs.Scoped.{Scoped, Scopes};
 ghost use Rattle.domain_problem_text.specs.Grounded.{Grounded};
 ghost use Rattle.domain_rows.specs.Layout.{tables_length};
 
-use domain_due::Parsed;
+use domain_due::{Parsed, Refusal};
 use domain_indexes::sum_of;
 use domain_rows::layout;
 use domain_rows::layout::{FUNCTIONS_AT, PREDICATES_AT};
-use domain_sections::{Opened, Titled};
 use domain_terms::scope::Counts;
 use domain_typed_lists::typed;
 use text_tokens::runs;
@@ -43,9 +42,9 @@ pub fn sums_at(tables: &[u8], counts: Counts, from: usize, p: usize) -> Parsed
     ensures { (c : Scope) → Scoped tables.now counts c → result ≡ answer_of (sums_at c p from) }
 {
     if sums_fit(tables, counts) {
-        return Parsed::Done(from, p);
+        return Ok((from, p));
     }
-    Parsed::Refused(12, p)
+    Err(Refusal(12, p))
 }
 
 // The section w is due: its bracket, then its word.
@@ -53,10 +52,7 @@ pub fn section_due(text: &[u8], from: usize, w: &[u8]) -> Parsed
     requires { from ≤ length text.now }
     ensures { (result ≡ answer_of (section_due_of text.now w.now from)) × Ahead (length text.now) from result }
 {
-    let a = domain_due::opening(text, from, 15);
-    let Parsed::Done(inside, _) = a else {
-        return a;
-    };
+    let (inside, _) = domain_due::opening(text, from, 15)?;
     domain_due::word_due(text, inside, 14, w)
 }
 
@@ -66,18 +62,12 @@ pub fn of_domain(text: &[u8], from: usize, name: &[u8]) -> Parsed
     ensures { ((d : Domain) → name.now ≡ d.name → result ≡ answer_of (of_domain text.now d from))
         × Ahead (length text.now) from result }
 {
-    let s = section_due(text, from, b":domain");
-    let Parsed::Done(inside, _) = s else {
-        return s;
-    };
-    let n = domain_due::any_name(text, inside, 14);
-    let Parsed::Done(e, p) = n else {
-        return n;
-    };
+    let (inside, _) = section_due(text, from, b":domain")?;
+    let (e, p) = domain_due::any_name(text, inside, 14)?;
     if spelling::same_word(runs::part_of(text, p, e), name) {
         return domain_due::closing(text, e, 14);
     }
-    Parsed::Refused(13, p)
+    Err(Refusal(13, p))
 }
 
 // The objects, after the domain's constants in the rows of `tables`: the place after them, and how many there are.
@@ -89,8 +79,8 @@ fn objects_section(text: &[u8], from: usize, tables: &mut [u8], counts: Counts) 
         × Onwards (length text.now) from result }
 {
     let o = domain_sections::begins_at(text, from, b":objects");
-    let Opened::At(_, inside) = o else {
-        return Parsed::Done(from, counts.objects);
+    let Some((_, inside)) = o else {
+        return Ok((from, counts.objects));
     };
     let mut types = [0u8; layout::TYPES_LENGTH];
     domain_rows::copy(
@@ -117,15 +107,7 @@ pub fn premises_at(text: &[u8], tables: &mut [u8], counts: Counts, name: &[u8]) 
         → Grounded counts result tables.new d (premises text.now d 0))
         × Onwards (length text.now) 6 result }
 {
-    let h = domain_sections::heading_at(text, 0, b"problem");
-    match h {
-        Titled::At(a, _, _) => {
-            let n = of_domain(text, a, name);
-            let Parsed::Done(b, _) = n else {
-                return n;
-            };
-            objects_section(text, b, tables, counts)
-        }
-        Titled::Refused(k, p) => Parsed::Refused(k, p),
-    }
+    let (a, _, _) = domain_sections::heading_at(text, 0, b"problem")?;
+    let (b, _) = of_domain(text, a, name)?;
+    objects_section(text, b, tables, counts)
 }

@@ -1,5 +1,6 @@
 -- Arguments, references and expressions that are read: their names are declared, a reference has a byte for each argument and a bracket after them, the size
 -- of an expression is at most one more than bytes were read, and its operators and operands are counted. Assumes nothing.
+use Rattle.std.specs.Prelude.{None, Option, Some}
 use mathlib.Core.Path.{◌≡◌, refl}
 use mathlib.Core.List.{List, [], ◌∷◌}
 use Prim.Native.Nat.{ℕ, zero, suc, ◌+◌, ◌≤◌, ◌<◌}
@@ -9,8 +10,6 @@ use lib.ListN.{length}
 use Rattle.text_words.specs.Fixed.{head_of}
 use Rattle.text_words.specs.declared.fixed.HeadWord.{HeadWord}
 use Rattle.text_words.specs.declared.fixed.HeadWord.TheVariants as H
-use Rattle.text_words.specs.declared.spelling.Place.{Place}
-use Rattle.text_words.specs.declared.spelling.Place.TheVariants as F
 use Rattle.text_tokens.specs.Runs.{part}
 use Rattle.text_tokens.specs.Tokens.{token_at}
 use Rattle.text_tokens.specs.declared.tokens.Word.{Word}
@@ -37,9 +36,9 @@ pub declared_fits : (t : Table) (p : ℕ) (w : List ℕ) (at : ℕ) → Fits (λ
 unfolding declared
 declared_fits t p w at = go (lookup t w) refl
   where
-    go : (f : Place) → lookup t w ≡ f → Fits (λ i. i < length t) (λ _. 0) at 0 (on_found f (λ i. give i) (refuse 8 p) at)
-    go (F.At i) e = fits {n = at} (found_below t w i e) (omega arith) (omega arith)
-    go F.Nothing e = stops
+    go : (f : Option ℕ) → lookup t w ≡ f → Fits (λ i. i < length t) (λ _. 0) at 0 (on_found f (λ i. give i) (refuse 8 p) at)
+    go (Some i) e = fits {n = at} (found_below t w i e) (omega arith) (omega arith)
+    go None e = stops
 
 -- ---- arguments
 

@@ -1,4 +1,5 @@
 -- Brackets, fixed words and names, and what is asked of a name without reading on: they depend on nothing after what they reach. Assumes nothing.
+use Rattle.std.specs.Prelude.{None, Option, Some}
 use mathlib.Core.Path.{refl}
 use mathlib.Core.List.{List}
 use mathlib.Core.Bool.{Bool, true, false, cond}
@@ -7,8 +8,6 @@ use lib.ListN.{length}
 use lib.Dec.{eqb, ltb}
 use Rattle.text_words.specs.Spelling.{same_word}
 use Rattle.text_words.specs.Fixed.{is_reserved}
-use Rattle.text_words.specs.declared.spelling.Place.{Place}
-use Rattle.text_words.specs.declared.spelling.Place.TheVariants as F
 use Rattle.text_tokens.specs.Runs.{part}
 use Rattle.text_tokens.specs.declared.tokens.Word.{Word}
 use Rattle.text_tokens.specs.declared.tokens.Word.TheVariants as W
@@ -26,18 +25,18 @@ pub fresh_held : (max : ℕ) (t : Table) (p : ℕ) (w : List ℕ) (n : ℕ) → 
 unfolding fresh
 fresh_held max t p w n = go (lookup t w) (ltb (length t) max)
   where
-    go : (f : Place) (b : Bool) → Held p n (on_found f (λ i. refuse 7 p) (cond b (give p) (refuse 12 p)) n)
-    go (F.At i) b = stops 7 refl
-    go F.Nothing true = stays p refl
-    go F.Nothing false = stops 12 refl
+    go : (f : Option ℕ) (b : Bool) → Held p n (on_found f (λ i. refuse 7 p) (cond b (give p) (refuse 12 p)) n)
+    go (Some i) b = stops 7 refl
+    go None true = stays p refl
+    go None false = stops 12 refl
 
 pub declared_held : (t : Table) (p : ℕ) (w : List ℕ) (n : ℕ) → Held p n (declared t p w n)
 unfolding declared
 declared_held t p w n = go (lookup t w)
   where
-    go : (f : Place) → Held p n (on_found f (λ i. give i) (refuse 8 p) n)
-    go (F.At i) = stays i refl
-    go F.Nothing = stops 8 refl
+    go : (f : Option ℕ) → Held p n (on_found f (λ i. give i) (refuse 8 p) n)
+    go (Some i) = stays i refl
+    go None = stops 8 refl
 
 -- ---- brackets and words
 

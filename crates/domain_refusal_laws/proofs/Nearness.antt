@@ -1,4 +1,5 @@
 -- Where a token stands and ends, and that a token which is wholly seen is the same in every text that is the same so far. Assumes nothing.
+use Rattle.std.specs.Prelude.{ℤ, None, Option, Some}
 use mathlib.Core.Path.{◌≡◌, refl, sym, ◌∙◌}
 use mathlib.Core.List.{List, ◌∷◌}
 use mathlib.Core.Bool.{Bool, true, false, cond, ◌&&◌, ◌||◌, or-true}
@@ -21,19 +22,18 @@ use Rattle.text_tokens.specs.Numbers.{number_of}
 use Rattle.text_tokens.specs.Classes.{class_of}
 use Rattle.text_tokens.specs.Tokens.{sized_of, as_token, number_token, by_class, domain_word, is_past, bracket_of, domain_run, end_of, token_from, token_at, spot_behind}
 use Rattle.text_tokens.specs.Tokens.{spot_at}
-use Rattle.text_tokens.specs.declared.numbers.Number.{Number}
-use Rattle.text_tokens.specs.declared.numbers.Number.TheVariants.{Thousandths, Malformed}
 use Rattle.text_tokens.specs.declared.classes.Class.{Class}
 use Rattle.text_tokens.specs.declared.classes.Class.TheVariants as C
 use Rattle.text_tokens.specs.declared.tokens.Word.{Word}
 use Rattle.text_tokens.specs.declared.tokens.Word.TheVariants as W
 use Rattle.text_tokens.specs.declared.tokens.Token.{Token}
 use Rattle.text_tokens.specs.declared.tokens.Token.TheVariants as T
-use Rattle.text_tokens.specs.declared.tokens.Spot.{Spot}
-use Rattle.text_tokens.specs.declared.tokens.Spot.TheVariants as P
 use Rattle.domain_meaning.specs.Due.{after_of, place_of}
 use Rattle.domain_refusal_laws.specs.Lowest.{seen, next_of}
 use Rattle.domain_refusal_laws.proofs.Sight.{gap_near, run_near, part_near, byte_near, run_behind, seen_low}
+
+abbrev spot : ℕ → ℕ → Option (ℕ × ℕ)
+spot p e = Some (p, e)
 
 -- a token's own refusal: 1 is for what begins past the most bytes of a text too long
 pub record Own (size k p : ℕ) : Type 0 where
@@ -67,10 +67,10 @@ module _ (s : List ℕ) (p e : ℕ) (h : seen s p ≡ e + 1) (l : e ≤ length s
       go true = record { place = refl; fits = own (omega arith) (omega arith) }
       go false = record { place = refl; fits = (h, l, b) }
 
-  number_shape : (n : Number) → Shape s p (as_token n p e)
+  number_shape : (n : Option ℤ) → Shape s p (as_token n p e)
   unfolding Fits
-  number_shape (Thousandths z) = record { place = refl; fits = h }
-  number_shape Malformed = record { place = refl; fits = own (omega arith) (omega arith) }
+  number_shape (Some z) = record { place = refl; fits = h }
+  number_shape None = record { place = refl; fits = own (omega arith) (omega arith) }
 
   class_shape : (k : Class) (w : List ℕ) → Shape s p (by_class k w p e)
   unfolding Fits number_token
@@ -338,14 +338,14 @@ module _ (s u : List ℕ) (q : ℕ) (a : take q s ≡ take q u) where
           rw (← gap_same at (omega (arith, seen_low s (gap_end s at)))) (from_same (gap_end s at) k)
 
   spot_start : (w : List ℕ) → Wordly w → (g : ℕ) → g < length s → (k : Kind) → kind_of (get_or s g 0) ≡ k → seen s g ≤ q
-      → cond (same_word (part s g (end_of s 59 g)) w) (P.At g (end_of s 59 g)) P.Other ≡ cond (same_word (part u g (end_of u 59 g)) w)
-      (P.At g (end_of u 59 g)) P.Other
+      → cond (same_word (part s g (end_of s 59 g)) w) (spot g (end_of s 59 g)) None ≡ cond (same_word (part u g (end_of u 59 g)) w)
+      (spot g (end_of u 59 g)) None
   unfolding seen
   spot_start w f g i k e h = go k e (rw (e, seen) at h)
     where
       goal : Type 0
-      goal = cond (same_word (part s g (end_of s 59 g)) w) (P.At g (end_of s 59 g)) P.Other ≡ cond (same_word (part u g (end_of u 59 g)) w)
-          (P.At g (end_of u 59 g)) P.Other
+      goal = cond (same_word (part s g (end_of s 59 g)) w) (spot g (end_of s 59 g)) None ≡ cond (same_word (part u g (end_of u 59 g)) w)
+          (spot g (end_of u 59 g)) None
 
       run : end_of s 59 g + 1 ≤ q → goal
       run r = rw (word_same g r, end_same g r)
@@ -370,8 +370,8 @@ module _ (s u : List ℕ) (q : ℕ) (a : take q s ≡ take q u) where
   spot_same w f at h = go (is_past (length s) (gap_end s at)) refl
     where
       here : (g : ℕ) → seen s g ≤ q → (t : Bool) → leb (length s) g ≡ t
-          → cond (is_past (length u) g || t) P.Other (cond (same_word (part s g (end_of s 59 g)) w) (P.At g (end_of s 59 g)) P.Other)
-          ≡ cond (is_past (length u) g || t) P.Other (cond (same_word (part u g (end_of u 59 g)) w) (P.At g (end_of u 59 g)) P.Other)
+          → cond (is_past (length u) g || t) None (cond (same_word (part s g (end_of s 59 g)) w) (spot g (end_of s 59 g)) None)
+          ≡ cond (is_past (length u) g || t) None (cond (same_word (part u g (end_of u 59 g)) w) (spot g (end_of u 59 g)) None)
       here g k true e = rw or-true
       here g k false e = rw (spot_start w f g (leb-false (length s) g e) (kind_of (get_or s g 0)) refl k)
 
@@ -382,16 +382,16 @@ module _ (s u : List ℕ) (q : ℕ) (a : take q s ≡ take q u) where
           rw (← gap_same at i, past_near (gap_end s at) i, ← end_near (gap_end s at) i) (here (gap_end s at) k (leb (length s) (gap_end s at)) refl)
 
 -- a spot that is found stands where the next token stands
-abbrev pub Spotted : ℕ → Spot → Type 0
-Spotted p (P.At g e) = (g ≡ p) × (p ≤ e)
-Spotted p P.Other = Unit {0}
+abbrev pub Spotted : ℕ → Option (ℕ × ℕ) → Type 0
+Spotted p (Some (g, e)) = (g ≡ p) × (p ≤ e)
+Spotted p None = Unit {0}
 
 pub spot_place : (s : List ℕ) (at : ℕ) (w : List ℕ) → Spotted (next_of s at) (spot_at s at w)
 unfolding spot_at
 spot_place s at w = rw (token_shape s at).place (go (is_past (length s) (gap_end s at)) (leb (length s) (gap_end s at))
     (same_word (part s (gap_end s at) (end_of s 59 (gap_end s at))) w))
   where
-    go : (t u v : Bool) → Spotted (cond t 32768 (gap_end s at)) (cond (t || u) P.Other (cond v (P.At (gap_end s at) (end_of s 59 (gap_end s at))) P.Other))
+    go : (t u v : Bool) → Spotted (cond t 32768 (gap_end s at)) (cond (t || u) None (cond v (spot (gap_end s at) (end_of s 59 (gap_end s at))) None))
     go true u v = tt
     go false true v = tt
     go false false true = (refl, omega (arith, run_behind s (gap_end s at + 1)))

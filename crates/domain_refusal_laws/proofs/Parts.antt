@@ -1,4 +1,5 @@
 -- Actions of both kinds depend on nothing after what they reach. Assumes nothing.
+use Rattle.std.specs.Prelude.{None, Option, Some}
 use mathlib.Core.Path.{◌≡◌, refl}
 use mathlib.Core.List.{List, [], ◌++◌, map}
 use mathlib.Core.Bool.{Bool, true, false, cond, ◌&&◌}
@@ -12,8 +13,6 @@ use Rattle.text_words.specs.Bytes.{bytes}
 use Rattle.text_words.specs.Spelling.{same_word}
 use Rattle.text_tokens.specs.Tokens.{token_at, spot_at}
 use Rattle.text_tokens.specs.declared.tokens.Word.{Word}
-use Rattle.text_tokens.specs.declared.tokens.Spot.{Spot}
-use Rattle.text_tokens.specs.declared.tokens.Spot.TheVariants as P
 use Rattle.text_tokens.specs.declared.tokens.Token.{Token}
 use Rattle.text_tokens.specs.declared.tokens.Token.TheVariants as T
 use Rattle.domain_meaning.specs.Read.{◌>>=◌, Reader, give, refuse}
@@ -117,15 +116,15 @@ spot_local {E} = record { good = λ u a at. go u a at (dec_le (seen E.text (next
     other : Plain {A = ℕ} E (λ v. ◌>>=◌ (token v) (wrong 13))
     other = token_then (λ t. wrongs 13)
 
-    one : (u : List ℕ) → Agrees E u → (at : ℕ) → seen E.text (next E at) ≤ E.edge → (x : Spot)
+    one : (u : List ℕ) → Agrees E u → (at : ℕ) → seen E.text (next E at) ≤ E.edge → (x : Option (ℕ × ℕ))
         → Good E (next E at) (Over E (next E)) (duration_spot E.text x at) (duration_spot u x at)
-    one u a at i (P.At p e) = near i refl
-    one u a at i P.Other = other.good u a at
+    one u a at i (Some (p, e)) = near i refl
+    one u a at i None = other.good u a at
 
-    two : (at : ℕ) → E.edge < seen E.text (next E at) → (x : Spot) → Spotted (next E at) x → Far E (Over E (next E)) (duration_spot E.text x at)
-    two at i (P.At p e) k =
+    two : (at : ℕ) → E.edge < seen E.text (next E at) → (x : Option (ℕ × ℕ)) → Spotted (next E at) x → Far E (Over E (next E)) (duration_spot E.text x at)
+    two at i (Some (p, e)) k =
         record { past = omega (arith, seen_later E.text (next E at) (next E e) (next_on E.text at e k.1)) }
-    two at i P.Other k = beyond {f = next E at} _ _ i (other.good E.text (agrees_self E) at)
+    two at i None k = beyond {f = next E at} _ _ i (other.good E.text (agrees_self E) at)
 
     go : (u : List ℕ) → Agrees E u → (at : ℕ) → Dec (seen E.text (next E at) ≤ E.edge)
         → Good E (next E at) (Over E (next E)) (duration_spot E.text (spot_at E.text at w) at) (duration_spot u (spot_at u at w) at)

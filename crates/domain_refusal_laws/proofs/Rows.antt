@@ -1,4 +1,5 @@
 -- Typed lists and declarations depend on nothing after what they reach. Assumes nothing.
+use Rattle.std.specs.Prelude.{None, Option, Some}
 use mathlib.Core.Path.{◌≡◌, refl}
 use mathlib.Core.List.{List, [], ◌∷◌, ◌++◌}
 use mathlib.Core.Bool.{Bool, true, false, cond, ◌||◌}
@@ -10,14 +11,10 @@ use lib.Dec.{ltb}
 use Rattle.text_words.specs.Bytes.{bytes}
 use Rattle.text_words.specs.Spelling.{same_word}
 use Rattle.text_words.specs.Fixed.{is_reserved}
-use Rattle.text_words.specs.declared.spelling.Place.{Place}
-use Rattle.text_words.specs.declared.spelling.Place.TheVariants as F
 use Rattle.text_tokens.specs.Runs.{part}
 use Rattle.text_tokens.specs.Tokens.{token_at, spot_at}
 use Rattle.text_tokens.specs.declared.tokens.Word.{Word}
 use Rattle.text_tokens.specs.declared.tokens.Word.TheVariants as W
-use Rattle.text_tokens.specs.declared.tokens.Spot.{Spot}
-use Rattle.text_tokens.specs.declared.tokens.Spot.TheVariants as P
 use Rattle.text_tokens.specs.declared.tokens.Token.{Token}
 use Rattle.text_tokens.specs.declared.tokens.Token.TheVariants as T
 use Rattle.domain_meaning.specs.Read.{◌>>=◌, and_then, Read, Reader, got, refused, give, refuse}
@@ -44,9 +41,9 @@ type_held ts b p w n = go (lookup ts w)
     below i true = stays i refl
     below i false = stops 8 refl
 
-    go : (f : Place) → Held p n (on_found f (λ i. cond (ltb i b) (give i) (refuse 8 p)) (refuse 8 p) n)
-    go (F.At i) = below i (ltb i b)
-    go F.Nothing = stops 8 refl
+    go : (f : Option ℕ) → Held p n (on_found f (λ i. cond (ltb i b) (give i) (refuse 8 p)) (refuse 8 p) n)
+    go (Some i) = below i (ltb i b)
+    go None = stops 8 refl
 
 declare_held : (max : ℕ) (t : Table) (p : ℕ) (w : List ℕ) (n : ℕ) → Held p n (declare max t p w n)
 unfolding declare
@@ -83,14 +80,14 @@ bracket_behind {E} {F} p n = record { good = λ u r. go u r (dec_le (seen E.text
     front : (u : List ℕ) → Told E u (T.Open p n) n → p ≤ next E (p + 1)
     front u r = rw r.fits.0 at r.on
 
-    one : p ≤ next E (p + 1) → (x : Spot) → Spotted (next E (p + 1)) x → Good E p F (either_of p x n) (either_of p x n)
-    one h (P.At g e) k = refusal p 11 g (omega arith)
-    one h P.Other k = refusal p 3 p (omega arith)
+    one : p ≤ next E (p + 1) → (x : Option (ℕ × ℕ)) → Spotted (next E (p + 1)) x → Good E p F (either_of p x n) (either_of p x n)
+    one h (Some (g, e)) k = refusal p 11 g (omega arith)
+    one h None k = refusal p 3 p (omega arith)
 
-    two : {u : List ℕ} → Told E u (T.Open p n) n → E.edge < seen E.text (next E (p + 1)) → (x : Spot) → Spotted (next E (p + 1)) x
+    two : {u : List ℕ} → Told E u (T.Open p n) n → E.edge < seen E.text (next E (p + 1)) → (x : Option (ℕ × ℕ)) → Spotted (next E (p + 1)) x
         → Far E F (either_of p x n)
-    two r h (P.At g e) k = λ _. omega (arith, E.above 11 g, seen_later E.text (next E (p + 1)) g (omega arith))
-    two r h P.Other k = λ _. omega (arith, E.bracket p r.fits.1)
+    two r h (Some (g, e)) k = λ _. omega (arith, E.above 11 g, seen_later E.text (next E (p + 1)) g (omega arith))
+    two r h None k = λ _. omega (arith, E.bracket p r.fits.1)
 
     go : (u : List ℕ) → Told E u (T.Open p n) n → Dec (seen E.text (next E (p + 1)) ≤ E.edge)
         → Good E p F (either_of p (spot_at E.text (p + 1) w) n) (either_of p (spot_at u (p + 1) w) n)
@@ -201,9 +198,9 @@ type_strict : (ts : Table) (b : ℕ) → Strict (λ v. type_due v ts b)
 unfolding type_due
 type_strict ts b = record { strict = λ s at n a h. go s at n a h (token_at s at) refl }
   where
-    none : {P : Type 0} (p n m a : ℕ) (x : Spot) → either_of p x m ≡ got a n → P
-    none p n m a (P.At q e) h = off h
-    none p n m a P.Other h = off h
+    none : {P : Type 0} (p n m a : ℕ) (x : Option (ℕ × ℕ)) → either_of p x m ≡ got a n → P
+    none p n m a (Some (q, e)) h = off h
+    none p n m a None h = off h
 
     go : (s : List ℕ) (at n a : ℕ) → ◌>>=◌ (token s) (λ t. on_word t (type_of_word s ts b) (on_open t (type_of_other s) (wrong 13 t))) at ≡ got a n
         → (t : Token) → token_at s at ≡ t → (next_of s at < length s) × (next_of s at < next_of s n)

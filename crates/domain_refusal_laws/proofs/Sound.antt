@@ -1,4 +1,5 @@
 -- Sound readers: what is read goes on within the text, and what is refused is listed. How such readers are put together. Assumes nothing.
+use Rattle.std.specs.Prelude.{None, Option, Some}
 use mathlib.Core.Path.{◌≡◌, refl}
 use mathlib.Core.List.{List}
 use mathlib.Core.Bool.{Bool, true, false, cond, ◌&&◌}
@@ -8,8 +9,6 @@ use lib.IntN.{ℤ}
 use lib.Dec.{eqb, leb}
 use lib.ListN.{length}
 use borrow.Author.Tests.{leb-true}
-use Rattle.text_words.specs.declared.spelling.Place.{Place}
-use Rattle.text_words.specs.declared.spelling.Place.TheVariants as F
 use Rattle.text_tokens.specs.Tokens.{token_at}
 use Rattle.text_tokens.specs.declared.tokens.Word.{Word}
 use Rattle.text_tokens.specs.declared.tokens.Token.{Token}
@@ -84,10 +83,10 @@ module _ {A : Type 0} {s : List ℕ} {x from : ℕ} {Q : A → Type 0} where
   choose true h k = h
   choose false h k = k
 
-  pub found : {b : ℕ} {f : ℕ → Reader A} {o : Reader A} (t : Place) → ((i : ℕ) → Sound s x from b Q (f i)) → Sound s x from b Q o
+  pub found : {b : ℕ} {f : ℕ → Reader A} {o : Reader A} (t : Option ℕ) → ((i : ℕ) → Sound s x from b Q (f i)) → Sound s x from b Q o
       → Sound s x from b Q (on_found t f o)
-  found (F.At i) h k = h i
-  found F.Nothing h k = k
+  found (Some i) h k = h i
+  found None h k = k
 
 -- ---- tokens
 

@@ -1,4 +1,5 @@
 -- Actions of both kinds are read soundly. Assumes nothing.
+use Rattle.std.specs.Prelude.{None, Option, Some}
 use mathlib.Core.Path.{◌≡◌, refl}
 use mathlib.Core.List.{List, map}
 use mathlib.Core.Bool.{Bool, true, false, cond, ◌&&◌}
@@ -11,8 +12,6 @@ use Rattle.text_words.specs.Bytes.{bytes}
 use Rattle.text_words.specs.Spelling.{same_word}
 use Rattle.text_tokens.specs.Runs.{part}
 use Rattle.text_tokens.specs.Tokens.{token_at, spot_at}
-use Rattle.text_tokens.specs.declared.tokens.Spot.{Spot}
-use Rattle.text_tokens.specs.declared.tokens.Spot.TheVariants as P
 use Rattle.text_tokens.specs.declared.tokens.Token.{Token}
 use Rattle.text_tokens.specs.declared.tokens.Token.TheVariants as T
 use Rattle.text_tokens.proofs.Within.{Within, spot_within}
@@ -78,9 +77,9 @@ module _ {s : List ℕ} {x : ℕ} where
       other : Sound {A = ℕ} s x from 0 Any (◌>>=◌ (token s) (λ t. wrong 13 t))
       other = fewer (token_then (wrongs 13))
 
-      go : (at : ℕ) → from ≤ at → at ≤ length s → (t : Spot) → spot_at s at (bytes "?duration") ≡ t → Ends s x (at + 0) Any (duration_spot s t at)
-      go at i j (P.At p e) q = let w = spot_within s at (bytes "?duration") p e j q in reads {n = e} (omega arith) w.1 tt
-      go at i j P.Other q = other.ends at i j
+      go : (at : ℕ) → from ≤ at → at ≤ length s → (t : Option (ℕ × ℕ)) → spot_at s at (bytes "?duration") ≡ t → Ends s x (at + 0) Any (duration_spot s t at)
+      go at i j (Some (p, e)) q = let w = spot_within s at (bytes "?duration") p e j q in reads {n = e} (omega arith) w.1 tt
+      go at i j None q = other.ends at i j
 
   rule_sound : {from : ℕ} (c : Scope) → Sound s x from 1 Any (duration_rule s c)
   unfolding duration_rule

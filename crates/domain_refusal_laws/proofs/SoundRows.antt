@@ -1,4 +1,5 @@
 -- Brackets, names, tables and lists are read soundly. Assumes nothing.
+use Rattle.std.specs.Prelude.{None, Option, Some}
 use mathlib.Core.Path.{refl}
 use mathlib.Core.List.{List, [], ◌∷◌}
 use mathlib.Core.Bool.{Bool, true, false, cond, ◌||◌}
@@ -13,8 +14,6 @@ use Rattle.text_tokens.specs.Runs.{part}
 use Rattle.text_tokens.specs.Tokens.{spot_at}
 use Rattle.text_tokens.specs.declared.tokens.Word.{Word}
 use Rattle.text_tokens.specs.declared.tokens.Word.TheVariants as W
-use Rattle.text_tokens.specs.declared.tokens.Spot.{Spot}
-use Rattle.text_tokens.specs.declared.tokens.Spot.TheVariants as P
 use Rattle.domain_meaning.specs.Read.{Reader}
 use Rattle.domain_meaning.specs.Tables.{Table, entry, lookup, fresh, declared}
 use Rattle.domain_meaning.specs.Due.{opening, closing, is_name_word, word_due, Name, any_name, new_name}
@@ -88,11 +87,11 @@ module _ {s : List ℕ} {x : ℕ} where
   either_sound : {from : ℕ} (p : ℕ) → Stands s p → p < length s → Sound s x from 0 Any (type_of_other s p)
   either_sound {from} p h i = go (spot_at s (p + 1) (bytes "either")) (spot_place s (p + 1) (bytes "either"))
     where
-      go : (t : Spot) → Spotted (next_of s (p + 1)) t → Sound s x from 0 Any (either_of p t)
-      go (P.At q e) j =
+      go : (t : Option (ℕ × ℕ)) → Spotted (next_of s (p + 1)) t → Sound s x from 0 Any (either_of p t)
+      go (Some (q, e)) j =
           let k = token_stands s (p + 1) (omega arith) in
           refuses refl (record { inside = omega arith; low = omega arith })
-      go P.Other j = refuses refl h
+      go None j = refuses refl h
 
   type_sound : {from : ℕ} (ts : Table) (b : ℕ) → Sound s x from 1 Any (type_due s ts b)
   unfolding type_due

@@ -17,6 +17,13 @@ pub fn byte(rows: &[u8], at: usize) -> u8
     if at < rows.len() { rows[at] } else { 0 }
 }
 
+// The same as a number to count with.
+pub fn cell(rows: &[u8], at: usize) -> usize
+    ensures { (result ≡ byte_at rows.now at) × (result < 256) }
+{
+    byte(rows, at) as usize
+}
+
 // The bytes of w, stored from `at` on.
 pub fn copy(rows: &mut [u8], at: usize, w: &[u8])
     requires { at + length w.now ≤ length rows.old }

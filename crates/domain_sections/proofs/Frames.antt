@@ -1,14 +1,14 @@
 -- The ways through what frames the sections. Assumes nothing.
-use mathlib.Core.Path.{◌≡◌, refl, sym, ap, ◌∙◌}
+use Rattle.std.specs.Prelude.{None, Some}
+use mathlib.Core.Path.{◌≡◌, sym, ap, ◌∙◌}
 use mathlib.Core.List.{List, [], ◌∷◌}
 use mathlib.Core.Bool.{Bool, true, false, cond, ◌&&◌}
 use Prim.Native.Nat.{ℕ, zero, suc, ◌+◌, ◌-◌, ◌≤◌, ◌<◌}
 use native.Mathlib.Omega.{arith}
 use lib.Dec.{eqb}
 use lib.ListN.{length, get_or}
-use types.Run.{OneOf, miss}
+use types.Run.{OneOf}
 use denote.Enum.Declared.{tag_of}
-use borrow.Author.Tests.{eq-eqb, ne_eqb}
 use Rattle.text_words.specs.Fixed.{is_flag}
 use Rattle.text_words.specs.Spelling.{same_word}
 use Rattle.text_tokens.specs.Runs.{part}
@@ -18,46 +18,42 @@ use Rattle.text_tokens.specs.declared.tokens.Token.TheVariants as T
 use Rattle.text_tokens.specs.declared.tokens.Word.{Word}
 use Rattle.text_tokens.specs.declared.tokens.Word.TheVariants as W
 use Rattle.text_tokens.specs.contracts.tokens.Token as token-type
-use Rattle.text_tokens.specs.contracts.tokens.Word as word-type
 use Rattle.text_tokens.proofs.Within.{Within, token_within, part_length}
 use Rattle.domain_meaning.specs.Read.{Read, got, refused, give, refuse}
 use Rattle.domain_meaning.specs.Due.{after_of, number_of, place_of, Name, opening, closing, word_due, fixed, any_name}
-use Rattle.domain_meaning.specs.Domain.{begins_with, ending, heading_of, flag_word, flag_of, flags_to}
-use Rattle.domain_due.specs.Answers.{answer_of}
-use Rattle.domain_due.specs.declared.Parsed.{Parsed}
-use Rattle.domain_due.specs.declared.Parsed.TheVariants.{Done, Refused}
-use Rattle.domain_due.proofs.Dues.{not_refusal, not_word, not_open, not_close, not_end, open_in, word_in, answer_done, answer_refused, never_done}
+use Rattle.domain_meaning.specs.Domain.{begins_with, ending, heading_of, flag_of, flags_to}
+use Rattle.domain_due.specs.Answers.{answer_of, Parsed, Done, Refused}
+use Rattle.domain_due.proofs.Dues.{not_word, not_open, not_close, not_end, open_in, word_in, done_parts, answer_done, answer_refused, never_done}
 use Rattle.domain_sections.specs.Openings.{opened_of, Further, titled_of, TitledIn}
-use Rattle.domain_sections.specs.declared.Opened.TheVariants.{At, Other}
-use Rattle.domain_sections.specs.declared.Titled.TheVariants as H
+use Rattle.domain_sections.specs.Openings as H
 
 -- the place after a bracket
 open_next : (s : List ℕ) (at p n : ℕ) → at ≤ length s → token_at s at ≡ T.Open p n → n ≡ p + 1
 unfolding Within
 open_next s at p n h e = let w = rw e at (token_within s at h) in w.1
 
-nothing_further : (n from : ℕ) → Further n from Other
+nothing_further : (n from : ℕ) → Further n from None
 unfolding Further
 nothing_further n from = tt
 
 module _ (s w : List ℕ) (at : ℕ) where
   pub begins_else : (t : Token) → t ≡ token_at s at → OneOf (0 ∷ 1 ∷ 3 ∷ 4 ∷ 5 ∷ 6 ∷ []) (tag_of token-type.the_type t)
-      → (Other ≡ opened_of (begins_with s w at)) × Further (length s) at Other
+      → (None ≡ opened_of (begins_with s w at)) × Further (length s) at None
   unfolding begins_with
   begins_else t e o = (rw (← e, not_open t _ _ o), nothing_further (length s) at)
 
   module _ (h : at ≤ length s) (p n : ℕ) (q : token_at s at ≡ T.Open p n) where
     pub begins_none : (u : Token) → u ≡ token_at s n → OneOf (1 ∷ 2 ∷ 3 ∷ 4 ∷ 5 ∷ 6 ∷ []) (tag_of token-type.the_type u)
-        → (Other ≡ opened_of (begins_with s w at)) × Further (length s) at Other
+        → (None ≡ opened_of (begins_with s w at)) × Further (length s) at None
     unfolding begins_with
     begins_none u e o = (rw (q, ← open_next s at p n h q, ← e, not_word u _ _ o), nothing_further (length s) at)
 
     module _ (k : Word) (v e : ℕ) (r : token_at s n ≡ T.Word k v e) where
-      pub begins_other : same_word (part s v e) w ≡ false → (Other ≡ opened_of (begins_with s w at)) × Further (length s) at Other
+      pub begins_other : same_word (part s v e) w ≡ false → (None ≡ opened_of (begins_with s w at)) × Further (length s) at None
       unfolding begins_with
       begins_other m = (rw (q, ← open_next s at p n h q, r, m), nothing_further (length s) at)
 
-      pub begins_here : same_word (part s v e) w ≡ true → (At v e ≡ opened_of (begins_with s w at)) × Further (length s) at (At v e)
+      pub begins_here : same_word (part s v e) w ≡ true → (Some (v, e) ≡ opened_of (begins_with s w at)) × Further (length s) at (Some (v, e))
       unfolding begins_with Further
       begins_here m =
           let a = open_in s at h p n q in
@@ -120,6 +116,12 @@ module _ (s w : List ℕ) (at : ℕ) where
             unfolding heading_of
             heading_7 v6 a6 f = rw (q, q2, q3, q4, q5, f)
 
+-- two equal answers to a heading have the same parts
+pub heading_parts : (a b p q e f : ℕ) → H.At a p e ≡ H.At b q f → (a ≡ b) × (p ≡ q) × (e ≡ f)
+heading_parts a b p q e f h =
+    let g : ◌≡◌ {A = ℕ × ℕ × ℕ} (a, p, e) (b, q, f) = cc in
+    (ap (λ (x : ℕ × ℕ × ℕ). x.0) g, ap (λ (x : ℕ × ℕ × ℕ). x.1) g, ap (λ (x : ℕ × ℕ × ℕ). x.2) g)
+
 -- a refusal on the way
 pub heading_stops : (s : List ℕ) (x : Read Name) (k p : ℕ) → x ≡ refused k p → (H.Refused k p ≡ titled_of x) × TitledIn (length s) (H.Refused k p)
 unfolding TitledIn
@@ -136,30 +138,6 @@ heading_read s x p e a q lo hi in' =
 -- ---- flags
 
 module _ (s : List ℕ) (t : Token) where
-  pub flag_long : (k p : ℕ) → t ≡ T.Refusal k p → k ≡ 5 → eqb (get_or s p 0) 58 ≡ true → Refused 11 p ≡ answer_of (flag_of s t (after_of t))
-  flag_long k p e h c = rw (e, eq-eqb k 5 h, c)
-
-  pub flag_name : (k p : ℕ) → t ≡ T.Refusal k p → k ≡ 5 → eqb (get_or s p 0) 58 ≡ false → Refused k p ≡ answer_of (flag_of s t (after_of t))
-  flag_name k p e h c = rw (e, eq-eqb k 5 h, c)
-
-  pub flag_refused : (k p : ℕ) → t ≡ T.Refusal k p → (k ≡ 5 → ⊥) → Refused k p ≡ answer_of (flag_of s t (after_of t))
-  flag_refused k p e h = rw (e, ne_eqb k 5 h)
-
-  pub flag_else : (r : Parsed) → OneOf (0 ∷ 1 ∷ 2 ∷ 3 ∷ 4 ∷ 6 ∷ []) (tag_of token-type.the_type t)
-      → OneOf (1 ∷ 2 ∷ 3 ∷ 4 ∷ 5 ∷ 6 ∷ []) (tag_of token-type.the_type t)
-      → r ≡ Refused (number_of 14 t) (place_of t) → r ≡ answer_of (flag_of s t (after_of t))
-  flag_else r o n q = rw (not_word t _ _ n, not_refusal t _ _ o) q
-
-  pub flag_other : (k : Word) (p e : ℕ) → t ≡ T.Word k p e → OneOf (0 ∷ 1 ∷ 3 ∷ []) (tag_of word-type.the_type k)
-      → Refused 3 p ≡ answer_of (flag_of s t (after_of t))
-  flag_other k p e q o = rw q (go k o)
-    where
-      go : (k : Word) → OneOf (0 ∷ 1 ∷ 3 ∷ []) (tag_of word-type.the_type k) → Refused 3 p ≡ answer_of (flag_word s k p e e)
-      go W.Name o = refl
-      go W.Variable o = refl
-      go W.Keyword o = absurd (miss (0 ∷ 1 ∷ 3 ∷ []) 2 tt o)
-      go W.Operator o = refl
-
   pub flag_carried : (k : Word) (p e : ℕ) → t ≡ T.Word k p e → k ≡ W.Keyword → is_flag (part s p e) ≡ true → Done e p ≡ answer_of (flag_of s t (after_of t))
   flag_carried k p e q h f = rw (q, h, f)
 
@@ -172,7 +150,7 @@ unfolding Within
 flag_end s at (T.Word W.Keyword p e) a v w h = go (is_flag (part s p e)) h
   where
     go : (t : Bool) → answer_of (cond t (give p) (refuse 11 p) e) ≡ Done a v → (at < a) × (a ≤ length s)
-    go true q = let n : e ≡ a = cc in (omega (arith, w.0, w.1), omega (arith, w.2))
+    go true q = let n = done_parts e a p v q in (omega (arith, w.0, w.1, n.0), omega (arith, w.2, n.0))
     go false q = never_done 11 p a v q
 flag_end s at (T.Word W.Name p e) a v w h = never_done 3 p a v h
 flag_end s at (T.Word W.Variable p e) a v w h = never_done 3 p a v h
@@ -196,9 +174,6 @@ flag_ahead s at a v h q = flag_end s at (token_at s at) a v (token_within s at h
 pub record Going (s : List ℕ) (from at : ℕ) : Type 0 where
   pub on : (k : ℕ) → length s - from < k → (j : ℕ) × (length s - at < j) × (flags_to k s from ≡ flags_to j s at)
 
-pub going_start : (s : List ℕ) (from : ℕ) → Going s from from
-going_start s from = record { on = λ k q. (k, q, refl) }
-
 module _ (s : List ℕ) (from at : ℕ) (o : Going s from at) where
   whole : (x : Read ℕ) → ((j : ℕ) → flags_to (suc j) s at ≡ x) → (k : ℕ) → length s - from < k → flags_to k s from ≡ x
   whole x f k h = go (o.on k h).0 (o.on k h).1 (o.on k h).2
@@ -213,10 +188,10 @@ module _ (s : List ℕ) (from at : ℕ) (o : Going s from at) where
 
   module _ (no : OneOf (0 ∷ 1 ∷ 2 ∷ 4 ∷ 5 ∷ 6 ∷ []) (tag_of token-type.the_type (token_at s at))) (r : Parsed)
       (q : r ≡ answer_of (flag_of s (token_at s at) (after_of (token_at s at)))) where
-    pub going_refused : (i p : ℕ) → r ≡ Refused i p → (k : ℕ) → length s - from < k → r ≡ answer_of (flags_to k s from)
+    pub going_refused : (i p : ℕ) → r ≡ Refused i p → (k : ℕ) → length s - from < k → Refused i p ≡ answer_of (flags_to k s from)
     unfolding flags_to
     going_refused i p e k h =
-        e ∙ sym (ap answer_of (whole (refused i p) (λ j. rw (
+        sym (ap answer_of (whole (refused i p) (λ j. rw (
           not_close (token_at s at) _ _ no,
           answer_refused (flag_of s (token_at s at) (after_of (token_at s at))) i p (sym q ∙ e),
         )) k h))

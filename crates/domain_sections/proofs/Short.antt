@@ -1,4 +1,5 @@
 -- A text that was read to its end is not too long: past the most bytes the end is never given. Assumes nothing.
+use Rattle.std.specs.Prelude.{None, Option, Some, ℤ}
 use mathlib.Core.Path.{◌≡◌, refl}
 use mathlib.Core.List.{List}
 use mathlib.Core.Bool.{Bool, true, false, cond}
@@ -16,8 +17,6 @@ use Rattle.text_tokens.specs.Runs.{gap_end}
 use Rattle.text_tokens.specs.Numbers.{number_of}
 use Rattle.text_tokens.specs.Classes.{class_of}
 use Rattle.text_tokens.specs.Tokens.{sized_of, as_token, number_token, by_class, domain_word, is_past, bracket_of, domain_run, end_of, token_from, token_at}
-use Rattle.text_tokens.specs.declared.numbers.Number.{Number}
-use Rattle.text_tokens.specs.declared.numbers.Number.TheVariants.{Thousandths, Malformed}
 use Rattle.text_tokens.specs.declared.classes.Class.{Class}
 use Rattle.text_tokens.specs.declared.classes.Class.TheVariants as C
 use Rattle.text_tokens.specs.declared.tokens.Word.{Word}
@@ -48,10 +47,10 @@ module _ (n p e : ℕ) where
       go true = tt
       go false = tt
 
-  number_ends : (x : Number) → Ends n (as_token x p e)
+  number_ends : (x : Option ℤ) → Ends n (as_token x p e)
   unfolding Ends
-  number_ends (Thousandths z) = tt
-  number_ends Malformed = tt
+  number_ends (Some z) = tt
+  number_ends None = tt
 
   class_ends : (k : Class) (w : List ℕ) → Ends n (by_class k w p e)
   unfolding Ends number_token

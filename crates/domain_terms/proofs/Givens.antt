@@ -1,4 +1,5 @@
 -- The ways of reading an argument. Assumes nothing.
+use Rattle.std.specs.Prelude.{None, Option, Some}
 use mathlib.Core.Path.{◌≡◌, refl}
 use mathlib.Core.List.{List, [], ◌∷◌}
 use mathlib.Core.Bool.{Bool, true, false, cond}
@@ -6,8 +7,6 @@ use Prim.Native.Nat.{ℕ, ◌+◌, ◌-◌, ◌≤◌, ◌<◌}
 use types.Run.{OneOf}
 use denote.Enum.Declared.{tag_of}
 use borrow.Author.Tests.{lt-ltb, le-ltb}
-use Rattle.text_words.specs.declared.spelling.Place.{Place}
-use Rattle.text_words.specs.declared.spelling.Place.TheVariants as F
 use Rattle.text_tokens.specs.Runs.{part}
 use Rattle.text_tokens.specs.Tokens.{token_at}
 use Rattle.text_tokens.specs.declared.tokens.Token.{Token}
@@ -19,9 +18,7 @@ use Rattle.domain_meaning.specs.Read.{and_then, give, refuse}
 use Rattle.domain_meaning.specs.Tables.{entry_at, type_of, lookup, on_found, declared}
 use Rattle.domain_meaning.specs.Due.{number_of, place_of}
 use Rattle.domain_meaning.specs.Terms.{Scope, Given, object_at, variable_at, given_by, argument}
-use Rattle.domain_due.specs.Answers.{Ahead}
-use Rattle.domain_due.specs.declared.Parsed.{Parsed}
-use Rattle.domain_due.specs.declared.Parsed.TheVariants.{Done, Refused}
+use Rattle.domain_due.specs.Answers.{Parsed, Done, Refused, Ahead}
 use Rattle.domain_due.proofs.Dues.{not_word, ahead_refused, ahead_by}
 use Rattle.domain_terms.specs.Cells.{cell_answer, type_of_cell, Cellular}
 
@@ -38,31 +35,31 @@ unfolding Cellular
 cell_at a v r e h = rw e at h
 
 module _ (s : List ℕ) (c : Scope) (p e : ℕ) where
-  pub name_found : (i : ℕ) → lookup c.objects (part s p e) ≡ F.At i → Done e i ≡ cell_answer (given_by s c W.Name p e e)
+  pub name_found : (i : ℕ) → lookup c.objects (part s p e) ≡ Some i → Done e i ≡ cell_answer (given_by s c W.Name p e e)
   unfolding declared
   name_found i q = rw q
 
-  pub name_missing : lookup c.objects (part s p e) ≡ F.Nothing → Refused 8 p ≡ cell_answer (given_by s c W.Name p e e)
+  pub name_missing : lookup c.objects (part s p e) ≡ None → Refused 8 p ≡ cell_answer (given_by s c W.Name p e e)
   unfolding declared
   name_missing q = rw q
 
   pub variable_out : c.in_action ≡ false → Refused 3 p ≡ cell_answer (given_by s c W.Variable p e e)
   variable_out q = rw q
 
-  pub variable_found : (i : ℕ) → c.in_action ≡ true → lookup c.variables (part s (p + 1) e) ≡ F.At i
+  pub variable_found : (i : ℕ) → c.in_action ≡ true → lookup c.variables (part s (p + 1) e) ≡ Some i
       → Done e (64 + i) ≡ cell_answer (given_by s c W.Variable p e e)
   unfolding declared
   variable_found i h q = rw (h, q)
 
-  pub variable_missing : c.in_action ≡ true → lookup c.variables (part s (p + 1) e) ≡ F.Nothing → Refused 8 p ≡ cell_answer (given_by s c W.Variable p e e)
+  pub variable_missing : c.in_action ≡ true → lookup c.variables (part s (p + 1) e) ≡ None → Refused 8 p ≡ cell_answer (given_by s c W.Variable p e e)
   unfolding declared
   variable_missing h q = rw (h, q)
 
   -- what is read ends where the word does
-  found_ahead : (n at : ℕ) (f : Place) (g : ℕ → Given) → at < e → e ≤ n
+  found_ahead : (n at : ℕ) (f : Option ℕ) (g : ℕ → Given) → at < e → e ≤ n
       → Ahead n at (cell_answer (and_then (on_found f (λ i. give i) (refuse 8 p) e) (λ i. give (g i))))
-  found_ahead n at (F.At i) g lo hi = ahead_by n at e _ lo hi
-  found_ahead n at F.Nothing g lo hi = ahead_refused n at 8 p _ refl
+  found_ahead n at (Some i) g lo hi = ahead_by n at e _ lo hi
+  found_ahead n at None g lo hi = ahead_refused n at 8 p _ refl
 
   pub name_ahead : (n at : ℕ) → at < e → e ≤ n → Ahead n at (cell_answer (given_by s c W.Name p e e))
   unfolding declared

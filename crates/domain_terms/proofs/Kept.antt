@@ -1,4 +1,5 @@
 -- What a table in a part of a slice keeps, byte by byte. Assumes nothing.
+use Rattle.std.specs.Prelude.{Some}
 use mathlib.Core.Path.{◌≡◌, refl, sym, ap, ◌∙◌}
 use mathlib.Core.List.{List, [], ◌∷◌, ◌++◌, append_assoc, map}
 use mathlib.Core.Bool.{Bool, true, false, cond}
@@ -12,7 +13,6 @@ use lib.ListN.{length, get_or, drop, length-take, length-drop, length-map, get_o
 use lib.Seq.{get_or-take, get_or-drop, get_or-append-add}
 use lib.Dec.{eqb}
 use Rattle.text_words.specs.Spelling.{same_word, place_from}
-use Rattle.text_words.specs.declared.spelling.Place.TheVariants.{At}
 use Rattle.text_tokens.specs.Runs.{part}
 use Rattle.domain_meaning.specs.Tables.{entry, name_of, info_of, Table, entry_at, type_of, lookup, is_below}
 use Rattle.domain_rows.specs.Held.{byte_at, row_of, Holds}
@@ -109,15 +109,15 @@ below_held tables to m n ts x b h =
 
 -- ---- a name that was found stands in its table
 
-place_below : (vs : List (List ℕ)) (w : List ℕ) (k i : ℕ) → place_from k vs w ≡ At i → i < k + length vs
+place_below : (vs : List (List ℕ)) (w : List ℕ) (k i : ℕ) → place_from k vs w ≡ Some i → i < k + length vs
 unfolding place_from
 place_below [] w k i e = absurd (let z : ◌≡◌ {A = ℕ} 0 1 = cc in let y : ⊥ = omega arith in y)
 place_below (v ∷ vs) w k i e = go (same_word v w) e (λ h. place_below vs w (k + 1) i h)
   where
-    go : (t : Bool) → cond t (At k) (place_from (k + 1) vs w) ≡ At i → (place_from (k + 1) vs w ≡ At i → i < k + 1 + length vs) → i < k + suc (length vs)
+    go : (t : Bool) → cond t (Some k) (place_from (k + 1) vs w) ≡ Some i → (place_from (k + 1) vs w ≡ Some i → i < k + 1 + length vs) → i < k + suc (length vs)
     go true h f = let q : k ≡ i = cc in omega arith
     go false h f = omega (arith, f h)
 
-pub found_below : (t : Table) (w : List ℕ) (i : ℕ) → lookup t w ≡ At i → i < length t
+pub found_below : (t : Table) (w : List ℕ) (i : ℕ) → lookup t w ≡ Some i → i < length t
 unfolding lookup
 found_below t w i e = omega (arith, place_below (map name_of t) w 0 i e, length-map t name_of)

@@ -1,4 +1,5 @@
 -- The loop over arguments: its ways, and what the rest says of the whole. Assumes nothing.
+use Rattle.std.specs.Prelude.{None, Option, Some}
 use mathlib.Core.Path.{◌≡◌, refl, sym, ◌∙◌}
 use mathlib.Core.List.{List, [], ◌∷◌}
 use mathlib.Core.Bool.{Bool, true, false, cond}
@@ -11,8 +12,6 @@ use lib.Seq.{drop-drop, get_or-drop}
 use types.Run.{OneOf}
 use denote.Enum.Declared.{tag_of}
 use borrow.Author.Tests.{lt-ltb, le-ltb}
-use Rattle.text_words.specs.declared.spelling.Place.{Place}
-use Rattle.text_words.specs.declared.spelling.Place.TheVariants as F
 use Rattle.text_tokens.specs.Runs.{part}
 use Rattle.text_tokens.specs.Tokens.{token_at}
 use Rattle.text_tokens.specs.declared.tokens.Token.{Token}
@@ -24,9 +23,8 @@ use Rattle.domain_meaning.specs.Read.{Read, got, refused, and_then, give, refuse
 use Rattle.domain_meaning.specs.Tables.{info_of, Table, entry_at, wanted_of, lookup, on_found, declared, is_below}
 use Rattle.domain_meaning.specs.Due.{after_of, place_of, wrong, on_word, closing}
 use Rattle.domain_meaning.specs.Terms.{Scope, Arg, Given, object_at, variable_at, given_by, argument, fits, arguments}
-use Rattle.domain_due.specs.declared.Parsed.{Parsed}
-use Rattle.domain_due.specs.declared.Parsed.TheVariants.{Done, Refused}
-use Rattle.domain_due.proofs.Dues.{not_close, never_done}
+use Rattle.domain_due.specs.Answers.{Parsed, Done, Refused}
+use Rattle.domain_due.proofs.Dues.{not_close, done_parts, refused_parts, never_done}
 use Rattle.domain_terms.specs.Scoped.{Signed, AllSigned}
 use Rattle.domain_terms.specs.Cells.{cell_of, cell_answer, type_of_cell, arg_cells, Wrote, Room}
 use Rattle.domain_terms.proofs.Kept.{found_below}
@@ -66,27 +64,25 @@ record FoundBy (c : Scope) (t : Token) (x : Read Given) (a v : ℕ) : Type 0 whe
   type : given.type ≡ type_of_cell c v
 
 module _ (s : List ℕ) (c : Scope) (few : length c.objects ≤ 64) where
-  by_name_lem : (p e a v : ℕ) (f : Place) → lookup c.objects (part s p e) ≡ f
+  by_name_lem : (p e a v : ℕ) (f : Option ℕ) → lookup c.objects (part s p e) ≡ f
       → cell_answer (and_then (on_found f (λ i. give i) (refuse 8 p) e) (λ i. give (object_at c p i))) ≡ Done a v
       → FoundBy c (T.Word W.Name p e) (and_then (on_found f (λ i. give i) (refuse 8 p) e) (λ i. give (object_at c p i))) a v
   unfolding type_of_cell
-  by_name_lem p e a v (F.At i) q h =
-      let n : e ≡ a = cc in
-      let x : i ≡ v = cc in
+  by_name_lem p e a v (Some i) q h =
+      let r = done_parts e a i v h in
       let b : i < 64 = omega (arith, found_below c.objects (part s p e) i q) in
-      record { given = object_at c p i; is = rw n; cell = x; place = refl; type = rw (← x, lt-ltb i 64 b) }
-  by_name_lem p e a v F.Nothing q h = never_done 8 p a v h
+      record { given = object_at c p i; is = rw r.0; cell = r.1; place = refl; type = rw (← r.1, lt-ltb i 64 b) }
+  by_name_lem p e a v None q h = never_done 8 p a v h
 
-  by_variable_lem : (p e a v : ℕ) (f : Place)
+  by_variable_lem : (p e a v : ℕ) (f : Option ℕ)
       → cell_answer (and_then (on_found f (λ i. give i) (refuse 8 p) e) (λ i. give (variable_at c p i))) ≡ Done a v
       → FoundBy c (T.Word W.Variable p e) (and_then (on_found f (λ i. give i) (refuse 8 p) e) (λ i. give (variable_at c p i))) a v
   unfolding type_of_cell
-  by_variable_lem p e a v (F.At i) h =
-      let n : e ≡ a = cc in
-      let x : 64 + i ≡ v = cc in
+  by_variable_lem p e a v (Some i) h =
+      let r = done_parts e a (64 + i) v h in
       let b : 64 + i - 64 ≡ i = omega arith in
-      record { given = variable_at c p i; is = rw n; cell = x; place = refl; type = rw (← x, le-ltb (64 + i) 64 (omega arith), b) }
-  by_variable_lem p e a v F.Nothing h = never_done 8 p a v h
+      record { given = variable_at c p i; is = rw r.0; cell = r.1; place = refl; type = rw (← r.1, le-ltb (64 + i) 64 (omega arith), b) }
+  by_variable_lem p e a v None h = never_done 8 p a v h
 
   by_action : (t : Bool) (p e a v : ℕ)
       → cell_answer (cond t (λ b. and_then (declared c.variables p (part s (p + 1) e) b) (λ i. give (variable_at c p i))) (refuse 3 p) e) ≡ Done a v
@@ -121,7 +117,7 @@ module _ (s : List ℕ) (c : Scope) (few : length c.objects ≤ 64) where
 
 pub given_refused : (x : Read Given) (k p : ℕ) → cell_answer x ≡ Refused k p → x ≡ refused k p
 given_refused (got g n) k p e = absurd (let z : ◌≡◌ {A = ℕ} 0 1 = cc in let y : ⊥ = omega arith in y)
-given_refused (refused j q) k p e = let z : j ≡ k = cc in let y : q ≡ p = cc in cc
+given_refused (refused j q) k p e = let h = refused_parts j k q p e in rw (h.0, h.1)
 
 -- ---- what was written
 
@@ -200,9 +196,9 @@ module _ (s : List ℕ) (d from : ℕ) (c : Scope) (ws code₀ : List ℕ) (used
 
   module _ (no : OneOf (0 ∷ 1 ∷ 2 ∷ 4 ∷ 5 ∷ 6 ∷ []) (tag_of token-type.the_type (token_at s at))) where
     pub onward_refused : (r : Parsed) (k p : ℕ) (m : List ℕ) → r ≡ cell_answer (argument s d c at) → r ≡ Refused k p
-        → Wrote arg_cells code₀ used r m (arguments s d c ws from)
-    onward_refused r k p m q e = o.on r m (wrote_refused arg_cells code u r m _ k p
-        (wanted_refused s d at c no (drop j ws) k p (given_refused _ k p (sym q ∙ e))) e)
+        → Wrote arg_cells code₀ used (Refused k p) m (arguments s d c ws from)
+    onward_refused r k p m q e = o.on (Refused k p) m (wrote_refused arg_cells code u _ m _ k p
+        (wanted_refused s d at c no (drop j ws) k p (given_refused _ k p (sym q ∙ e))) refl)
 
     module _ (few : length c.objects ≤ 64) (a v : ℕ) (q : cell_answer (argument s d c at) ≡ Done a v) where
       got_here : Arrived s d at c a v

@@ -1,11 +1,10 @@
 -- Arguments, references and expressions as cells of the code, and what a reader that writes cells answers.
-use Rattle.std.specs.Prelude.{◌≡◌, ℕ, ◌+◌, ◌-◌, ◌≤◌, ◌<◌, List, map, cond, length, ltb}
+use Rattle.std.specs.Prelude.{◌≡◌, ℕ, ◌+◌, ◌-◌, ◌≤◌, ◌<◌, List, map, cond, length, ltb, Err}
 use Rattle.std.proofs.lemmas.List.Edits.{sets}
 use Rattle.domain_meaning.specs.Read.{Read, got, refused}
 use Rattle.domain_meaning.specs.Tables.{entry_at, type_of}
 use Rattle.domain_meaning.specs.Terms.{Scope, Arg, object, variable, Given}
-use Rattle.domain_due.specs.declared.Parsed.{Parsed}
-use Rattle.domain_due.specs.declared.Parsed.TheVariants.{Done, Refused}
+use Rattle.domain_due.specs.Answers.{Parsed, Done, Refused}
 
 -- an argument is one cell: an object below 64, or 64 and a parameter's number
 abbrev pub cell_of : Arg → ℕ
@@ -32,9 +31,9 @@ Wrote cells code used r code' (refused k p) = r ≡ Refused k p
 -- a cell that was read is below 256
 unfoldable pub Cellular : Parsed → Type 0
 Cellular (Done a v) = v < 128
-Cellular (Refused k p) = Unit {0}
+Cellular (Err why) = Unit {0}
 
 -- no more cells were written than bytes were read
 unfoldable pub Room : ℕ → ℕ → Parsed → Type 0
 Room used from (Done a v) = (used ≤ v) × (v + from ≤ used + a)
-Room used from (Refused k p) = Unit {0}
+Room used from (Err why) = Unit {0}

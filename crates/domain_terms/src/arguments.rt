@@ -11,11 +11,10 @@ ghost use Rattle.domain_terms.specs.Cells.{cell_answer, type_of_cell, arg_cells,
 
 use crate::scope;
 use crate::scope::Counts;
-use domain_due::Parsed;
+use domain_due::{Parsed, Refusal};
 use domain_rows::layout;
 use text_tokens::tokens::{Token, Word};
 use text_tokens::{runs, tokens};
-use text_words::spelling::Place;
 
 // An object's name w, which stands from p to e: its cell.
 fn object_at(w: &[u8], p: usize, e: usize, tables: &[u8], counts: Counts) -> Parsed
@@ -24,11 +23,10 @@ fn object_at(w: &[u8], p: usize, e: usize, tables: &[u8], counts: Counts) -> Par
         → result ≡ cell_answer (given_by s c W.Name p e e)) × Cellular result }
 {
     let n = counts.objects;
-    let f = scope::find_in(tables, layout::OBJECTS_AT, layout::PREDICATES_AT, n, w);
-    let Place::At(i) = f else {
-        return Parsed::Refused(8, p);
+    let Some(i) = scope::find_in(tables, layout::OBJECTS_AT, layout::PREDICATES_AT, n, w) else {
+        return Err(Refusal(8, p));
     };
-    Parsed::Done(e, i)
+    Ok((e, i))
 }
 
 // A variable from its mark at p to e: its cell, in an action.
@@ -36,22 +34,16 @@ fn variable_at(text: &[u8], p: usize, e: usize, tables: &[u8], counts: Counts) -
     requires { Scopes tables.now counts × (p < e) }
     ensures { ((c : Scope) → Scoped tables.now counts c → result ≡ cell_answer (given_by text.now c W.Variable p e e)) × Cellular result }
 {
-    let n = counts.variables;
-    let known = counts.in_action;
-    if !known {
-        return Parsed::Refused(3, p);
+    if !counts.in_action {
+        return Err(Refusal(3, p));
     }
-    let f = scope::find_in(
-        tables,
-        layout::VARIABLES_AT,
-        layout::TABLES_LENGTH,
-        n,
-        runs::part_of(text, p + 1, e),
-    );
-    let Place::At(i) = f else {
-        return Parsed::Refused(8, p);
+    let n = counts.variables;
+    let name = runs::part_of(text, p + 1, e);
+    let Some(i) = scope::find_in(tables, layout::VARIABLES_AT, layout::TABLES_LENGTH, n, name)
+    else {
+        return Err(Refusal(8, p));
     };
-    Parsed::Done(e, 64 + i)
+    Ok((e, 64 + i))
 }
 
 // An argument: its cell.
@@ -62,13 +54,12 @@ pub fn argument_at(text: &[u8], from: usize, d: usize, tables: &[u8], counts: Co
 {
     let t = tokens::token_at(text, from);
     let Token::Word(k, p, e) = t else {
-        return domain_due::refusal(t, d);
+        return Err(domain_due::not_due(t, d));
     };
     match k {
         Word::Name => object_at(tokens::word_of(text, t), p, e, tables, counts),
         Word::Variable => variable_at(text, p, e, tables, counts),
-        Word::Keyword => Parsed::Refused(3, p),
-        Word::Operator => Parsed::Refused(3, p),
+        Word::Keyword | Word::Operator => Err(Refusal(3, p)),
     }
 }
 
@@ -77,12 +68,10 @@ pub fn type_of_cell(tables: &[u8], counts: Counts, x: usize) -> usize
     requires { Scopes tables.now counts }
     ensures { (c : Scope) → Scoped tables.now counts c → result ≡ type_of_cell c x }
 {
-    let objects = counts.objects;
-    let variables = counts.variables;
     if x < 64 {
-        return scope::kept_in(tables, layout::OBJECTS_AT, objects, x, 0);
+        return scope::kept_in(tables, layout::OBJECTS_AT, counts.objects, x, 0);
     }
-    scope::kept_in(tables, layout::VARIABLES_AT, variables, x - 64, 0)
+    scope::kept_in(tables, layout::VARIABLES_AT, counts.variables, x - 64, 0)
 }
 
 // Whether the argument in a cell is of the wanted type, or below it.
@@ -90,8 +79,7 @@ fn fits_at(tables: &[u8], counts: Counts, x: usize, want: usize) -> bool
     requires { Scopes tables.now counts }
     ensures { (c : Scope) → Scoped tables.now counts c → result ≡ is_below (length c.types) c.types (type_of_cell c x) want }
 {
-    let n = counts.types;
-    scope::is_below(tables, n, type_of_cell(tables, counts, x), want)
+    scope::is_below(tables, counts.types, type_of_cell(tables, counts, x), want)
 }
 
 // The arguments of name i of the table from `off` on, to the closing bracket, stored from `used` on.
@@ -121,19 +109,16 @@ pub fn arguments_at(
         let t = tokens::token_at(text, at);
         if let Token::Close(p, next) = t {
             if j < arity {
-                return Parsed::Refused(9, p);
+                return Err(Refusal(9, p));
             }
-            return Parsed::Done(next, u);
+            return Ok((next, u));
         }
-        let a = argument_at(text, at, d, tables, counts);
-        let Parsed::Done(after, x) = a else {
-            return a;
-        };
+        let (after, x) = argument_at(text, at, d, tables, counts)?;
         if arity <= j {
-            return Parsed::Refused(9, domain_due::place_of(t));
+            return Err(Refusal(9, domain_due::place_of(t)));
         }
         if !fits_at(tables, counts, x, scope::kept_in(tables, off, n, i, j + 1)) {
-            return Parsed::Refused(10, domain_due::place_of(t));
+            return Err(Refusal(10, domain_due::place_of(t)));
         }
         domain_literals::put(code, u, x);
         u += 1;

@@ -9,10 +9,9 @@ ghost use Rattle.domain_rows.specs.Layout.{tables_length};
 use text_tokens::runs;
 use text_words::names;
 use text_words::names::ROW;
-use text_words::spelling::Place;
 
 // How many names each table has. Where the tables lie says domain_rows::layout.
-#[derive(Clone, Copy)]
+#[derive(Clone, Copy, PartialEq, Eq)]
 pub struct Counts {
     pub types: usize,
     pub objects: usize,
@@ -23,7 +22,7 @@ pub struct Counts {
 }
 
 // The number of a name in the table from `from` to `to`, which has n names.
-pub fn find_in(tables: &[u8], from: usize, to: usize, n: usize, w: &[u8]) -> Place
+pub fn find_in(tables: &[u8], from: usize, to: usize, n: usize, w: &[u8]) -> Option<usize>
     ensures { (m : ℕ) (t : Table) → Holds m (part tables.now from to) n t → result ≡ lookup t w.now }
 {
     names::find(runs::part_of(tables, from, to), n, w)
@@ -47,14 +46,12 @@ pub fn is_below(tables: &[u8], n: usize, a: usize, b: usize) -> bool
     ensures { ((m to : ℕ) (ts : Table) → Holds m (part tables.now 0 to) n ts → result ≡ is_below (length ts) ts a b)
         × (result ≡ below_in n tables.now n a b) }
 {
-    let mut left = n;
     let mut x = a;
-    while 0 < left {
+    for _ in 0..n {
         if x == b {
             return true;
         }
         x = kept_in(tables, 0, n, x, 0);
-        left -= 1;
     }
     x == b
 }

@@ -1,4 +1,5 @@
 -- What stands in a part is what was read of a condition or of effects. Assumes nothing.
+use Rattle.std.specs.Prelude.{Err}
 use mathlib.Core.Path.{◌≡◌, refl, ap, ◌∙◌}
 use mathlib.Core.List.{List, [], ◌∷◌, ◌++◌}
 use mathlib.Core.Bool.{Bool, true, false}
@@ -12,8 +13,8 @@ use Rattle.domain_meaning.specs.Terms.{Scope, Counted, counts}
 use Rattle.domain_meaning.specs.Conditions.{condition}
 use Rattle.domain_meaning.specs.Effects.{Effect, effect}
 use Rattle.domain_expressions.specs.Codes.{Written, Spent}
-use Rattle.domain_expressions.specs.declared.leaves.Progress.{Progress}
-use Rattle.domain_expressions.specs.declared.leaves.Progress.TheVariants.{Done, Refused}
+use Rattle.domain_expressions.specs.Codes.{Progress}
+use Rattle.domain_expressions.specs.Codes.{Done, Refused}
 use Rattle.domain_expressions.proofs.Ends.{written_refused}
 use Rattle.domain_expressions.proofs.Operands.{written_got, written_not}
 use Rattle.domain_stored_meaning.specs.Cells.{cond_cells, effects_cells, list_cells}
@@ -28,7 +29,7 @@ spent_by more n u at a v l lo hi up few = (lo, hi, up, few)
 pub spent_more : (r : Progress) (more n u at : ℕ) → Spent 0 n u at r → Spent more n u at r
 unfolding Spent
 spent_more (Done a v l) more n u at h = (h.0, h.1, h.2, omega (arith, h.3))
-spent_more (Refused k p) more n u at h = tt
+spent_more (Err why) more n u at h = tt
 
 -- ---- a tree's cells as they are
 

@@ -1,4 +1,5 @@
 -- The ways through a field that may be missing. Assumes nothing.
+use Rattle.std.specs.Prelude.{None, Some, Err}
 use mathlib.Core.Path.{◌≡◌, refl, ap, ◌∙◌}
 use mathlib.Core.List.{List, [], ◌∷◌, ◌++◌, append-nil}
 use mathlib.Core.Bool.{Bool, true, false, cond}
@@ -9,7 +10,6 @@ use lib.ListN.{length, set, length-append}
 use lib.Seq.{sets}
 use Rattle.base_laws.proofs.Sets.{sets_append}
 use Rattle.text_words.specs.Spelling.{same_word}
-use Rattle.text_words.specs.declared.spelling.Place.TheVariants.{At, Nothing}
 use Rattle.text_tokens.specs.Runs.{part}
 use Rattle.text_tokens.specs.Tokens.{token_at}
 use Rattle.text_tokens.specs.declared.tokens.Token.{Token}
@@ -18,11 +18,11 @@ use Rattle.domain_meaning.specs.Read.{◌>>=◌, Read, Reader, got, refused, giv
 use Rattle.domain_meaning.specs.Due.{token, on_word}
 use Rattle.domain_meaning.specs.Terms.{Scope, Counted, counts}
 use Rattle.domain_meaning.specs.Actions.{Timed, parts, at_start, field_of}
-use Rattle.domain_due.specs.declared.Parsed.TheVariants as A
+use Rattle.domain_due.specs.Answers as A
 use Rattle.domain_terms.specs.Cells.{Wrote}
 use Rattle.domain_expressions.specs.Codes.{Written, Spent}
-use Rattle.domain_expressions.specs.declared.leaves.Progress.{Progress}
-use Rattle.domain_expressions.specs.declared.leaves.Progress.TheVariants.{Done, Refused}
+use Rattle.domain_expressions.specs.Codes.{Progress}
+use Rattle.domain_expressions.specs.Codes.{Done, Refused}
 use Rattle.domain_expressions.proofs.Operands.{written_got, written_not}
 use Rattle.domain_timed_parts.specs.Bodies.{as_is, body_of, timed_cells}
 use Rattle.domain_timed_parts.specs.Fields.{field_found, parts_of, field_parts, ended_cells, Onwards}
@@ -52,7 +52,7 @@ module _ (s : List ℕ) (c : Scope) (n at : ℕ) (durative over : Bool) (code : 
 pub spent_under : (r : Progress) (n u at : ℕ) → Spent 1 n (u + 1) at r → Spent 2 n u at r
 unfolding Spent
 spent_under (Done a v l) n u at h = (h.0, h.1, omega (arith, h.2), omega (arith, h.3))
-spent_under (Refused k p) n u at h = tt
+spent_under (Err why) n u at h = tt
 
 -- ---- whether the word is there
 
@@ -65,11 +65,11 @@ asked s b =
       give true)
     (give false)
 
-unasked : (s : List ℕ) (at : ℕ) (b : Bool) → Nothing ≡ field_found (asked s b at) → asked s b at ≡ got false at
+unasked : (s : List ℕ) (at : ℕ) (b : Bool) → None ≡ field_found (asked s b at) → asked s b at ≡ got false at
 unasked s at true h = absurd (let z : ◌≡◌ {A = ℕ} 0 1 = cc in let y : ⊥ = omega arith in y)
 unasked s at false h = refl
 
-absent : (s w : List ℕ) (at : ℕ) (t : Token) → Nothing ≡ field_found (on_word t (λ k p e. asked s (same_word (part s p e) w)) (give false) at)
+absent : (s w : List ℕ) (at : ℕ) (t : Token) → None ≡ field_found (on_word t (λ k p e. asked s (same_word (part s p e) w)) (give false) at)
     → on_word t (λ k p e. asked s (same_word (part s p e) w)) (give false) at ≡ got false at
 absent s w at (T.Word k p e) h = unasked s at (same_word (part s p e) w) h
 absent s w at (T.Number z p e) h = refl
@@ -79,11 +79,11 @@ absent s w at (T.Mark m p n) h = refl
 absent s w at (T.Refusal k p) h = refl
 absent s w at (T.End p) h = refl
 
-missing : (s w : List ℕ) (at : ℕ) → Nothing ≡ field_found (field_of s w at) → field_of s w at ≡ got false at
+missing : (s w : List ℕ) (at : ℕ) → None ≡ field_found (field_of s w at) → field_of s w at ≡ got false at
 unfolding field_of
 missing s w at h = absent s w at (token_at s at) h
 
-there : (x : Read Bool) (e : ℕ) → At e ≡ field_found x → x ≡ got true e
+there : (x : Read Bool) (e : ℕ) → Some e ≡ field_found x → x ≡ got true e
 there (got true n) e h = let z : e ≡ n = cc in rw z
 there (got false n) e h = absurd (let z : ◌≡◌ {A = ℕ} 0 1 = cc in let y : ⊥ = omega arith in y)
 there (refused k p) e h = absurd (let z : ◌≡◌ {A = ℕ} 0 1 = cc in let y : ⊥ = omega arith in y)
@@ -101,12 +101,12 @@ ended code u xs a v m m' free stored q =
 -- ---- the field
 
 module _ (s : List ℕ) (c : Scope) (w : List ℕ) (n at : ℕ) (durative over : Bool) (code : List ℕ) (u : ℕ) where
-  pub field_none : (m : List ℕ) → Nothing ≡ field_found (field_of s w at) → m ≡ set code u 0
+  pub field_none : (m : List ℕ) → None ≡ field_found (field_of s w at) → m ≡ set code u 0
       → Wrote ended_cells code u (A.Done at (u + 1)) m (field_parts durative over s c w n at)
   unfolding field_parts Wrote timed_cells
   field_none m h q = rw (missing s w at h) (refl, q)
 
-  module _ (e : ℕ) (h : At e ≡ field_found (field_of s w at)) (r : Progress) (m : List ℕ)
+  module _ (e : ℕ) (h : Some e ≡ field_found (field_of s w at)) (r : Progress) (m : List ℕ)
       (x : Written timed_cells code u r m (parts_of durative over s c n e)) where
     pub field_refused : (k p : ℕ) → r ≡ Refused k p → Wrote ended_cells code u (A.Refused k p) m (field_parts durative over s c w n at)
     unfolding field_parts Wrote

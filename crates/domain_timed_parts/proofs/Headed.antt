@@ -1,4 +1,5 @@
 -- The ways to a part, or to parts, by the word after the bracket. Assumes nothing.
+use Rattle.std.specs.Prelude.{Err}
 use mathlib.Core.Path.{◌≡◌}
 use mathlib.Core.List.{List, [], ◌∷◌}
 use mathlib.Core.Bool.{Bool, true, false, cond}
@@ -20,8 +21,8 @@ use Rattle.domain_meaning.specs.Due.{number_of, place_of, opening}
 use Rattle.domain_meaning.specs.Terms.{Counted}
 use Rattle.domain_meaning.specs.Actions.{Timed, part_behind, part_at, parts_to, parts}
 use Rattle.domain_expressions.specs.Codes.{Written, Spent}
-use Rattle.domain_expressions.specs.declared.leaves.Progress.{Progress}
-use Rattle.domain_expressions.specs.declared.leaves.Progress.TheVariants.{Done, Refused}
+use Rattle.domain_expressions.specs.Codes.{Progress}
+use Rattle.domain_expressions.specs.Codes.{Done, Refused}
 use Rattle.domain_expressions.proofs.Ends.{written_refused}
 use Rattle.domain_timed_parts.specs.Bodies.{timed_cells}
 use Rattle.domain_timed_parts.proofs.Opening.{opened_refused, opened_else, opened_word}
@@ -30,7 +31,7 @@ use Rattle.domain_timed_parts.proofs.Opening.{opened_refused, opened_else, opene
 pub spent_back : (r : Progress) (n u at from : ℕ) → from ≤ at → Spent 0 n u at r → Spent 0 n u from r
 unfolding Spent
 spent_back (Done a v l) n u at from le h = (omega (arith, h.0), h.1, h.2, omega (arith, h.3))
-spent_back (Refused k p) n u at from le h = tt
+spent_back (Err why) n u at from le h = tt
 
 module _ (s : List ℕ) (over : Bool) (f : ℕ → ℕ → Reader (Counted (List ℕ))) (d n at : ℕ) (code : List ℕ) (u : ℕ) where
   abbrev one : Word → ℕ → ℕ → Reader (Counted (List (Timed (List ℕ))))

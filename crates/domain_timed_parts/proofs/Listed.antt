@@ -20,8 +20,8 @@ use Rattle.domain_meaning.specs.Terms.{Counted, counts}
 use Rattle.domain_meaning.specs.Actions.{Timed, part_at, parts_to}
 use Rattle.domain_due.proofs.Dues.{not_close}
 use Rattle.domain_expressions.specs.Codes.{Written}
-use Rattle.domain_expressions.specs.declared.leaves.Progress.{Progress}
-use Rattle.domain_expressions.specs.declared.leaves.Progress.TheVariants.{Done, Refused}
+use Rattle.domain_expressions.specs.Codes.{Progress}
+use Rattle.domain_expressions.specs.Codes.{Done, Refused}
 use Rattle.domain_expressions.proofs.Ends.{written_refused}
 use Rattle.domain_expressions.proofs.Operands.{written_got, written_not}
 use Rattle.domain_stored_meaning.specs.Cells.{when_cell}

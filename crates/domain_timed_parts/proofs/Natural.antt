@@ -18,7 +18,7 @@ use Rattle.domain_meaning.specs.Terms.{Scope, Counted, counts}
 use Rattle.domain_meaning.specs.Conditions.{condition}
 use Rattle.domain_meaning.specs.Effects.{effect}
 use Rattle.domain_meaning.specs.Actions.{Timed, time_of, part_behind, part_at, parts_to, parts, field_of, when_field, tree_of, at_start, one_condition, one_instant}
-use Rattle.domain_due.specs.declared.Parsed.{Parsed}
+use Rattle.domain_due.specs.Answers.{Parsed}
 use Rattle.domain_terms.specs.Cells.{Wrote}
 use Rattle.domain_stored_meaning.specs.Cells.{cond_cells, list_cells, when_cell, parts_cells}
 use Rattle.domain_timed_parts.specs.Bodies.{mapped, body_of, timed_cells}

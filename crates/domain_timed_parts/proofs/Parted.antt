@@ -11,12 +11,13 @@ use Rattle.domain_meaning.specs.Read.{Read, Reader, got, refused}
 use Rattle.domain_meaning.specs.Due.{closing}
 use Rattle.domain_meaning.specs.Terms.{Counted}
 use Rattle.domain_meaning.specs.Actions.{When, start, whole, end, timed, time_of, part_behind}
-use Rattle.domain_due.specs.declared.Parsed.{Parsed}
-use Rattle.domain_due.specs.declared.Parsed.TheVariants as A
-use Rattle.domain_due.proofs.Dues.{never_done}
-use Rattle.domain_expressions.specs.Codes.{Written, passed}
-use Rattle.domain_expressions.specs.declared.leaves.Progress.{Progress}
-use Rattle.domain_expressions.specs.declared.leaves.Progress.TheVariants.{Done, Refused}
+use Rattle.domain_due.specs.Answers.{Parsed}
+use Rattle.domain_due.specs.Answers as A
+use Rattle.domain_due.proofs.Dues.{never_done, done_parts, refused_parts}
+use Rattle.domain_expressions.specs.Codes.{Written}
+use Rattle.domain_expressions.proofs.Passed.{passed}
+use Rattle.domain_expressions.specs.Codes.{Progress}
+use Rattle.domain_expressions.specs.Codes.{Done, Refused}
 use Rattle.domain_expressions.proofs.Ends.{written_refused}
 use Rattle.domain_expressions.proofs.Operands.{written_got, written_not}
 use Rattle.domain_stored_meaning.specs.Cells.{when_cell}
@@ -31,12 +32,12 @@ pub record Timely (x : Read When) (a v : ℕ) : Type 0 where
   pub cell : v ≡ when_cell when
 
 pub when_done_lem : (x : Read When) (a v : ℕ) → when_answer x ≡ A.Done a v → Timely x a v
-when_done_lem (got w n) a v e = let z : n ≡ a = cc in let y : when_cell w ≡ v = cc in record { when = w; is = rw z; cell = sym y }
+when_done_lem (got w n) a v e = let q = done_parts n a (when_cell w) v e in record { when = w; is = rw q.0; cell = sym q.1 }
 when_done_lem (refused k p) a v e = never_done k p a v e
 
 pub when_refused : (x : Read When) (k p : ℕ) → when_answer x ≡ A.Refused k p → x ≡ refused k p
 when_refused (got w n) k p e = never_done k p n (when_cell w) (sym e)
-when_refused (refused j q) k p e = let z : j ≡ k = cc in let y : q ≡ p = cc in rw (z, y)
+when_refused (refused j q) k p e = let r = refused_parts j k q p e in rw (r.0, r.1)
 
 pub when_small : (w : When) → when_cell w < 256
 when_small start = omega arith

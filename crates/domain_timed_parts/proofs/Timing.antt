@@ -1,4 +1,5 @@
 -- The ways through a part's time, and whether a field follows. Assumes nothing.
+use Rattle.std.specs.Prelude.{None, Option, Some}
 use mathlib.Core.Path.{◌≡◌, sym, ap, ◌∙◌}
 use mathlib.Core.List.{List, [], ◌∷◌}
 use mathlib.Core.Bool.{Bool, true, false}
@@ -7,8 +8,6 @@ use types.Run.{OneOf}
 use denote.Enum.Declared.{tag_of}
 use Rattle.text_words.specs.Bytes.{bytes}
 use Rattle.text_words.specs.Spelling.{same_word}
-use Rattle.text_words.specs.declared.spelling.Place.{Place}
-use Rattle.text_words.specs.declared.spelling.Place.TheVariants.{At, Nothing}
 use Rattle.text_tokens.specs.Runs.{part}
 use Rattle.text_tokens.specs.Tokens.{token_at}
 use Rattle.text_tokens.specs.declared.tokens.Word.{Word}
@@ -17,10 +16,10 @@ use Rattle.text_tokens.specs.declared.tokens.Token.TheVariants as T
 use Rattle.text_tokens.specs.contracts.tokens.Token as token-type
 use Rattle.domain_meaning.specs.Read.{Reader, give, refuse}
 use Rattle.domain_meaning.specs.Due.{number_of, place_of, after_of, word_due}
-use Rattle.domain_meaning.specs.Actions.{When, start, end, time_of, field_of}
+use Rattle.domain_meaning.specs.Actions.{When, time_of, field_of}
 use Rattle.domain_due.specs.Answers.{answer_of}
-use Rattle.domain_due.specs.declared.Parsed.{Parsed}
-use Rattle.domain_due.specs.declared.Parsed.TheVariants.{Done, Refused}
+use Rattle.domain_due.specs.Answers.{Parsed}
+use Rattle.domain_due.specs.Answers.{Done, Refused}
 use Rattle.domain_due.proofs.Dues.{not_word, answer_done, answer_refused}
 use Rattle.domain_timed_parts.specs.Times.{when_answer, behind_at, behind_over}
 use Rattle.domain_timed_parts.specs.Fields.{field_found, Farther}
@@ -80,27 +79,27 @@ module _ (s : List ℕ) (d : ℕ) (over : Bool) (p e : ℕ) where
 -- ---- whether a field follows
 
 module _ (s w : List ℕ) (at : ℕ) where
-  pub field_else : (t : Token) → t ≡ token_at s at → OneOf (1 ∷ 2 ∷ 3 ∷ 4 ∷ 5 ∷ 6 ∷ []) (tag_of token-type.the_type t) → Nothing ≡ field_found (field_of s w at)
+  pub field_else : (t : Token) → t ≡ token_at s at → OneOf (1 ∷ 2 ∷ 3 ∷ 4 ∷ 5 ∷ 6 ∷ []) (tag_of token-type.the_type t) → None ≡ field_found (field_of s w at)
   unfolding field_of
   field_else t e h = rw (← e) (ap (λ (x : Reader Bool). field_found (x at)) (sym (not_word t _ (give false) h)))
 
   module _ (k : Word) (p e : ℕ) (q : token_at s at ≡ T.Word k p e) where
-    pub field_read : same_word (part s p e) w ≡ true → At e ≡ field_found (field_of s w at)
+    pub field_read : same_word (part s p e) w ≡ true → Some e ≡ field_found (field_of s w at)
     unfolding field_of
-    field_read h = rw (q, h) (ap (λ (t : Token). At (after_of t)) (sym q))
+    field_read h = rw (q, h) (ap (λ (t : Token). Some (after_of t)) (sym q))
 
-    pub field_other : same_word (part s p e) w ≡ false → Nothing ≡ field_found (field_of s w at)
+    pub field_other : same_word (part s p e) w ≡ false → None ≡ field_found (field_of s w at)
     unfolding field_of
     field_other h = rw (q, h)
 
-pub farther_by : (n at e : ℕ) → at < e → e ≤ n → Farther n at (At e)
+pub farther_by : (n at e : ℕ) → at < e → e ≤ n → Farther n at (Some e)
 unfolding Farther
 farther_by n at e lo hi = (lo, hi)
 
-pub farther_not : (n at : ℕ) → Farther n at Nothing
+pub farther_not : (n at : ℕ) → Farther n at None
 unfolding Farther
 farther_not n at = tt
 
-pub farther_at : (n at e : ℕ) (f : Place) → f ≡ At e → Farther n at f → (at < e) × (e ≤ n)
+pub farther_at : (n at e : ℕ) (f : Option ℕ) → f ≡ Some e → Farther n at f → (at < e) × (e ≤ n)
 unfolding Farther
 farther_at n at e f q h = rw q at h

@@ -3,8 +3,8 @@ use Rattle.std.specs.Prelude.{ℕ, List}
 use Rattle.domain_meaning.specs.Read.{◌>>=◌, Read, Reader, got, refused, give}
 use Rattle.domain_meaning.specs.Due.{token, fixed}
 use Rattle.domain_meaning.specs.Actions.{When, whole, start_or_end}
-use Rattle.domain_due.specs.declared.Parsed.{Parsed}
-use Rattle.domain_due.specs.declared.Parsed.TheVariants.{Done, Refused}
+use Rattle.domain_due.specs.Answers.{Parsed}
+use Rattle.domain_due.specs.Answers.{Done, Refused}
 use Rattle.domain_stored_meaning.specs.Cells.{when_cell}
 
 -- a time was read: the place after it, and its cell

@@ -30,10 +30,7 @@ pub fn body_at(
     if over {
         return condition_at(text, from, d, tables, counts, code, used, left);
     }
-    let x = effect_at(text, from, d, tables, counts, code, used, left);
-    let Progress::Done(after, free, more) = x else {
-        return x;
-    };
+    let (after, free, more) = effect_at(text, from, d, tables, counts, code, used, left)?;
     domain_literals::put(code, free, 0);
-    Progress::Done(after, free + 1, more)
+    Ok((after, free + 1, more))
 }

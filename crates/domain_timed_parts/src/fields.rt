@@ -9,27 +9,26 @@ ghost use Rattle.domain_timed_parts.specs.Bodies.{timed_cells};
 ghost use Rattle.domain_timed_parts.specs.Fields.{field_found, Farther, parts_of, field_parts, ended_cells, Onwards};
 
 use crate::{bodies, timed};
-use domain_due::Parsed;
+use domain_due::{Parsed, Refusal};
 use domain_expressions::leaves::Progress;
 use domain_terms::scope::Counts;
 use text_tokens::tokens;
 use text_tokens::tokens::Token;
 use text_words::spelling;
-use text_words::spelling::Place;
 
 // Whether a field's word follows: where it ends.
-fn field_at(text: &[u8], from: usize, w: &[u8]) -> Place
+fn field_at(text: &[u8], from: usize, w: &[u8]) -> Option<usize>
     requires { from ≤ length text.now }
     ensures { (result ≡ field_found (field_of text.now w.now from)) × Farther (length text.now) from result }
 {
     let t = tokens::token_at(text, from);
     let Token::Word(_, p, e) = t else {
-        return Place::Nothing;
+        return None;
     };
     if spelling::same_word(tokens::word_of(text, t), w) {
-        return Place::At(e);
+        return Some(e);
     }
-    Place::Nothing
+    None
 }
 
 // After a field's word: the parts of a durative action, or the one condition or effect of a simple one, which is at its start.
@@ -75,18 +74,13 @@ pub fn field_parts(
         × Onwards (length text.now) used from result }
 {
     let f = field_at(text, from, w);
-    let Place::At(inside) = f else {
+    let Some(inside) = f else {
         domain_literals::put(code, used, 0);
-        return Parsed::Done(from, used + 1);
+        return Ok((from, used + 1));
     };
-    let x = held_at(
+    let (after, free, _) = held_at(
         text, inside, tables, counts, code, used, left, durative, over,
-    );
-    match x {
-        Progress::Done(after, free, _) => {
-            domain_literals::put(code, free, 0);
-            Parsed::Done(after, free + 1)
-        }
-        Progress::Refused(k, p) => Parsed::Refused(k, p),
-    }
+    )?;
+    domain_literals::put(code, free, 0);
+    Ok((after, free + 1))
 }

@@ -34,20 +34,21 @@ fn part_behind(
         (part_behind text.now over (body_of over text.now c) d left p e e))
         × Spent 0 (length text.now) used e result }
 {
-    let w = times::time_of(text, p, e, d, over);
-    let Parsed::Done(at, when) = w else {
-        return leaves::progress_of(w, left);
-    };
+    let (at, when) = times::time_of(text, p, e, d, over)?;
     domain_literals::put(code, used, when);
-    let x = bodies::body_at(text, at, d, tables, counts, code, used + 1, left, over);
-    let Progress::Done(after, free, more) = x else {
-        return x;
-    };
-    let c = domain_due::closing(text, after, d);
-    let Parsed::Done(end, _) = c else {
-        return leaves::progress_of(c, more);
-    };
-    Progress::Done(end, free, more)
+    let (after, free, more) = bodies::body_at(
+        text,
+        at,
+        d,
+        tables,
+        counts,
+        code,
+        used + 1,
+        left,
+        over,
+    )?;
+    let (end, _) = domain_due::closing(text, after, d)?;
+    Ok((end, free, more))
 }
 
 // A part.
@@ -67,13 +68,10 @@ fn part_at(
         → Written timed_cells code.old used result code.new (part_at text.now over (body_of over text.now c) d left from))
         × Spent 0 (length text.now) used from result }
 {
-    let o = domain_due::opening(text, from, d);
-    let Parsed::Done(inside, _) = o else {
-        return leaves::progress_of(o, left);
-    };
+    let (inside, _) = domain_due::opening(text, from, d)?;
     let t = tokens::token_at(text, inside);
     let Token::Word(_, p, e) = t else {
-        return leaves::progress_of(domain_due::refusal(t, d - 1), left);
+        return Err(domain_due::not_due(t, d - 1));
     };
     part_behind(text, p, e, d - 1, tables, counts, code, used, left, over)
 }
@@ -101,12 +99,9 @@ fn parts_to(
     loop {
         let t = tokens::token_at(text, at);
         if let Token::Close(_, next) = t {
-            return Progress::Done(next, free, more);
+            return Ok((next, free, more));
         }
-        let x = part_at(text, at, d, tables, counts, code, free, more, over);
-        let Progress::Done(after, v, l) = x else {
-            return x;
-        };
+        let (after, v, l) = part_at(text, at, d, tables, counts, code, free, more, over)?;
         at = after;
         free = v;
         more = l;
@@ -130,13 +125,10 @@ pub fn parts_at(
         → Written timed_cells code.old used result code.new (parts text.now over (body_of over text.now c) d left from))
         × Spent 0 (length text.now) used from result }
 {
-    let o = domain_due::opening(text, from, d);
-    let Parsed::Done(inside, _) = o else {
-        return leaves::progress_of(o, left);
-    };
+    let (inside, _) = domain_due::opening(text, from, d)?;
     let t = tokens::token_at(text, inside);
     let Token::Word(_, p, e) = t else {
-        return leaves::progress_of(domain_due::refusal(t, d - 1), left);
+        return Err(domain_due::not_due(t, d - 1));
     };
     if spelling::same_word(tokens::word_of(text, t), b"and") {
         return parts_to(text, e, d - 1, tables, counts, code, used, left, over);

@@ -4,7 +4,7 @@ ghost use Rattle.domain_due.specs.Answers.{Ahead};
 ghost use Rattle.domain_meaning.specs.Actions.{time_of};
 ghost use Rattle.domain_timed_parts.specs.Times.{when_answer, behind_at, behind_over};
 
-use domain_due::Parsed;
+use domain_due::{Parsed, Refusal};
 use text_tokens::tokens::Token;
 use text_tokens::{runs, tokens};
 use text_words::spelling;
@@ -16,15 +16,15 @@ fn behind_at(text: &[u8], from: usize, d: usize) -> Parsed
 {
     let t = tokens::token_at(text, from);
     let Token::Word(_, p, e) = t else {
-        return domain_due::refusal(t, d);
+        return Err(domain_due::not_due(t, d));
     };
     if spelling::same_word(tokens::word_of(text, t), b"start") {
-        return Parsed::Done(e, 1);
+        return Ok((e, 1));
     }
     if spelling::same_word(tokens::word_of(text, t), b"end") {
-        return Parsed::Done(e, 3);
+        return Ok((e, 3));
     }
-    Parsed::Refused(3, p)
+    Err(Refusal(3, p))
 }
 
 // After `over`: the cell of `all`.
@@ -32,11 +32,8 @@ fn behind_over(text: &[u8], from: usize, d: usize) -> Parsed
     requires { from ≤ length text.now }
     ensures { (result ≡ when_answer (behind_over text.now d from)) × Ahead (length text.now) from result }
 {
-    let a = domain_due::word_due(text, from, d, b"all");
-    let Parsed::Done(after, _) = a else {
-        return a;
-    };
-    Parsed::Done(after, 2)
+    let (after, _) = domain_due::word_due(text, from, d, b"all")?;
+    Ok((after, 2))
 }
 
 // The cell of the time of a part whose first word stands from p to e.
@@ -52,5 +49,5 @@ pub fn time_of(text: &[u8], p: usize, e: usize, d: usize, over: bool) -> Parsed
             return behind_over(text, e, d);
         }
     }
-    Parsed::Refused(3, p)
+    Err(Refusal(3, p))
 }

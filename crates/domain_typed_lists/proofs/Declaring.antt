@@ -21,10 +21,8 @@ use Rattle.domain_meaning.specs.Read.{Read, got, refused, and_then, give, refuse
 use Rattle.domain_meaning.specs.Due.{after_of, wrong, on_word, opening, closing, is_name_word, Name, any_name, new_name}
 use Rattle.domain_meaning.specs.Tables.{Table, type_of, fresh}
 use Rattle.domain_meaning.specs.Lists.{variables_to, signature, declaration, declarations}
-use Rattle.domain_due.specs.Answers.{answer_of, name_of}
-use Rattle.domain_due.specs.declared.Parsed.{Parsed}
-use Rattle.domain_due.specs.declared.Parsed.TheVariants.{Done, Refused}
-use Rattle.domain_due.proofs.Dues.{not_close, word_in, name_in_lem, Named, any_named, answer_done, answer_refused}
+use Rattle.domain_due.specs.Answers.{answer_of, name_of, Parsed, Done, Refused}
+use Rattle.domain_due.proofs.Dues.{not_close, word_in, name_in_lem, Named, any_named, done_parts, refused_parts, answer_done, answer_refused}
 use Rattle.domain_rows.specs.Held.{rows_of, Holds}
 use Rattle.domain_meaning.specs.Indexes.{padded}
 use Rattle.domain_typed_lists.specs.Outcome.{Outcome, Signed}
@@ -49,7 +47,7 @@ new_any s d at v a h = same_name (any_name s d at) v a h
 name_token : (s : List ℕ) (d : ℕ) (t : Token) (v a : ℕ)
     → name_of (on_word t (λ k p e. cond (is_name_word k) (give (record { place = p; word = part s p e })) (refuse 3 p)) (wrong d t) (after_of t)) ≡ Done a v
     → t ≡ T.Word W.Name v a
-name_token s d (T.Word W.Name p e) v a h = let q : p ≡ v = cc in let r : e ≡ a = cc in rw (q, r)
+name_token s d (T.Word W.Name p e) v a h = let q = done_parts e a p v h in rw (q.0, q.1)
 name_token s d (T.Word W.Variable p e) v a h = absurd (let z : ◌≡◌ {A = ℕ} 0 1 = cc in let y : ⊥ = omega arith in y)
 name_token s d (T.Word W.Keyword p e) v a h = absurd (let z : ◌≡◌ {A = ℕ} 0 1 = cc in let y : ⊥ = omega arith in y)
 name_token s d (T.Word W.Operator p e) v a h = absurd (let z : ◌≡◌ {A = ℕ} 0 1 = cc in let y : ⊥ = omega arith in y)
@@ -101,9 +99,9 @@ pub record Signs (m : ℕ) (now : List ℕ) (a v : ℕ) (x : Read Table) : Type 
 pub signed_done : (x : Read Table) (m : ℕ) (r : Parsed) (was now : List ℕ) (a v : ℕ) → Signed m r was now x → r ≡ Done a v → m < length was → Signs m now a v x
 unfolding Signed
 signed_done (got t n) m r was now a v h e l =
-    let q = h.0 in
-    let n≡ : n ≡ a = cc q in
-    let v≡ : length t ≡ v = cc q in
+    let q = done_parts n a (length t) v (sym h.0 ∙ e) in
+    let n≡ : n ≡ a = q.0 in
+    let v≡ : length t ≡ v = q.1 in
     let long : length (length t ∷ map type_of t) ≡ v + 1 = omega (arith, length-map t type_of) in
     let b : v + 1 ≤ length was = omega (arith, h.1) in
     let is : take (v + 1) now ≡ length t ∷ map type_of t = ap (λ (y : List ℕ). take (v + 1) y) h.2
@@ -121,7 +119,7 @@ signed_done (refused k p) m r was now a v h e l = absurd (let z : ◌≡◌ {A =
 pub signed_refused : (x : Read Table) (m : ℕ) (r : Parsed) (was now : List ℕ) (k p : ℕ) → Signed m r was now x → r ≡ Refused k p → x ≡ refused k p
 unfolding Signed
 signed_refused (got t n) m r was now k p h e = absurd (let q = h.0 in let z : ◌≡◌ {A = ℕ} 0 1 = cc q in let y : ⊥ = omega arith in y)
-signed_refused (refused j q) m r was now k p h e = cc
+signed_refused (refused j q) m r was now k p h e = let z = refused_parts j k q p (sym h ∙ e) in rw (z.0, z.1)
 
 pub signs_refused : (m : ℕ) (r : Parsed) (was now : List ℕ) (k p : ℕ) (x : Read Table) → x ≡ refused k p → r ≡ Refused k p → Signed m r was now x
 unfolding Signed
@@ -179,10 +177,6 @@ pub record Declaring (s : List ℕ) (ts : Table) (max most : ℕ) (t₀ : Table)
   pub holds : Holds max rows n table
   pub on : (k : ℕ) → length s - from < k → (j : ℕ) × (length s - at < j) × (declarations k s ts max most t₀ from ≡ declarations j s ts max most table at)
 
-pub declaring_start : (s : List ℕ) (ts : Table) (max most : ℕ) (t : Table) (n from : ℕ) (rows : List ℕ) → Holds max rows n t
-    → Declaring s ts max most t from rows n from
-declaring_start s ts max most t n from rows h = record { table = t; holds = h; on = λ k q. (k, q, refl) }
-
 module _ (s : List ℕ) (ts : Table) (max most : ℕ) (t₀ : Table) (from : ℕ) (rows : List ℕ) (n at : ℕ) (o : Declaring s ts max most t₀ from rows n at) where
   whole : (x : Read Table) → ((j : ℕ) → declarations (suc j) s ts max most o.table at ≡ x)
       → (k : ℕ) → length s - from < k → declarations k s ts max most t₀ from ≡ x
@@ -210,10 +204,10 @@ module _ (s : List ℕ) (ts : Table) (max most : ℕ) (t₀ : Table) (from : ℕ
 
   module _ (c : Token) (z : c ≡ token_at s at) (w : OneOf (0 ∷ 1 ∷ 2 ∷ 4 ∷ 5 ∷ 6 ∷ []) (tag_of token-type.the_type c)) (d : Parsed)
       (y : d ≡ answer_of (opening s 14 at)) where
-    pub declaring_no_open : (r : List ℕ) (i p : ℕ) → d ≡ Refused i p → (k : ℕ) → length s - from < k → Outcome max d r (declarations k s ts max most t₀ from)
+    pub declaring_no_open : (r : List ℕ) (i p : ℕ) → d ≡ Refused i p → (k : ℕ) → length s - from < k → Outcome max (Refused i p) r (declarations k s ts max most t₀ from)
     declaring_no_open r i p e k h =
-        refuses max d r i p _ (whole (refused i p) (λ j. declarations_open j s ts max most o.table at c z w
-        ∙ simp (answer_refused (opening s 14 at) i p (sym y ∙ e))) k h) e
+        refuses max (Refused i p) r i p _ (whole (refused i p) (λ j. declarations_open j s ts max most o.table at c z w
+        ∙ simp (answer_refused (opening s 14 at) i p (sym y ∙ e))) k h) refl
 
     module _ (b p : ℕ) (q : d ≡ Done b p) (r : Parsed) (rows' : List ℕ) (out : Outcome max r rows' (declaration s ts max most o.table b)) where
       way : (j : ℕ) → declarations (suc j) s ts max most o.table at ≡ and_then (declaration s ts max most o.table b)
@@ -225,5 +219,5 @@ module _ (s : List ℕ) (ts : Table) (max most : ℕ) (t₀ : Table) (from : ℕ
           let x = outcome_done _ max r rows' a m out e in
           further x.table rows' m a x.holds lo hi (λ j. way j ∙ simp x.is)
 
-      pub declaring_refused : (i l : ℕ) → r ≡ Refused i l → (k : ℕ) → length s - from < k → Outcome max r rows' (declarations k s ts max most t₀ from)
-      declaring_refused i l e k h = refuses max r rows' i l _ (whole (refused i l) (λ j. way j ∙ simp (outcome_refused _ max r rows' i l out e)) k h) e
+      pub declaring_refused : (i l : ℕ) → r ≡ Refused i l → (k : ℕ) → length s - from < k → Outcome max (Refused i l) rows' (declarations k s ts max most t₀ from)
+      declaring_refused i l e k h = refuses max (Refused i l) rows' i l _ (whole (refused i l) (λ j. way j ∙ simp (outcome_refused _ max r rows' i l out e)) k h) refl

@@ -1,21 +1,19 @@
 -- The ways through `fresh`, `declare`, `group` and `typed`, and the invariant of the list's loop. Assumes nothing.
+use Rattle.std.specs.Prelude.{None, Option, Some, is_some}
 use mathlib.Core.Path.{◌≡◌, refl, sym, ◌∙◌}
 use mathlib.Core.List.{List, [], ◌∷◌, ◌++◌}
-use mathlib.Core.Bool.{Bool, true, false, cond}
+use mathlib.Core.Bool.{Bool, true, false, cond, true≢false}
 use Prim.Native.Nat.{ℕ, zero, suc, ◌+◌, ◌-◌, ◌≤◌, ◌<◌}
 use native.Mathlib.Omega.{arith}
 use borrow.Author.Tests.{lt-ltb, le-ltb}
 use lib.ListN.{length}
 use lib.Dec.{ltb}
-use Rattle.text_words.specs.declared.spelling.Place.{Place}
-use Rattle.text_words.specs.declared.spelling.Place.TheVariants as F
 use Rattle.text_tokens.specs.Runs.{part}
 use Rattle.domain_meaning.specs.Read.{Read, Reader, got, refused, and_then, give, refuse}
 use Rattle.domain_meaning.specs.Tables.{entry, Table, lookup, on_found, fresh, retype}
 use Rattle.domain_meaning.specs.Lists.{type_due, group, item, declare, waiting, typed, names_to}
 use Rattle.domain_meaning.specs.Lists as G
-use Rattle.domain_due.specs.declared.Parsed.{Parsed}
-use Rattle.domain_due.specs.declared.Parsed.TheVariants.{Done, Refused}
+use Rattle.domain_due.specs.Answers.{Parsed, Done, Refused}
 use Rattle.domain_rows.specs.Held.{Holds}
 use Rattle.domain_typed_lists.specs.Outcome.{Outcome}
 use Rattle.domain_typed_lists.proofs.Outcomes.{outcome_done, outcome_refused, refuses, reads}
@@ -23,17 +21,20 @@ use Rattle.domain_typed_lists.proofs.Outcomes.{outcome_done, outcome_refused, re
 -- ---- a name is declared
 
 module _ (max : ℕ) (t : Table) (p : ℕ) (w : List ℕ) (at : ℕ) where
-  pub fresh_known : (i : ℕ) → lookup t w ≡ F.At i → fresh max t p w at ≡ refused 7 p
+  pub fresh_known : (f : Option ℕ) → lookup t w ≡ f → is_some f ≡ true → fresh max t p w at ≡ refused 7 p
   unfolding fresh
-  fresh_known i e = simp e
+  fresh_known (Some i) e h = simp e
+  fresh_known None e h = absurd (true≢false (sym h))
 
-  pub fresh_full : lookup t w ≡ F.Nothing → max ≤ length t → fresh max t p w at ≡ refused 12 p
+  pub fresh_full : (f : Option ℕ) → lookup t w ≡ f → is_some f ≡ false → max ≤ length t → fresh max t p w at ≡ refused 12 p
   unfolding fresh
-  fresh_full e h = simp (e, le-ltb (length t) max h)
+  fresh_full (Some i) e n h = absurd (true≢false n)
+  fresh_full None e n h = simp (e, le-ltb (length t) max h)
 
-  pub fresh_new : lookup t w ≡ F.Nothing → length t < max → fresh max t p w at ≡ got p at
+  pub fresh_new : (f : Option ℕ) → lookup t w ≡ f → is_some f ≡ false → length t < max → fresh max t p w at ≡ got p at
   unfolding fresh
-  fresh_new e h = simp (e, lt-ltb (length t) max h)
+  fresh_new (Some i) e n h = absurd (true≢false n)
+  fresh_new None e n h = simp (e, lt-ltb (length t) max h)
 
   pub declare_done : (v a : ℕ) → fresh max t p w at ≡ got v a → declare max t p w at ≡ got (t ++ entry w (0 ∷ []) ∷ []) a
   unfolding declare
@@ -43,10 +44,10 @@ module _ (max : ℕ) (t : Table) (p : ℕ) (w : List ℕ) (at : ℕ) where
   unfolding declare
   declare_refused k q e = simp e
 
-stays : (f : Place) (b : Bool) (p at v a : ℕ) → on_found f (λ i. refuse 7 p) (cond b (give p) (refuse 12 p)) at ≡ got v a → a ≡ at
-stays (F.At i) b p at v a e = absurd (let z : ◌≡◌ {A = ℕ} 0 1 = cc in let y : ⊥ = omega arith in y)
-stays F.Nothing true p at v a e = cc
-stays F.Nothing false p at v a e = absurd (let z : ◌≡◌ {A = ℕ} 0 1 = cc in let y : ⊥ = omega arith in y)
+stays : (f : Option ℕ) (b : Bool) (p at v a : ℕ) → on_found f (λ i. refuse 7 p) (cond b (give p) (refuse 12 p)) at ≡ got v a → a ≡ at
+stays (Some i) b p at v a e = absurd (let z : ◌≡◌ {A = ℕ} 0 1 = cc in let y : ⊥ = omega arith in y)
+stays None true p at v a e = cc
+stays None false p at v a e = absurd (let z : ◌≡◌ {A = ℕ} 0 1 = cc in let y : ⊥ = omega arith in y)
 
 -- nothing is read by it
 pub fresh_stays : (max : ℕ) (t : Table) (p : ℕ) (w : List ℕ) (at v a : ℕ) → fresh max t p w at ≡ got v a → a ≡ at
@@ -110,10 +111,6 @@ pub record Going (s : List ℕ) (var own : Bool) (ts : Table) (max : ℕ) (t₀ 
   pub holds : Holds max rows n table
   pub on : (k : ℕ) → length s - from < k → (j : ℕ) × (length s - at < j) × (typed k s var own ts max t₀ g₀ from ≡ typed j s var own ts max table g at)
 
-pub going_start : (s : List ℕ) (var own : Bool) (ts : Table) (max : ℕ) (t : Table) (n from : ℕ) (rows : List ℕ) → Holds max rows n t
-    → Going s var own ts max t n from rows n n from
-going_start s var own ts max t n from rows h = record { table = t; holds = h; on = λ k q. (k, q, refl) }
-
 module _ (s : List ℕ) (var own : Bool) (ts : Table) (max : ℕ) (t₀ : Table) (g₀ from : ℕ) (rows : List ℕ) (n g at : ℕ)
     (o : Going s var own ts max t₀ g₀ from rows n g at) where
   -- the whole is what the rest is
@@ -154,8 +151,8 @@ module _ (s : List ℕ) (var own : Bool) (ts : Table) (max : ℕ) (t₀ : Table)
         let x = outcome_done _ max r rows' a m out d in
         further x.table rows' m m a x.holds lo hi (λ j _. way j ∙ simp (x.is, sym x.holds.count))
 
-    pub going_group_refused : (i c : ℕ) → r ≡ Refused i c → (k : ℕ) → length s - from < k → Outcome max r rows' (typed k s var own ts max t₀ g₀ from)
-    going_group_refused i c d k h = refuses max r rows' i c _ (whole (refused i c) (λ j _. way j ∙ simp (outcome_refused _ max r rows' i c out d)) k h) d
+    pub going_group_refused : (i c : ℕ) → r ≡ Refused i c → (k : ℕ) → length s - from < k → Outcome max (Refused i c) rows' (typed k s var own ts max t₀ g₀ from)
+    going_group_refused i c d k h = refuses max (Refused i c) rows' i c _ (whole (refused i c) (λ j _. way j ∙ simp (outcome_refused _ max r rows' i c out d)) k h) refl
 
   module _ (p b e : ℕ) (q : item s var at ≡ got (G.names p (part s b e)) e) (r : Parsed) (rows' : List ℕ)
       (out : Outcome max r rows' (declare max o.table p (part s b e) e)) where
@@ -165,9 +162,9 @@ module _ (s : List ℕ) (var own : Bool) (ts : Table) (max : ℕ) (t₀ : Table)
         let stay : a ≡ e = declare_stays max o.table p (part s b e) e x.table a x.is in
         further x.table rows' m g e x.holds lo hi (λ j _. typed_name j s var own ts max o.table g at p b e q ∙ simp (x.is, stay))
 
-    pub going_name_refused : (i c : ℕ) → r ≡ Refused i c → (k : ℕ) → length s - from < k → Outcome max r rows' (typed k s var own ts max t₀ g₀ from)
-    going_name_refused i c d k h = refuses max r rows' i c _
-        (whole (refused i c) (λ j _. typed_name j s var own ts max o.table g at p b e q ∙ simp (outcome_refused _ max r rows' i c out d)) k h) d
+    pub going_name_refused : (i c : ℕ) → r ≡ Refused i c → (k : ℕ) → length s - from < k → Outcome max (Refused i c) rows' (typed k s var own ts max t₀ g₀ from)
+    going_name_refused i c d k h = refuses max (Refused i c) rows' i c _
+        (whole (refused i c) (λ j _. typed_name j s var own ts max o.table g at p b e q ∙ simp (outcome_refused _ max r rows' i c out d)) k h) refl
 
 -- ---- lists with a table of their own, or after the names of one
 

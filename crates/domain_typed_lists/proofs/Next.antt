@@ -1,4 +1,5 @@
 -- What the next thing of a list is and where it lies, by cases on the token. Assumes nothing.
+use Rattle.std.specs.Prelude.{Result, Ok, Err}
 use mathlib.Core.Path.{◌≡◌, refl, sym, ◌∙◌, subst}
 use mathlib.Core.List.{List, [], ◌∷◌}
 use mathlib.Core.Bool.{Bool, true, false, cond}
@@ -21,20 +22,19 @@ use Rattle.domain_meaning.specs.Read.{Read, got, refused, give, refuse}
 use Rattle.domain_meaning.specs.Due.{after_of, number_of, place_of, wrong, on_word, on_close}
 use Rattle.domain_meaning.specs.Lists.{item_of, item}
 use Rattle.domain_meaning.specs.Lists as G
-use Rattle.domain_due.specs.declared.Parsed.{Parsed}
-use Rattle.domain_due.specs.declared.Parsed.TheVariants.{Done, Refused}
+use Rattle.domain_due.specs.declared.Refusal.{Refusal}
+use Rattle.domain_due.specs.Answers as A
 use Rattle.domain_due.proofs.Dues.{not_word, not_close}
 use Rattle.domain_typed_lists.specs.Items.{item_for}
 use Rattle.domain_typed_lists.specs.declared.items.Item.{Item}
-use Rattle.domain_typed_lists.specs.declared.items.Item.TheVariants.{Close, Dash, Name, Other}
+use Rattle.domain_typed_lists.specs.declared.items.Item.TheVariants.{Close, Dash, Name}
 
 -- what was read of s from `at` on, by what is answered: a name is the part of the text between its places
-unfoldable pub Lies : List ℕ → ℕ → Item → Read G.Item → Type 0
-Lies s at (Close n) x = (x ≡ got G.closes n) × (at < n) × (n ≤ length s)
-Lies s at (Dash p n) x = (x ≡ got (G.dash p) n) × (at < n) × (n ≤ length s)
-Lies s at (Name p a e) x = (x ≡ got (G.names p (part s a e)) e) × (at < e) × (e ≤ length s) × (length (part s a e) ≤ 32)
-Lies s at (Other (Done a v)) x = ⊥
-Lies s at (Other (Refused k p)) x = x ≡ refused k p
+unfoldable pub Lies : List ℕ → ℕ → Result Item Refusal → Read G.Item → Type 0
+Lies s at (Ok (Close n)) x = (x ≡ got G.closes n) × (at < n) × (n ≤ length s)
+Lies s at (Ok (Dash p n)) x = (x ≡ got (G.dash p) n) × (at < n) × (n ≤ length s)
+Lies s at (Ok (Name p a e)) x = (x ≡ got (G.names p (part s a e)) e) × (at < e) × (e ≤ length s) × (length (part s a e) ≤ 32)
+Lies s at (Err why) x = x ≡ refused why.0 why.1
 
 module _ (s : List ℕ) (at p e : ℕ) (lo : at ≤ p) (mid : p < e) (hi : e ≤ length s) where
   name_lies : (b : Bool) → e - p ≤ 32 → Lies s at (item_for false (cond b (refuse 3 p) (give (G.names p (part s p e))) e))
@@ -75,30 +75,29 @@ item_lies : (s : List ℕ) (var : Bool) (at : ℕ) → at ≤ length s → Lies 
 unfolding item
 item_lies s var at h = token_lies s at var (token_at s at) (token_within s at h)
 
-module _ (s : List ℕ) (var : Bool) (at : ℕ) (h : at ≤ length s) (r : Item) (q : r ≡ item_for var (item s var at)) where
-  lies_as : (i : Item) → r ≡ i → Lies s at i (item s var at)
-  lies_as i e = subst (λ (x : Item). Lies s at x (item s var at)) (sym q ∙ e) (item_lies s var at h)
+module _ (s : List ℕ) (var : Bool) (at : ℕ) (h : at ≤ length s) (r : Result Item Refusal) (q : r ≡ item_for var (item s var at)) where
+  lies_as : (i : Result Item Refusal) → r ≡ i → Lies s at i (item s var at)
+  lies_as i e = subst (λ (x : Result Item Refusal). Lies s at x (item s var at)) (sym q ∙ e) (item_lies s var at h)
 
-  pub item_close : (n : ℕ) → r ≡ Close n → (item s var at ≡ got G.closes n) × (at < n) × (n ≤ length s)
+  pub item_close : (n : ℕ) → r ≡ Ok (Close n) → (item s var at ≡ got G.closes n) × (at < n) × (n ≤ length s)
   unfolding Lies
-  item_close n e = lies_as (Close n) e
+  item_close n e = lies_as (Ok (Close n)) e
 
-  pub item_dash : (p n : ℕ) → r ≡ Dash p n → (item s var at ≡ got (G.dash p) n) × (at < n) × (n ≤ length s)
+  pub item_dash : (p n : ℕ) → r ≡ Ok (Dash p n) → (item s var at ≡ got (G.dash p) n) × (at < n) × (n ≤ length s)
   unfolding Lies
-  item_dash p n e = lies_as (Dash p n) e
+  item_dash p n e = lies_as (Ok (Dash p n)) e
 
-  pub item_name : (p a e : ℕ) → r ≡ Name p a e → (item s var at ≡ got (G.names p (part s a e)) e) × (at < e) × (e ≤ length s) × (length (part s a e) ≤ 32)
+  pub item_name : (p a e : ℕ) → r ≡ Ok (Name p a e) → (item s var at ≡ got (G.names p (part s a e)) e) × (at < e) × (e ≤ length s) × (length (part s a e) ≤ 32)
   unfolding Lies
-  item_name p a e d = lies_as (Name p a e) d
+  item_name p a e d = lies_as (Ok (Name p a e)) d
 
-  pub item_other : (a : Parsed) → r ≡ Other a → (i : ℕ) × (p : ℕ) × (a ≡ Refused i p) × (item s var at ≡ refused i p)
+  pub item_refused : (k p : ℕ) → r ≡ Err (A.at k p) → item s var at ≡ refused k p
   unfolding Lies
-  item_other (Done n v) e = absurd (lies_as (Other (Done n v)) e)
-  item_other (Refused i p) e = (i, p, refl, lies_as (Other (Refused i p)) e)
+  item_refused k p e = lies_as (Err (A.at k p)) e
 
 -- a token that is no bracket that closes and no word is refused
-pub item_else : (s : List ℕ) (var : Bool) (at : ℕ) (t : Token) (r : Parsed) → t ≡ token_at s at
+pub item_else : (s : List ℕ) (var : Bool) (at : ℕ) (t : Token) (r : Refusal) → t ≡ token_at s at
     → OneOf (0 ∷ 1 ∷ 2 ∷ 4 ∷ 5 ∷ 6 ∷ []) (tag_of token-type.the_type t)
-    → OneOf (1 ∷ 2 ∷ 3 ∷ 4 ∷ 5 ∷ 6 ∷ []) (tag_of token-type.the_type t) → r ≡ Refused (number_of 13 t) (place_of t) → Other r ≡ item_for var (item s var at)
+    → OneOf (1 ∷ 2 ∷ 3 ∷ 4 ∷ 5 ∷ 6 ∷ []) (tag_of token-type.the_type t) → r ≡ A.at (number_of 13 t) (place_of t) → Err r ≡ item_for var (item s var at)
 unfolding item
 item_else s var at t r e o w q = rw (← e, not_close t _ _ o, not_word t _ _ w, q)

@@ -1,4 +1,5 @@
 -- The ways to a type that is due. Assumes nothing.
+use Rattle.std.specs.Prelude.{None, Some, Err}
 use mathlib.Core.Path.{◌≡◌, refl}
 use mathlib.Core.List.{List, [], ◌∷◌}
 use Prim.Native.Nat.{ℕ, ◌+◌, ◌≤◌, ◌<◌}
@@ -8,14 +9,12 @@ use denote.Enum.Declared.{tag_of}
 use borrow.Author.Tests.{lt-ltb, le-ltb}
 use lib.ListN.{length}
 use Rattle.text_words.specs.Bytes.{bytes}
-use Rattle.text_words.specs.declared.spelling.Place.TheVariants as F
 use Rattle.text_tokens.specs.Runs.{part}
 use Rattle.text_tokens.specs.Tokens.{token_at, spot_at}
 use Rattle.text_tokens.specs.declared.tokens.Token.{Token}
 use Rattle.text_tokens.specs.declared.tokens.Token.TheVariants as T
 use Rattle.text_tokens.specs.declared.tokens.Word.{Word}
 use Rattle.text_tokens.specs.declared.tokens.Word.TheVariants as W
-use Rattle.text_tokens.specs.declared.tokens.Spot.TheVariants as P
 use Rattle.text_tokens.specs.contracts.tokens.Token as token-type
 use Rattle.text_tokens.specs.contracts.tokens.Word as word-type
 use Rattle.text_tokens.proofs.Within.{Within, token_within}
@@ -23,9 +22,7 @@ use Rattle.domain_meaning.specs.Read.{refused}
 use Rattle.domain_meaning.specs.Due.{after_of, number_of, place_of, wrong, on_open}
 use Rattle.domain_meaning.specs.Tables.{Table, lookup}
 use Rattle.domain_meaning.specs.Lists.{type_named, type_of_word, type_of_other, type_due}
-use Rattle.domain_due.specs.Answers.{answer_of, Ahead}
-use Rattle.domain_due.specs.declared.Parsed.{Parsed}
-use Rattle.domain_due.specs.declared.Parsed.TheVariants.{Done, Refused}
+use Rattle.domain_due.specs.Answers.{answer_of, Ahead, Parsed, Done, Refused}
 use Rattle.domain_due.proofs.Dues.{not_word, not_open}
 use Rattle.domain_typed_lists.specs.Outcome.{Below}
 
@@ -42,11 +39,11 @@ module _ (s : List ℕ) (from at : ℕ) where
   other_else t r e o q = rw (← e, not_open t _ _ o) q
 
   module _ (p n : ℕ) (e : token_at s from ≡ T.Open p n) where
-    pub other_bracket : spot_at s (p + 1) (bytes "either") ≡ P.Other
+    pub other_bracket : spot_at s (p + 1) (bytes "either") ≡ None
         → Refused 3 p ≡ answer_of (on_open (token_at s from) (type_of_other s) (wrong 13 (token_at s from)) at)
     other_bracket o = rw (e, o)
 
-    pub other_either : (a z : ℕ) → spot_at s (p + 1) (bytes "either") ≡ P.At a z
+    pub other_either : (a z : ℕ) → spot_at s (p + 1) (bytes "either") ≡ Some (a, z)
         → Refused 11 a ≡ answer_of (on_open (token_at s from) (type_of_other s) (wrong 13 (token_at s from)) at)
     other_either a z o = rw (e, o)
 
@@ -54,7 +51,7 @@ module _ (s : List ℕ) (from at : ℕ) where
 pub never_ahead : (r : Parsed) (n at : ℕ) → Below 0 r → Ahead n at r
 unfolding Below Ahead
 never_ahead (Done a v) n at h = absurd (let z : ⊥ = omega arith in z)
-never_ahead (Refused k p) n at h = tt
+never_ahead (Err why) n at h = tt
 
 -- ---- a word
 
@@ -77,14 +74,14 @@ module _ (s : List ℕ) (ts : Table) (b at : ℕ) where
   type_other k p e q o = rw (q, no_type s ts b k p e e o)
 
   module _ (p e : ℕ) (q : token_at s at ≡ T.Word W.Name p e) where
-    pub type_unknown : lookup ts (part s p e) ≡ F.Nothing → Refused 8 p ≡ answer_of (type_due s ts b at)
+    pub type_unknown : lookup ts (part s p e) ≡ None → Refused 8 p ≡ answer_of (type_due s ts b at)
     unfolding type_due type_named
     type_unknown f = rw (q, f)
 
-    pub type_late : (i : ℕ) → lookup ts (part s p e) ≡ F.At i → b ≤ i → Refused 8 p ≡ answer_of (type_due s ts b at)
+    pub type_late : (i : ℕ) → lookup ts (part s p e) ≡ Some i → b ≤ i → Refused 8 p ≡ answer_of (type_due s ts b at)
     unfolding type_due type_named
     type_late i f h = rw (q, f, le-ltb i b h)
 
-    pub type_known : (i : ℕ) → lookup ts (part s p e) ≡ F.At i → i < b → Done e i ≡ answer_of (type_due s ts b at)
+    pub type_known : (i : ℕ) → lookup ts (part s p e) ≡ Some i → i < b → Done e i ≡ answer_of (type_due s ts b at)
     unfolding type_due type_named
     type_known i f h = rw (q, f, lt-ltb i b h)

@@ -1,10 +1,9 @@
 -- What a function answers and what its rows hold, by what the definition says is read; and what a caller may count on.
-use Rattle.std.specs.Prelude.{◌≡◌, ℕ, ◌≤◌, ◌<◌, List, ◌∷◌, map, length}
+use Rattle.std.specs.Prelude.{◌≡◌, ℕ, ◌≤◌, ◌<◌, List, ◌∷◌, map, length, Err}
 use Rattle.std.proofs.lemmas.List.Edits.{sets}
 use Rattle.domain_meaning.specs.Read.{Read, got, refused}
 use Rattle.domain_meaning.specs.Tables.{Table, type_of}
-use Rattle.domain_due.specs.declared.Parsed.{Parsed}
-use Rattle.domain_due.specs.declared.Parsed.TheVariants.{Done, Refused}
+use Rattle.domain_due.specs.Answers.{Parsed, Done, Refused}
 use Rattle.domain_rows.specs.Held.{Holds}
 
 -- a table was read: the answer has its length, and the m rows hold it
@@ -20,9 +19,9 @@ Signed m r was now (refused k p) = r ≡ Refused k p
 -- the number read is below b
 unfoldable pub Below : ℕ → Parsed → Type 0
 Below b (Done a v) = v < b
-Below b (Refused k p) = Unit {0}
+Below b (Err why) = Unit {0}
 
 -- there is room for a name more
 unfoldable pub Room : ℕ → ℕ → Parsed → Type 0
 Room m n (Done a v) = n < m
-Room m n (Refused k p) = Unit {0}
+Room m n (Err why) = Unit {0}

@@ -27,12 +27,9 @@ fn signature_to(
         → Signed most result info.old info.new (variables_to text.now ts most from))
         × Ahead (length text.now) from result }
 {
-    let a = typed::variables_to(text, from, types, tn, rows, most);
-    let Parsed::Done(after, n) = a else {
-        return a;
-    };
+    let (after, n) = typed::variables_to(text, from, types, tn, rows, most)?;
     domain_rows::signature(rows, most, n, info);
-    Parsed::Done(after, n)
+    Ok((after, n))
 }
 
 // After the opening bracket of one declaration, of at most 3 variables.
@@ -51,24 +48,15 @@ fn declaration_at(
         → Outcome max result rows.new (declaration text.now ts max most t from))
         × Ahead (length text.now) from result }
 {
-    let h = domain_due::new_name(text, from, 13);
-    let Parsed::Done(end, start) = h else {
-        return h;
-    };
-    let f = typed::fresh_at(text, start, start, end, rows, max, n);
-    let Parsed::Done(_, _) = f else {
-        return f;
-    };
+    let (end, start) = domain_due::new_name(text, from, 13)?;
+    typed::fresh_at(text, start, start, end, rows, max, n)?;
     let mut table = [0u8; 3 * ROW];
     let width = ROW * most;
     let mut info = [0u8; 4];
-    let a = signature_to(text, end, types, tn, &mut table[..width], most, &mut info);
-    let Parsed::Done(after, vn) = a else {
-        return a;
-    };
+    let (after, vn) = signature_to(text, end, types, tn, &mut table[..width], most, &mut info)?;
     let m = vn + 1;
     domain_rows::enter(rows, max, n, runs::part_of(text, start, end), &info[..m]);
-    Parsed::Done(after, n + 1)
+    Ok((after, n + 1))
 }
 
 // The rest of the declarations, to the closing bracket: at most `max`, each of at most `most` variables.
@@ -92,16 +80,10 @@ pub fn declarations_at(
     loop {
         let c = tokens::token_at(text, at);
         if let Token::Close(_, next) = c {
-            return Parsed::Done(next, n);
+            return Ok((next, n));
         }
-        let o = domain_due::opening(text, at, 14);
-        let Parsed::Done(inside, _) = o else {
-            return o;
-        };
-        let a = declaration_at(text, inside, types, tn, rows, max, most, n);
-        let Parsed::Done(after, m) = a else {
-            return a;
-        };
+        let (inside, _) = domain_due::opening(text, at, 14)?;
+        let (after, m) = declaration_at(text, inside, types, tn, rows, max, most, n)?;
         at = after;
         n = m;
     }

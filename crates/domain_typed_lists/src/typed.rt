@@ -10,11 +10,10 @@ ghost use Rattle.domain_typed_lists.specs.Outcome.{Outcome, Below, Room};
 
 use crate::items::Item;
 use crate::{items, types};
-use domain_due::Parsed;
+use domain_due::{Parsed, Refusal};
 use domain_rows::layout;
 use text_tokens::runs;
 use text_words::names;
-use text_words::spelling::Place;
 
 // Whether the name may be declared in the table.
 pub fn fresh_at(
@@ -29,14 +28,13 @@ pub fn fresh_at(
     ensures { ((m : ℕ) (t : Table) → Holds m rows.now n t → result ≡ answer_of (fresh max t place (part text.now start end) end))
         × Room max n result }
 {
-    let f = names::find(rows, n, runs::part_of(text, start, end));
-    let Place::Nothing = f else {
-        return Parsed::Refused(7, place);
+    if names::find(rows, n, runs::part_of(text, start, end)).is_some() {
+        return Err(Refusal(7, place));
     };
     if max <= n {
-        return Parsed::Refused(12, place);
+        return Err(Refusal(12, place));
     }
-    Parsed::Done(end, place)
+    Ok((end, place))
 }
 
 // A name more in the table, an object.
@@ -53,13 +51,10 @@ fn declare_name(
     ensures { (t : Table) → Holds max rows.old n t
         → Outcome max result rows.new (declare max t place (part text.now start end) end) }
 {
-    let f = fresh_at(text, place, start, end, rows, max, n);
-    let Parsed::Done(after, _) = f else {
-        return f;
-    };
+    let (after, _) = fresh_at(text, place, start, end, rows, max, n)?;
     let object = [0u8; 1];
     domain_rows::enter(rows, max, n, runs::part_of(text, start, end), &object);
-    Parsed::Done(after, n + 1)
+    Ok((after, n + 1))
 }
 
 // After a dash: a type's parent stands before the group, any other type is in `types`.
@@ -103,14 +98,11 @@ fn group_at(
         × Ahead (length text.now) from result }
 {
     if n <= g {
-        return Parsed::Refused(3, p);
+        return Err(Refusal(3, p));
     }
-    let a = type_of_group(text, from, own, types, tn, rows, g, n);
-    let Parsed::Done(after, k) = a else {
-        return a;
-    };
+    let (after, k) = type_of_group(text, from, own, types, tn, rows, g, n)?;
     domain_rows::fill(rows, max, g, n, k as u8);
-    Parsed::Done(after, n)
+    Ok((after, n))
 }
 
 // The list's rest, to its closing bracket: of names or of variables (`var`), of types (`own`) or of what has a type of `types`.
@@ -132,26 +124,19 @@ pub fn typed_list(
 {
     let mut g = n;
     loop {
-        match items::item_at(text, at, var) {
-            Item::Close(next) => return Parsed::Done(next, n),
+        match items::item_at(text, at, var)? {
+            Item::Close(next) => return Ok((next, n)),
             Item::Dash(p, next) => {
-                let a = group_at(text, p, next, own, types, tn, rows, max, g, n);
-                let Parsed::Done(after, m) = a else {
-                    return a;
-                };
+                let (after, m) = group_at(text, p, next, own, types, tn, rows, max, g, n)?;
                 at = after;
                 n = m;
                 g = m;
             }
             Item::Name(place, start, end) => {
-                let a = declare_name(text, place, start, end, rows, max, n);
-                let Parsed::Done(_, m) = a else {
-                    return a;
-                };
+                let (_, m) = declare_name(text, place, start, end, rows, max, n)?;
                 at = end;
                 n = m;
             }
-            Item::Other(a) => return a,
         }
     }
 }

@@ -8,11 +8,10 @@ ghost use Rattle.domain_due.specs.Answers.{answer_of, Ahead};
 ghost use Rattle.domain_rows.specs.Held.{Holds};
 ghost use Rattle.domain_typed_lists.specs.Outcome.{Below};
 
-use domain_due::Parsed;
+use domain_due::{Parsed, Refusal};
 use text_tokens::tokens;
-use text_tokens::tokens::{Spot, Token, Word};
+use text_tokens::tokens::{Token, Word};
 use text_words::names;
-use text_words::spelling::Place;
 
 // The token at `from`, which is no word, is refused: there is no number to answer.
 fn no_word(text: &[u8], from: usize) -> Parsed
@@ -23,13 +22,12 @@ fn no_word(text: &[u8], from: usize) -> Parsed
 {
     let t = tokens::token_at(text, from);
     let Token::Open(p, _) = t else {
-        return domain_due::refusal(t, 13);
+        return Err(domain_due::not_due(t, 13));
     };
-    let o = tokens::spot_at(text, p + 1, b"either");
-    let Spot::At(q, _) = o else {
-        return Parsed::Refused(3, p);
+    let Some((q, _)) = tokens::spot_at(text, p + 1, b"either") else {
+        return Err(Refusal(3, p));
     };
-    Parsed::Refused(11, q)
+    Err(Refusal(11, q))
 }
 
 // The number of the type that is named next, one of the first b of the n in the table.
@@ -43,14 +41,13 @@ pub fn type_due(text: &[u8], from: usize, rows: &[u8], n: usize, b: usize) -> Pa
         return no_word(text, from);
     };
     let Word::Name = k else {
-        return Parsed::Refused(3, p);
+        return Err(Refusal(3, p));
     };
-    let f = names::find(rows, n, tokens::word_of(text, t));
-    let Place::At(i) = f else {
-        return Parsed::Refused(8, p);
+    let Some(i) = names::find(rows, n, tokens::word_of(text, t)) else {
+        return Err(Refusal(8, p));
     };
     if b <= i {
-        return Parsed::Refused(8, p);
+        return Err(Refusal(8, p));
     }
-    Parsed::Done(e, i)
+    Ok((e, i))
 }

@@ -1,16 +1,13 @@
 -- Numbers of the range lie near 0, and every value that is computed or stored is one of the range or none. Assumes nothing.
-use mathlib.Core.Path.{◌≡◌, refl, sym, ◌∙◌}
-use mathlib.Core.List.{List, [], ◌∷◌}
+use mathlib.Core.Path.{◌≡◌, refl}
+use mathlib.Core.List.{List}
 use mathlib.Core.Bool.{Bool, true, false, cond}
-use Prim.Native.Nat.{ℕ, zero, suc, ◌≤◌, ◌<◌, ◌^◌}
-use native.Mathlib.Nat.{not-suc-le-zero, le_of_suc-le-suc}
+use Prim.Native.Nat.{ℕ, ◌≤◌, ◌<◌, ◌^◌}
 use native.Mathlib.Omega.{arith}
-use lib.ListN.{length, get_or, get_or-eq_default}
 use lib.IntN.{ℤ, pos, negsuc, neg_ℤ, ◌+ℤ◌, ◌-ℤ◌}
 use lib.Signed.{mag, le_z}
 use borrow.Author.Tests.{leb-true}
 use Rattle.base_laws.proofs.Splits.{and_left, and_right}
-use Rattle.domain_meaning.specs.First.{undefined}
 use Rattle.happening_meaning.specs.State.{inside, within, defined, stored, number_at, plus_of, less_of, minus_of}
 use Rattle.happening_meaning.specs.declared.Value.{Value}
 use Rattle.happening_meaning.specs.declared.Value.TheVariants.{Number, Undefined, Range}
@@ -23,47 +20,6 @@ inside_le (negsuc n) h = omega (arith, leb-true n 999999999999 (and_right (le_z 
 
 pub inside_mag : (z : ℤ) → inside z ≡ true → mag z < 2 ^ 61
 inside_mag z h = omega (arith, inside_le z h)
-
--- ---- what the two tests tell
-
-pub is_in : (z : ℤ) (r : Bool) → le_z z (pos 1000000000000) ≡ true → r ≡ le_z (negsuc 999999999999) z → r ≡ inside z
-unfolding inside
-is_in z r h e = rw h e
-
-pub is_out : (z : ℤ) → le_z z (pos 1000000000000) ≡ false → false ≡ inside z
-unfolding inside
-is_out z h = rw h
-
-pub within_in : (z : ℤ) {y : ℤ} → inside z ≡ true → y ≡ z → Number y ≡ within z
-unfolding within
-within_in z h e = rw (h, e)
-
-pub within_out : (z : ℤ) → inside z ≡ false → Range ≡ within z
-unfolding within
-within_out z h = rw h
-
-pub defined_in : (z : ℤ) {y : ℤ} → inside z ≡ true → y ≡ z → Number y ≡ defined z
-unfolding defined
-defined_in z h e = rw (h, e)
-
-pub defined_out : (z : ℤ) → inside z ≡ false → Undefined ≡ defined z
-unfolding defined
-defined_out z h = rw h
-
--- ---- the number at an index
-
-default : (ns : List ℤ) (i : ℕ) (d e : ℤ) → i < length ns → get_or ns i d ≡ get_or ns i e
-default [] i d e h = absurd (not-suc-le-zero h)
-default (z ∷ ns) zero d e h = refl
-default (z ∷ ns) (suc i) d e h = default ns i d e (le_of_suc-le-suc h)
-
-pub number_there : (ns : List ℤ) (i : ℕ) (d : ℤ) {y : ℤ} → i < length ns → y ≡ get_or ns i d → y ≡ number_at ns i
-unfolding number_at
-number_there ns i d h e = e ∙ default ns i d undefined h
-
-pub number_past : (ns : List ℤ) (i : ℕ) → length ns ≤ i → undefined ≡ number_at ns i
-unfolding number_at
-number_past ns i h = sym (get_or-eq_default ns undefined h)
 
 -- ---- values of the range
 

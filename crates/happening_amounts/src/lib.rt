@@ -1,9 +1,9 @@
-// Numbers of the state and of expressions: exact within a million million thousandths of 0, both ends included. Signed work stands here and nowhere else.
+// Numbers of the state and of expressions: exact within a million million thousandths of 0, both ends included. Signed sums stand here and nowhere else.
 #![tactic(auto)]
 
 ghost use Rattle.std.specs.Prelude.{◌≡◌, ◌<◌, ◌^◌, neg_ℤ, ◌+ℤ◌, ◌-ℤ◌};
 ghost use Rattle.std.specs.Int.Signed.{mag, le_z};
-ghost use Rattle.happening_meaning.specs.State.{inside, within, number_at, stored, plus_of, less_of, minus_of};
+ghost use Rattle.happening_meaning.specs.State.{inside, within, plus_of, less_of, minus_of};
 ghost use Rattle.happening_amounts.specs.Ranged.{Ranged};
 
 use happening_meaning::Value;
@@ -35,26 +35,27 @@ pub fn negation(a: i64) -> i64
     -a
 }
 
+#[tactic(auto, unfolding(happening_meaning::specs::State::inside))]
 pub fn is_inside(z: i64) -> bool
     ensures { result ≡ inside z }
 {
-    if at_most(z, 1000000000000) {
-        return at_most(-1000000000000, z);
-    }
-    false
+    z <= 1000000000000 && -1000000000000 <= z
 }
 
 // A number, or `range` outside it.
+#[tactic(auto, unfolding(happening_meaning::specs::State::within))]
 pub fn ranged(z: i64) -> Value
     ensures { result ≡ within z }
 {
     if is_inside(z) {
-        return Value::Number(z);
+        Value::Number(z)
+    } else {
+        Value::Range
     }
-    Value::Range
 }
 
 // The first of two values that is no number decides.
+#[tactic(auto, using(crate::proofs::Ranges::ranged_mag), unfolding(happening_meaning::specs::State::plus_of))]
 pub fn plus(a: Value, b: Value) -> Value
     requires { Ranged a × Ranged b }
     ensures { result ≡ plus_of a b }
@@ -68,6 +69,7 @@ pub fn plus(a: Value, b: Value) -> Value
     ranged(sum(x, y))
 }
 
+#[tactic(auto, using(crate::proofs::Ranges::ranged_mag), unfolding(happening_meaning::specs::State::less_of))]
 pub fn less(a: Value, b: Value) -> Value
     requires { Ranged a × Ranged b }
     ensures { result ≡ less_of a b }
@@ -81,6 +83,7 @@ pub fn less(a: Value, b: Value) -> Value
     ranged(difference(x, y))
 }
 
+#[tactic(auto, using(crate::proofs::Ranges::ranged_mag))]
 pub fn minus(a: Value) -> Value
     requires { Ranged a }
     ensures { result ≡ minus_of a }
@@ -89,25 +92,4 @@ pub fn minus(a: Value) -> Value
         return a;
     };
     ranged(negation(x))
-}
-
-// The number at an index, as it is stored; past the end the one that says it is undefined.
-pub fn number(numbers: &[i64], i: usize) -> i64
-    ensures { result ≡ number_at numbers.now i }
-{
-    if i < numbers.len() {
-        return numbers[i];
-    }
-    -1000000000001
-}
-
-// The number at an index, if it is defined.
-pub fn given(numbers: &[i64], i: usize) -> Value
-    ensures { result ≡ stored numbers.now i }
-{
-    let z = number(numbers, i);
-    if is_inside(z) {
-        return Value::Number(z);
-    }
-    Value::Undefined
 }

@@ -2,8 +2,4 @@
 pub mod Shapes
 pub mod Ranging
 pub mod Numerals
-pub mod Valuing
-pub mod Finding
-pub mod Masking
-pub mod Passing
 pub mod Framing

@@ -1,14 +1,10 @@
--- The bytes of a number, read from the last to the first, and what its first byte says. Assumes nothing.
-use mathlib.Core.Path.{◌≡◌, ◌∙◌}
+-- The bytes of a number, read from the last to the first. Assumes nothing.
+use mathlib.Core.Path.{◌≡◌}
 use mathlib.Core.List.{List}
-use mathlib.Core.Bool.{cond}
-use Prim.Native.Nat.{ℕ, zero, suc, ◌+◌, ◌-◌, ◌*◌, ◌/◌, ◌%◌, ◌≤◌, ◌<◌}
+use Prim.Native.Nat.{ℕ, zero, suc, ◌+◌, ◌-◌, ◌*◌, ◌≤◌, ◌<◌}
 use native.Mathlib.Omega.{arith}
-use lib.IntN.{ℤ, pos, ◌-ℤ◌}
-use borrow.Author.Tests.{lt-ltb, le-ltb, ne_eqb}
-use Rattle.domain_literals.specs.Literal.{size_in, is_whole}
 use Rattle.domain_rows.specs.Held.{byte_at}
-use Rattle.domain_stored_meaning.specs.Decode.{little_at, number_at}
+use Rattle.domain_stored_meaning.specs.Decode.{little_at}
 
 -- how many numbers k bytes tell apart
 unfoldable pub many : ℕ → ℕ
@@ -58,24 +54,3 @@ module _ (rows : List ℕ) (at k : ℕ) where
       let p : at + i ≡ at = omega arith in
       let q : k - i ≡ k = omega arith in
       rw (p, q) at r.is
-
--- ---- the number after its first byte
-
-abbrev pub amount_at : List ℕ → ℕ → ℕ → ℕ
-amount_at rows at tag = cond (is_whole tag) (little_at rows at (size_in tag) * 1000) (little_at rows at (size_in tag))
-
-module _ (rows : List ℕ) (at tag : ℕ) {t m₀ m : ℕ} (et : t ≡ tag - 16) (em : m₀ ≡ little_at rows at (t % 8)) where
-  pub wholes : 15 < t → m ≡ m₀ * 1000 → m ≡ amount_at rows at tag
-  wholes h e = rw (← et, lt-ltb 15 t h, ← em) e
-
-  pub thousandths : t ≤ 15 → m ≡ m₀ → m ≡ amount_at rows at tag
-  thousandths h e = rw (← et, le-ltb 15 t h, ← em) e
-
-module _ (rows : List ℕ) (at tag : ℕ) {t m : ℕ} {s z : ℤ} (et : t ≡ tag - 16) (em : m ≡ amount_at rows at tag) (es : s ≡ pos m) (ez : z ≡ s) where
-  pub number_negative : {r y : ℤ} → t / 8 % 2 ≡ 1 → r ≡ pos 0 -ℤ z → y ≡ r → y ≡ number_at rows at tag
-  unfolding number_at
-  number_negative h e f = rw (← em, ← et, h) (f ∙ rw (ez ∙ es) at e)
-
-  pub number_positive : (t / 8 % 2 ≡ 1 → ⊥) → z ≡ number_at rows at tag
-  unfolding number_at
-  number_positive h = rw (← em, ← et, ne_eqb (t / 8 % 2) 1 h) (ez ∙ es)

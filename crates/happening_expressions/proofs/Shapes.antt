@@ -22,25 +22,9 @@ two_of false a b = plus a b
 
 module _ (rows : List ℕ) (at : ℕ) where
   module _ (tag : ℕ) where
-    pub leaf_low : tag < 5 → leaf_at rows at tag ≡ no_expr (at + 1)
-    unfolding leaf_at
-    leaf_low h = rw (lt-ltb tag 5 h)
-
     pub leaf_value : 5 ≤ tag → tag < 8 → leaf_at rows at tag ≡ decoded (value (ref_by (form_at rows (at + 1) (tag - 5)))) (at + 3 + (tag - 5))
     unfolding leaf_at
     leaf_value l h = rw (le-ltb tag 5 l, lt-ltb tag 8 h)
-
-    pub leaf_gap : 8 ≤ tag → tag < 16 → leaf_at rows at tag ≡ no_expr (at + 1)
-    unfolding leaf_at
-    leaf_gap l h = rw (le-ltb tag 5 (omega arith), le-ltb tag 8 l, lt-ltb tag 16 h)
-
-    pub leaf_number : 16 ≤ tag → size_in tag < 6 → leaf_at rows at tag ≡ decoded (number (number_at rows (at + 1) tag)) (at + 1 + size_in tag)
-    unfolding leaf_at
-    leaf_number l h = rw (le-ltb tag 5 (omega arith), le-ltb tag 8 (omega arith), le-ltb tag 16 l, lt-ltb (size_in tag) 6 h)
-
-    pub leaf_long : 16 ≤ tag → 6 ≤ size_in tag → leaf_at rows at tag ≡ no_expr (at + 1)
-    unfolding leaf_at
-    leaf_long l h = rw (le-ltb tag 5 (omega arith), le-ltb tag 8 (omega arith), le-ltb tag 16 l, le-ltb (size_in tag) 6 h)
 
     -- what reads nothing
     plain : (p q : Bool) (m : ℤ) (i j k : ℕ)
@@ -50,7 +34,8 @@ module _ (rows : List ℕ) (at : ℕ) where
     plain false false m i j k = refl
 
     pub leaf_none : tag < 5 → (leaf_at rows at tag).tree ≡ number (pos 0)
-    leaf_none h = rw (leaf_low h)
+    unfolding leaf_at
+    leaf_none h = rw (lt-ltb tag 5 h)
 
     pub leaf_plain : 8 ≤ tag
         → (leaf_at rows at tag).tree ≡ number (cond (ltb tag 16) (pos 0) (cond (ltb (size_in tag) 6) (number_at rows (at + 1) tag) (pos 0)))
@@ -68,13 +53,14 @@ module _ (rows : List ℕ) (at : ℕ) where
   expr_past zero h = refl
   expr_past (suc d) h = rw (le-ltb at (length rows) h)
 
-  node : (d p : ℕ) → d ≡ suc p → at < length rows → expr_at d rows at ≡ expr_node (expr_at p rows) rows at (byte_at rows at)
+  pub expr_here : (d : ℕ) → (d ≡ 0 → ⊥) → at < length rows → expr_at d rows at ≡ expr_node (expr_at (d - 1) rows) rows at (byte_at rows at)
   unfolding expr_at
-  node d p e h = rw (e, lt-ltb at (length rows) h)
+  expr_here zero n h = absurd (n refl)
+  expr_here (suc d) n h = let z : suc d - 1 ≡ d = omega arith in rw (z, lt-ltb at (length rows) h)
 
   module _ (d : ℕ) {tag : ℕ} (n : d ≡ 0 → ⊥) (h : at < length rows) (g : tag ≡ byte_at rows at) where
     by_tag : expr_at d rows at ≡ expr_node (expr_at (d - 1) rows) rows at tag
-    by_tag = let k : d ≡ suc (d - 1) = omega arith in rw g (node d (d - 1) k h)
+    by_tag = rw g (expr_here d n h)
 
     pub expr_leaf : 2 < tag → expr_at d rows at ≡ leaf_at rows at tag
     unfolding expr_node

@@ -3,34 +3,24 @@ ghost use Rattle.std.specs.Prelude.{◌≡◌, ◌<◌, length};
 ghost use Rattle.domain_prepared_meaning.specs.Decode.{leaf_at, expr_at};
 
 // An expression without parts.
+#[tactic(auto, unfolding(domain_prepared_meaning::specs::Decode::leaf_at))]
 pub fn leaf_end(rows: &[u8], at: usize, tag: usize) -> usize
     requires { at < length rows.now }
     ensures { result ≡ (leaf_at rows.now at tag).next }
 {
-    if tag < 5 {
-        return at + 1;
+    match tag {
+        5..=7 => at + 3 + (tag - 5),
+        16.. if (tag - 16) % 8 < 6 => at + 1 + (tag - 16) % 8,
+        _ => at + 1,
     }
-    if tag < 8 {
-        return at + 3 + (tag - 5);
-    }
-    if tag < 16 {
-        return at + 1;
-    }
-    let size = (tag - 16) % 8;
-    if size < 6 {
-        return at + 1 + size;
-    }
-    at + 1
 }
 
 // The place after the expression at a place, at most so many levels deep.
+#[tactic(auto, using(crate::proofs::Shapes::expr_none, crate::proofs::Shapes::expr_past, crate::proofs::Shapes::expr_here), unfolding(domain_prepared_meaning::specs::Decode::expr_node))]
 pub fn expr_end(rows: &[u8], at: usize, depth: usize) -> usize
     ensures { result ≡ (expr_at depth rows.now at).next }
 {
-    if depth == 0 {
-        return at;
-    }
-    if rows.len() <= at {
+    if depth == 0 || rows.len() <= at {
         return at;
     }
     let tag = happening_forms::cell(rows, at);

@@ -5,14 +5,9 @@ ghost use Rattle.happening_forms.specs.Summed.{summed, four_at};
 ghost use Rattle.happening_expressions.specs.Evaluated.{expr_found};
 
 use crate::ends;
+use happening_forms::Taken;
 
-// Whether something is read, and the place after what was looked at.
-#[derive(Clone, Copy)]
-pub struct Found {
-    pub found: bool,
-    pub next: usize,
-}
-
+#[tactic(auto, using(happening_forms::proofs::Placing::number_at), unfolding(domain_prepared_meaning::specs::Decode::leaf_at, crate::specs::Evaluated::expr_found, happening_meaning::specs::Writes::expr_reads))]
 fn leaf<'a>(
     rows: &'a [u8],
     objects: &'a [u8; 256],
@@ -20,31 +15,22 @@ fn leaf<'a>(
     at: usize,
     tag: usize,
     x: usize,
-) -> Found
+) -> Taken<bool>
     requires { (k < 64) × (at < length rows.now) }
     ensures { result ≡ expr_found summed (four_at objects.now k) x (leaf_at rows.now at tag) }
 {
     let next = ends::leaf_end(rows, at, tag);
-    if tag < 5 {
-        return Found {
-            found: false,
-            next: next,
-        };
-    }
-    if tag < 8 {
-        let i = happening_forms::index(rows, objects, k, at + 1, tag - 5);
-        return Found {
-            found: i == x,
-            next: next,
-        };
-    }
-    Found {
-        found: false,
-        next: next,
+    match tag {
+        5..=7 => Taken {
+            what: happening_forms::index(rows, objects, k, at + 1, tag - 5) == x,
+            next,
+        },
+        _ => Taken { what: false, next },
     }
 }
 
 // Whether the expression at a place, at most so many levels deep, reads number x.
+#[tactic(auto, using(crate::proofs::Shapes::expr_none, crate::proofs::Shapes::expr_past, crate::proofs::Shapes::expr_here), unfolding(domain_prepared_meaning::specs::Decode::expr_node, crate::specs::Evaluated::expr_found, happening_meaning::specs::Writes::expr_reads))]
 pub fn expr_reads<'a>(
     rows: &'a [u8],
     objects: &'a [u8; 256],
@@ -52,19 +38,13 @@ pub fn expr_reads<'a>(
     at: usize,
     depth: usize,
     x: usize,
-) -> Found
+) -> Taken<bool>
     requires { k < 64 }
     ensures { result ≡ expr_found summed (four_at objects.now k) x (expr_at depth rows.now at) }
 {
-    if depth == 0 {
-        return Found {
-            found: false,
-            next: at,
-        };
-    }
-    if rows.len() <= at {
-        return Found {
-            found: false,
+    if depth == 0 || rows.len() <= at {
+        return Taken {
+            what: false,
             next: at,
         };
     }
@@ -77,8 +57,8 @@ pub fn expr_reads<'a>(
         return a;
     }
     let b = expr_reads(rows, objects, k, a.next, depth - 1, x);
-    Found {
-        found: a.found || b.found,
+    Taken {
+        what: a.what || b.what,
         next: b.next,
     }
 }

@@ -9,17 +9,13 @@ ghost use Rattle.domain_prepared_meaning.specs.Forms.{index_by};
 ghost use Rattle.domain_prepared_meaning.specs.Decode.{word_at, form_at};
 ghost use Rattle.happening_forms.specs.Summed.{four_at};
 
-fn wide(x: u8) -> usize
-    ensures { (result ≡ x) × (result < 256) }
-{
-    x as usize
-}
+pub use domain_rows::cell;
 
-// A byte of the rows, 0 past their end.
-pub fn cell(rows: &[u8], at: usize) -> usize
-    ensures { (result ≡ byte_at rows.now at) × (result < 256) }
-{
-    wide(domain_rows::byte(rows, at))
+// What is found at a place of the rows, and the place after it.
+#[derive(Clone, Copy)]
+pub struct Taken<T> {
+    pub what: T,
+    pub next: usize,
 }
 
 // Two bytes, the lowest first.
@@ -31,47 +27,25 @@ pub fn word(rows: &[u8], at: usize) -> usize
 }
 
 // Object i of point k.
+#[tactic(auto, using(crate::proofs::Placing::four))]
 fn object(objects: &[u8; 256], k: usize, i: usize) -> usize
     requires { (k < 64) × (i < 4) }
     ensures { (result ≡ get_or (four_at objects.now k) i 0) × (result < 256) }
 {
-    let j = 4 * k + i;
-    wide(objects[j])
-}
-
-// n times itself, up to three times.
-fn power(n: usize, p: usize) -> usize
-    requires { (n < 256) × (p < 4) }
-    ensures { (result ≡ n ^ p) × (result < 16777216) }
-{
-    if p == 0 {
-        return 1;
-    }
-    if p == 1 {
-        return n;
-    }
-    if p == 2 {
-        return n * n;
-    }
-    n * n * n
-}
-
-fn times(m: usize, x: usize) -> usize
-    requires { (m < 16777216) × (x < 256) }
-    ensures { (result ≡ m * x) × (result < 4294967296) }
-{
-    m * x
+    objects[4 * k + i] as usize
 }
 
 // What a parameter adds to the index, with n objects: x has its number, and 4 times the power of its stride.
+#[tactic(auto, using(crate::proofs::Placing::power_below))]
 fn part(objects: &[u8; 256], k: usize, n: usize, x: usize) -> usize
     requires { (k < 64) × (n < 256) }
     ensures { (result ≡ n ^ (x / 4 % 4) * get_or (four_at objects.now k) (x % 4) 0) × (result < 4294967296) }
 {
-    times(power(n, x / 4 % 4), object(objects, k, x % 4))
+    n.pow((x / 4 % 4) as u32) * object(objects, k, x % 4)
 }
 
 // The index of the fact or number whose form is at a place, with v parameters.
+#[tactic(auto, unfolding(domain_prepared_meaning::specs::Forms::index_by, domain_prepared_meaning::specs::Forms::shares_in, domain_prepared_meaning::specs::Decode::form_at, domain_prepared_meaning::specs::Decode::shares_at))]
 pub fn index<'a>(rows: &'a [u8], objects: &'a [u8; 256], k: usize, at: usize, v: usize) -> usize
     requires { (k < 64) × (v ≤ 3) × (at ≤ length rows.now) }
     ensures { result ≡ index_by (form_at rows.now at v) (four_at objects.now k) }
@@ -94,6 +68,7 @@ pub fn index<'a>(rows: &'a [u8], objects: &'a [u8; 256], k: usize, at: usize, v:
 }
 
 // The object that an argument stands for: below 64 an object, from 64 on a parameter.
+#[tactic(auto, unfolding(crate::specs::Summed::four_at, domain_stored_meaning::specs::Decode::arg_of))]
 pub fn argument(objects: &[u8; 256], k: usize, x: usize) -> usize
     requires { k < 64 }
     ensures { (result ≡ object_of (four_at objects.now k) (arg_of x)) × (result < 256) }

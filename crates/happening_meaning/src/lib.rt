@@ -3,7 +3,7 @@
 #![tactic(auto)]
 
 // A number, or what there is where a number is not.
-#[derive(Clone, Copy)]
+#[derive(Clone, Copy, PartialEq, Eq)]
 pub enum Value {
     Number(i64),
     Undefined,
@@ -11,7 +11,7 @@ pub enum Value {
 }
 
 // Whether a condition holds, or why that can't be said.
-#[derive(Clone, Copy)]
+#[derive(Clone, Copy, PartialEq, Eq)]
 pub enum Truth {
     Holds,
     Fails,
@@ -20,7 +20,7 @@ pub enum Truth {
 }
 
 // What an effect writes: a fact, added (true) or deleted; or a number, assigned (true) or raised or lowered.
-#[derive(Clone, Copy)]
+#[derive(Clone, Copy, PartialEq, Eq)]
 pub enum Mark {
     Nothing,
     Fact(bool, usize),
@@ -28,7 +28,7 @@ pub enum Mark {
 }
 
 // All is well so far; or the first failure, with its line, for a conflict with both.
-#[derive(Clone, Copy)]
+#[derive(Clone, Copy, PartialEq, Eq)]
 pub enum Outcome {
     Done,
     Duration(usize),

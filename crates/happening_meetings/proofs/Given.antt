@@ -15,14 +15,16 @@ use Rattle.happening_meaning.specs.State.{Grounds, fact_of, number_of}
 use Rattle.happening_meaning.specs.Happening.{Point, objects_of, conditions_of, effects_of, rule_of, marks}
 use Rattle.happening_meaning.specs.Writes.{marks_of}
 use Rattle.happening_forms.specs.Summed.{summed, four_at}
-use Rattle.happening_placing.specs.Given.{placed_in, point_in, points_in}
+use Rattle.happening_placing.specs.Given.{rule_in, placed_in, point_in, points_in}
 use Rattle.happening_placing.specs.declared.Placed.{Placed}
 use Rattle.happening_placing.proofs.Placing.{objects_are, rule_is, conditions_are, effects_are}
 use Rattle.happening_writes.specs.Rows.{marks_at}
+use Rattle.happening_meetings.specs.declared.walks.Mode.{Mode}
+use Rattle.happening_meetings.specs.declared.walks.Mode.TheVariants.{Meet, Mark, Wipe}
 use Rattle.happening_meetings.specs.Accesses.{Access, fact_cell, number_cell, expr_accesses, cond_accesses, conds_accesses, tests_accesses}
 use Rattle.happening_meetings.specs.Accesses.{rule_accesses, effect_accesses, effects_accesses, all_accesses, point_accesses, some_pair}
 use Rattle.happening_meetings.specs.Marks.{no_marks, mark_all, hit_any, mark_each, scan, wipe_each, Went}
-use Rattle.happening_meetings.specs.Points.{rule_in, placed_accesses, accesses_in}
+use Rattle.happening_meetings.specs.Points.{placed_accesses, accesses_in}
 use Rattle.happening_meetings.proofs.Marking.{Inside, InsideAll, or_assoc, or_false, none_hit, scanned, all_wiped}
 use Rattle.happening_meetings.proofs.Going.{went_both, went_same, held, marked, wiped}
 
@@ -120,7 +122,7 @@ pub marks_are : (rows points objects : List ℕ) (j : ℕ) → marks summed (poi
 marks_are rows points objects j =
     ap₂ (λ (os : List ℕ) (es : List Effect). marks_of summed os es) (objects_are rows points objects j) (effects_are rows points objects j)
 
-pub point_went : (rows os : List ℕ) (p : Placed) (mode : ℕ) (l : List ℕ) {a b c d e : Bool} {k m n : List ℕ}
+pub point_went : (rows os : List ℕ) (p : Placed) (mode : Mode) (l : List ℕ) {a b c d e : Bool} {k m n : List ℕ}
     → Went mode l (tests_accesses summed os (tests_at rows p.tests)) a k → Went mode k (rule_accesses summed os (rule_in rows p)) b m
     → Went mode m (effects_accesses summed os (effects_at rows p.effects)) c n → d ≡ (b || c) → e ≡ (a || d) → Went mode l (placed_accesses rows os p) e n
 unfolding placed_accesses
@@ -162,10 +164,10 @@ module _ (rows points objects : List ℕ) (n j : ℕ) where
     wipe_end l = rw (over h)
 
   module _ (h : j < n) {p : Placed} (ep : p ≡ placed_in rows points j) (l : List ℕ) where
-    pub wipe_turn : {f : Bool} {m : List ℕ} → Went 2 l (placed_accesses rows (four_at objects j) p) f m → wipe_each m later ≡ wipe_each l rest
+    pub wipe_turn : {f : Bool} {m : List ℕ} → Went Wipe l (placed_accesses rows (four_at objects j) p) f m → wipe_each m later ≡ wipe_each l rest
     unfolding wipe_each
     wipe_turn w =
-        ap (λ (k : List ℕ). wipe_each k later) (wiped l here (went_same 2 l (placed_point rows points objects j ep) w)) ∙ sym (ap (wipe_each l) (step h))
+        ap (λ (k : List ℕ). wipe_each k later) (wiped l here (went_same Wipe l (placed_point rows points objects j ep) w)) ∙ sym (ap (wipe_each l) (step h))
 
 module _ (rows points objects : List ℕ) (n : ℕ) where
   pub points_all : points_in rows points objects (n - 0) 0 ≡ points_in rows points objects n 0
@@ -173,6 +175,9 @@ module _ (rows points objects : List ℕ) (n : ℕ) where
 
   pub accesses_all : accesses_in rows points objects (n - 0) 0 ≡ accesses_in rows points objects n 0
   accesses_all = ap (map (point_accesses summed)) points_all
+
+-- a loop over the points, one by one
+pub ruleset by_point = (points_step, points_end, points_all)
 
 -- ---- all points, held, marked and wiped
 
@@ -193,12 +198,12 @@ module _ (rows points objects : List ℕ) (last : ℕ) where
   scan_end j h l b = rw (over rows points objects (last + 1) (j + 1) (omega arith)) (sym (or_false b))
 
   module _ (j : ℕ) (h : j < last) {p q : Placed} (ep : p ≡ placed_in rows points j) (eq : q ≡ placed_in rows points (j + 1)) {l m k : List ℕ} {a b : Bool}
-      (w : Went 1 l (placed_accesses rows (four_at objects j) p) b m) (v : Went 0 m (placed_accesses rows (four_at objects (j + 1)) q) a k) where
+      (w : Went Mark l (placed_accesses rows (four_at objects j) p) b m) (v : Went Meet m (placed_accesses rows (four_at objects (j + 1)) q) a k) where
     marked_here : m ≡ mark_all l (here rows points objects last j)
-    marked_here = marked l (here rows points objects last j) (went_same 1 l (placed_point rows points objects j ep) w)
+    marked_here = marked l (here rows points objects last j) (went_same Mark l (placed_point rows points objects j ep) w)
 
     held_next : (a ≡ hit_any m (here rows points objects last (j + 1))) × (k ≡ m)
-    held_next = held m (here rows points objects last (j + 1)) (went_same 0 m (placed_point rows points objects (j + 1) eq) v)
+    held_next = held m (here rows points objects last (j + 1)) (went_same Meet m (placed_point rows points objects (j + 1) eq) v)
 
     pub mark_turn : mark_each k (later rows points objects last j) ≡ mark_each l (rest rows points objects last j)
     unfolding mark_each

@@ -3,18 +3,18 @@ use mathlib.Core.Path.{◌≡◌, refl, sym, ap, ap₂, ◌∙◌}
 use mathlib.Core.List.{List, [], ◌∷◌, ◌++◌}
 use mathlib.Core.Bool.{Bool, false, ◌||◌}
 use Prim.Native.Nat.{ℕ}
-use lib.ListN.{get_or, set}
-use borrow.Author.Tests.{ne_eqb}
-use Rattle.happening_meetings.specs.Accesses.{Access, access}
-use Rattle.happening_meetings.specs.Marks.{join_of, hit_by, mark_all, hit_any, wipe_all, after_one, met_one, walked, met, Went}
+use Rattle.happening_meetings.specs.declared.walks.Mode.{Mode}
+use Rattle.happening_meetings.specs.declared.walks.Mode.TheVariants.{Meet, Mark, Wipe}
+use Rattle.happening_meetings.specs.Accesses.{Access}
+use Rattle.happening_meetings.specs.Marks.{mark_all, hit_any, wipe_all, after_one, met_one, walked, met, Went}
 use Rattle.happening_meetings.proofs.Marking.{or_assoc, or_false}
 
-walked_append : (mode : ℕ) (l : List ℕ) (xs ys : List Access) → walked mode l (xs ++ ys) ≡ walked mode (walked mode l xs) ys
+walked_append : (mode : Mode) (l : List ℕ) (xs ys : List Access) → walked mode l (xs ++ ys) ≡ walked mode (walked mode l xs) ys
 unfolding walked
 walked_append mode l [] ys = refl
 walked_append mode l (a ∷ xs) ys = walked_append mode (after_one mode l a) xs ys
 
-met_append : (mode : ℕ) (l : List ℕ) (xs ys : List Access) → met mode l (xs ++ ys) ≡ (met mode l xs || met mode (walked mode l xs) ys)
+met_append : (mode : Mode) (l : List ℕ) (xs ys : List Access) → met mode l (xs ++ ys) ≡ (met mode l xs || met mode (walked mode l xs) ys)
 unfolding met walked
 met_append mode l [] ys = refl
 met_append mode l (a ∷ xs) ys =
@@ -23,7 +23,7 @@ met_append mode l (a ∷ xs) ys =
 
 -- ---- what code does, part by part
 
-module _ (mode : ℕ) (l : List ℕ) where
+module _ (mode : Mode) (l : List ℕ) where
   pub went_none : Went mode l [] false l
   unfolding walked met
   went_none = record { told = refl; left = refl }
@@ -44,41 +44,41 @@ module _ (mode : ℕ) (l : List ℕ) where
 
 -- ---- the three modes
 
-holding : (l : List ℕ) (xs : List Access) → (walked 0 l xs ≡ l) × (met 0 l xs ≡ hit_any l xs)
+holding : (l : List ℕ) (xs : List Access) → (walked Meet l xs ≡ l) × (met Meet l xs ≡ hit_any l xs)
 unfolding walked met hit_any after_one met_one
 holding l [] = (refl, refl)
-holding l (a ∷ xs) = ((holding l xs).0, ap (λ (b : Bool). met_one 0 l a || b) (holding l xs).1)
+holding l (a ∷ xs) = ((holding l xs).0, ap (λ (b : Bool). met_one Meet l a || b) (holding l xs).1)
 
-marking : (l : List ℕ) (xs : List Access) → walked 1 l xs ≡ mark_all l xs
+marking : (l : List ℕ) (xs : List Access) → walked Mark l xs ≡ mark_all l xs
 unfolding walked mark_all after_one
 marking l [] = refl
-marking l (a ∷ xs) = marking (after_one 1 l a) xs
+marking l (a ∷ xs) = marking (after_one Mark l a) xs
 
-wiping : (l : List ℕ) (xs : List Access) → walked 2 l xs ≡ wipe_all l xs
+wiping : (l : List ℕ) (xs : List Access) → walked Wipe l xs ≡ wipe_all l xs
 unfolding walked wipe_all after_one
 wiping l [] = refl
-wiping l (a ∷ xs) = wiping (after_one 2 l a) xs
+wiping l (a ∷ xs) = wiping (after_one Wipe l a) xs
 
 module _ (l : List ℕ) (xs : List Access) {f : Bool} {m : List ℕ} where
-  pub held : Went 0 l xs f m → (f ≡ hit_any l xs) × (m ≡ l)
+  pub held : Went Meet l xs f m → (f ≡ hit_any l xs) × (m ≡ l)
   held w = (w.told ∙ (holding l xs).1, w.left ∙ (holding l xs).0)
 
-  pub marked : Went 1 l xs f m → m ≡ mark_all l xs
+  pub marked : Went Mark l xs f m → m ≡ mark_all l xs
   marked w = w.left ∙ marking l xs
 
-  pub wiped : Went 2 l xs f m → m ≡ wipe_all l xs
+  pub wiped : Went Wipe l xs f m → m ≡ wipe_all l xs
   wiped w = w.left ∙ wiping l xs
 
 -- ---- a walk through a list: what is left leads to the whole
 
-pub record Onward (mode : ℕ) (found : Bool) (marks : List ℕ) (rest : List Access) (l : List ℕ) (whole : List Access) : Type 0 where
+pub record Onward (mode : Mode) (found : Bool) (marks : List ℕ) (rest : List Access) (l : List ℕ) (whole : List Access) : Type 0 where
   pub told : (found || met mode marks rest) ≡ met mode l whole
   pub left : walked mode marks rest ≡ walked mode l whole
 
-pub onward_start : (mode : ℕ) (l : List ℕ) (xs : List Access) → Onward mode false l xs l xs
+pub onward_start : (mode : Mode) (l : List ℕ) (xs : List Access) → Onward mode false l xs l xs
 onward_start mode l xs = record { told = refl; left = refl }
 
-module _ {mode : ℕ} {f : Bool} {m : List ℕ} {rest : List Access} {l : List ℕ} {whole : List Access} (o : Onward mode f m rest l whole) where
+module _ {mode : Mode} {f : Bool} {m : List ℕ} {rest : List Access} {l : List ℕ} {whole : List Access} (o : Onward mode f m rest l whole) where
   pub onward_end : rest ≡ [] → Went mode l whole f m
   unfolding walked met
   onward_end e =
@@ -95,22 +95,3 @@ module _ {mode : ℕ} {f : Bool} {m : List ℕ} {rest : List Access} {l : List �
             ∙ o.told;
         left = ap (λ (k : List ℕ). walked mode k ys) w.left ∙ sym (walked_append mode m xs ys) ∙ ap (walked mode m) (sym e) ∙ o.left;
       }
-
--- ---- one access, by the mode
-
-module _ (mode : ℕ) (l : List ℕ) (c k : ℕ) where
-  abbrev Touched : Bool → List ℕ → Type 0
-  Touched b m = (b ≡ met_one mode l (access k c)) × (m ≡ after_one mode l (access k c))
-
-  pub touch_held : mode ≡ 0 → {b : Bool} → b ≡ hit_by (get_or l c 0) k → Touched b l
-  unfolding met_one after_one
-  touch_held h e = rw h (e, refl)
-
-  module _ (n : mode ≡ 0 → ⊥) where
-    pub touch_marked : mode ≡ 1 → {v : ℕ} → v ≡ join_of (get_or l c 0) k → Touched false (set l c v)
-    unfolding met_one after_one
-    touch_marked h e = rw h (refl, ap (set l c) e)
-
-    pub touch_wiped : (mode ≡ 1 → ⊥) → Touched false (set l c 0)
-    unfolding met_one after_one
-    touch_wiped h = rw (ne_eqb mode 0 n, ne_eqb mode 1 h) (refl, refl)

@@ -1,27 +1,24 @@
 -- The walk over what stands at a place, by what it is: an expression, a single condition that was taken apart, a duration rule. Assumes nothing.
 use mathlib.Core.Path.{◌≡◌, refl, sym, ap, ◌∙◌}
 use mathlib.Core.List.{List, ◌++◌}
-use mathlib.Core.Bool.{Bool, true, false, cond, not, ◌||◌}
-use Prim.Native.Nat.{ℕ, ◌+◌, ◌-◌, ◌≤◌, ◌<◌}
+use mathlib.Core.Bool.{Bool, true, false, ◌||◌}
+use Rattle.std.proofs.Common.{Some, None}
+use Prim.Native.Nat.{ℕ, suc, ◌+◌}
 use lib.IntN.{ℤ}
-use lib.ListN.{length}
-use borrow.Author.Tests.{lt-ltb, le-ltb, ne_eqb}
 use Rattle.domain_meaning.specs.Terms.{Ref, Expr, number, value, minus}
 use Rattle.domain_meaning.specs.Actions.{Lasting, moment, rule}
 use Rattle.domain_rows.specs.Held.{byte_at}
 use Rattle.domain_stored_meaning.specs.Decode.{Decoded, decoded, mapped, both}
-use Rattle.domain_prepared_meaning.specs.Decode.{expression_at, lasts_at, test_at, tests_from}
+use Rattle.domain_prepared_meaning.specs.Decode.{expression_at, test_at, tests_from}
 use Rattle.happening_meaning.specs.State.{number_of}
-use Rattle.happening_meaning.specs.Happening.{rule_reads}
 use Rattle.happening_forms.specs.Summed.{summed}
-use Rattle.happening_expressions.specs.Evaluated.{expr_found}
-use Rattle.happening_expressions.specs.declared.reads.Found.{Found}
 use Rattle.happening_expressions.proofs.Shapes.{two_of}
-use Rattle.happening_tests.specs.Taken.{is_end, row_of, row_at}
+use Rattle.happening_tests.specs.Taken.{row_of, row_at}
 use Rattle.happening_tests.specs.declared.taken.Row.{Row}
-use Rattle.happening_tests.specs.declared.taken.Row.TheVariants.{End, Fact, Same, Compare}
+use Rattle.happening_tests.specs.declared.taken.Row.TheVariants.{Fact, Same, Compare}
 use Rattle.happening_tests.proofs.Rows.{by_tag}
 use Rattle.happening_tests.proofs.Walking.{now', tests_spent, tests_end, tests_step, row_here}
+use Rattle.happening_meetings.specs.declared.walks.Mode.{Mode}
 use Rattle.happening_meetings.specs.Accesses.{Access, access, fact_cell, number_cell, expr_accesses, cond_accesses, tests_accesses, rule_accesses}
 use Rattle.happening_meetings.specs.Marks.{after_one, met_one, Went}
 use Rattle.happening_meetings.specs.Taken.{row_accesses, row_next}
@@ -34,7 +31,7 @@ unfolding expr_accesses
 two_accesses os true a b = refl
 two_accesses os false a b = refl
 
-module _ (os : List ℕ) (mode : ℕ) (l : List ℕ) where
+module _ (os : List ℕ) (mode : Mode) (l : List ℕ) where
   -- the place after it, and the walk over what it reads
   abbrev pub Walks : Decoded Expr → ℕ → Bool → List ℕ → Type 0
   Walks d n f m = (n ≡ d.next) × Went mode l (expr_accesses summed os d.tree) f m
@@ -61,20 +58,16 @@ module _ (os : List ℕ) (mode : ℕ) (l : List ℕ) where
     unfolding expr_accesses
     walk_minus e s w = rw s w
 
-pub walk_two : (os : List ℕ) (mode : ℕ) (l : List ℕ) {d : Decoded Expr} (t : Bool) (e : Decoded Expr) (f : ℕ → Decoded Expr) {n o : ℕ} {a b c : Bool}
+pub walk_two : (os : List ℕ) (mode : Mode) (l : List ℕ) {d : Decoded Expr} (t : Bool) (e : Decoded Expr) (f : ℕ → Decoded Expr) {n o : ℕ} {a b c : Bool}
     {k m : List ℕ} → d ≡ both (two_of t) e f → Walks os mode l e n a k → Walks os mode k (f n) o b m → c ≡ (a || b) → Walks os mode l d o c m
 walk_two os mode l t e f {n} {o} {a} {b} {c} {k} {m} s wa wb q =
     rw (s, ← wa.0, two_accesses os t e.tree (f n).tree) (wb.0, went_both mode l wa.1 wb.1 q)
 
 -- ---- a single condition that was taken apart
 
-module _ (rows os : List ℕ) (mode : ℕ) (l : List ℕ) (row : Row) where
+module _ (rows os : List ℕ) (mode : Mode) (l : List ℕ) (row : Row) where
   abbrev pub RowWalks : ℕ → Bool → List ℕ → Type 0
   RowWalks n f m = (n ≡ row_next rows row) × Went mode l (row_accesses rows os row) f m
-
-  pub row_none : row ≡ End → RowWalks 0 false l
-  unfolding row_next row_accesses
-  row_none e = rw e (refl, went_none mode l)
 
   pub row_fact : {w : Bool} {i n c : ℕ} {h : Bool} {k : List ℕ} → row ≡ Fact w i n → c ≡ fact_cell i → h ≡ met_one mode l (access 0 c)
       → k ≡ after_one mode l (access 0 c) → RowWalks n h k
@@ -98,94 +91,49 @@ module _ (rows os : List ℕ) (mode : ℕ) (l : List ℕ) (row : Row) where
 
 -- ---- a list of single conditions
 
-module _ (rows os : List ℕ) (at tag : ℕ) where
-  row_accesses_lem : row_accesses rows os (row_of os (at + 1) (test_at rows at tag)) ≡ cond_accesses summed os (test_at rows at tag).tree
+it : {x row : Row} → Some x ≡ Some row → x ≡ row
+it e = cc
+
+module _ (rows os : List ℕ) (at tag : ℕ) {row : Row} (e : row_of os (at + 1) (test_at rows at tag) ≡ Some row) where
+  row_accesses_lem : row_accesses rows os row ≡ cond_accesses summed os (test_at rows at tag).tree
   unfolding row_accesses cond_accesses
   row_accesses_lem =
-      by_tag rows at tag (λ d. row_accesses rows os (row_of os (at + 1) d) ≡ cond_accesses summed os d.tree) (λ w. refl) (λ w v. refl) (λ w op. refl)
+      by_tag rows at tag (λ d. row_of os (at + 1) d ≡ Some row → row_accesses rows os row ≡ cond_accesses summed os d.tree)
+      (λ w e. rw (← it e)) (λ w v e. rw (← it e)) (λ w op e. rw (← it e)) e
 
-  row_next_lem : row_next rows (row_of os (at + 1) (test_at rows at tag)) ≡ (test_at rows at tag).next
+  row_next_lem : row_next rows row ≡ (test_at rows at tag).next
   unfolding row_next
-  row_next_lem = by_tag rows at tag (λ d. row_next rows (row_of os (at + 1) d) ≡ d.next) (λ w. refl) (λ w v. refl) (λ w op. refl)
+  row_next_lem =
+      by_tag rows at tag (λ d. row_of os (at + 1) d ≡ Some row → row_next rows row ≡ d.next)
+      (λ w e. rw (← it e)) (λ w v e. rw (← it e)) (λ w op e. rw (← it e)) e
 
-module _ (rows os : List ℕ) (i left : ℕ) {mode : ℕ} {f : Bool} {m l : List ℕ} {whole : List Access}
+module _ (rows os : List ℕ) (i left : ℕ) {mode : Mode} {f : Bool} {m l : List ℕ} {whole : List Access}
     (o : Onward mode f m (tests_accesses summed os (tests_from left rows i)) l whole) where
   pub tests_over : left ≡ 0 → Went mode l whole f m
   unfolding tests_accesses
   tests_over h = onward_end o (ap (tests_accesses summed os) (tests_spent rows os i left h))
 
-  module _ {row : Row} {b : Bool} (er : row ≡ row_at rows os i) (eb : b ≡ is_end row) where
-    pub tests_ended : b ≡ true → Went mode l whole f m
-    unfolding tests_accesses
-    tests_ended h = onward_end o (ap (tests_accesses summed os) (tests_end rows os i left (cc)))
+  pub tests_ended : row_at rows os i ≡ None → Went mode l whole f m
+  unfolding tests_accesses
+  tests_ended e = onward_end o (ap (tests_accesses summed os) (tests_end rows os i left e))
 
-    pub tests_turn : 0 < left → b ≡ false → {next : ℕ} {h c : Bool} {n : List ℕ} → (next ≡ row_next rows row) × Went mode m (row_accesses rows os row) h n
-        → c ≡ (f || h)
-        → Onward mode c n (tests_accesses summed os (tests_from (left - 1) rows next)) l whole
-    unfolding tests_accesses
-    tests_turn k z {next} {h} {c} {n} w q =
-        let here : row ≡ row_of os (i + 1) (now' rows os i) = er ∙ row_here rows os i (cc) in
-        let past : next ≡ (now' rows os i).next = w.0 ∙ ap (row_next rows) here ∙ row_next_lem rows os i (byte_at rows i) in
-        let one : row_accesses rows os row ≡ cond_accesses summed os (now' rows os i).tree =
-        ap (row_accesses rows os) here ∙ row_accesses_lem rows os i (byte_at rows i)
-        in
-        rw past (onward_turn o (ap (tests_accesses summed os) (tests_step rows os i left k (cc))) (went_same mode m one w.1) q)
+  pub tests_turn : {row : Row} → row_at rows os i ≡ Some row → {rest : ℕ} → left ≡ suc rest → {next : ℕ} {h : Bool} {n : List ℕ}
+      → (next ≡ row_next rows row) × Went mode m (row_accesses rows os row) h n
+      → Onward mode (f || h) n (tests_accesses summed os (tests_from rest rows next)) l whole
+  unfolding tests_accesses
+  tests_turn {row} e k w =
+      let here : row_of os (i + 1) (now' rows os i) ≡ Some row = row_here rows os i e in
+      rw (w.0 ∙ row_next_lem rows os i (byte_at rows i) here)
+      (onward_turn o (ap (tests_accesses summed os) (tests_step rows os i e k)) (went_same mode m (row_accesses_lem rows os i (byte_at rows i) here) w.1) refl)
 
 -- ---- the duration rule
 
-module _ (rows : List ℕ) (at : ℕ) (begins : Bool) where
-  abbrev pub ruled : Lasting
-  ruled = cond begins (lasts_at rows at) moment
+module _ (os : List ℕ) {r : Lasting} (mode : Mode) (l : List ℕ) where
+  pub rule_unwalked : r ≡ moment → Went mode l (rule_accesses summed os r) false l
+  unfolding rule_accesses
+  rule_unwalked e = rw e (went_none mode l)
 
-  pub rule_late : begins ≡ false → ruled ≡ moment
-  rule_late h = rw h
-
-  pub rule_past : length rows ≤ at → ruled ≡ moment
-  unfolding lasts_at
-  rule_past h = go begins
-    where
-      go : (b : Bool) → cond b (lasts_at rows at) moment ≡ moment
-      go true = rw (le-ltb at (length rows) h)
-      go false = refl
-
-  module _ {tag : ℕ} (l : at < length rows) (e : tag ≡ byte_at rows at) where
-    pub rule_none : tag ≡ 0 → ruled ≡ moment
-    unfolding lasts_at
-    rule_none z = go begins
-      where
-        go : (b : Bool) → cond b (lasts_at rows at) moment ≡ moment
-        go true = rw (lt-ltb at (length rows) l, ← e, z)
-        go false = refl
-
-    pub rule_so : begins ≡ true → (tag ≡ 0 → ⊥) → ruled ≡ rule (expression_at rows (at + 1)).tree
-    unfolding lasts_at
-    rule_so b z = rw (b, lt-ltb at (length rows) l, ← e, ne_eqb tag 0 z)
-
-module _ (os : List ℕ) {r : Lasting} where
-  module _ (mode : ℕ) (l : List ℕ) where
-    pub rule_unwalked : r ≡ moment → Went mode l (rule_accesses summed os r) false l
-    unfolding rule_accesses
-    rule_unwalked e = rw e (went_none mode l)
-
-    pub rule_walked : (d : Decoded Expr) → r ≡ rule d.tree → {n : ℕ} {f : Bool} {m : List ℕ} → Walks os mode l d n f m
-        → Went mode l (rule_accesses summed os r) f m
-    unfolding rule_accesses
-    rule_walked d e w = rw e w.1
-
-  module _ (x : ℕ) where
-    pub rule_unread : r ≡ moment → false ≡ rule_reads summed os x r
-    unfolding rule_reads
-    rule_unread e = rw e
-
-    pub rule_read : (d : Decoded Expr) → r ≡ rule d.tree → {e : Found} → e ≡ expr_found summed os x d → e.found ≡ rule_reads summed os x r
-    unfolding rule_reads expr_found
-    rule_read d s e = rw (s, e)
-
--- `!begins`
-pub not_true : (b : Bool) → not b ≡ true → b ≡ false
-not_true true h = sym h
-not_true false h = refl
-
-pub not_false : (b : Bool) → not b ≡ false → b ≡ true
-not_false true h = refl
-not_false false h = sym h
+  pub rule_walked : (d : Decoded Expr) → r ≡ rule d.tree → {n : ℕ} {f : Bool} {m : List ℕ} → Walks os mode l d n f m
+      → Went mode l (rule_accesses summed os r) f m
+  unfolding rule_accesses
+  rule_walked d e w = rw e w.1

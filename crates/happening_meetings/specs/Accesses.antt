@@ -7,6 +7,8 @@ use Rattle.domain_meaning.specs.Actions.{Lasting, moment, rule}
 use Rattle.happening_meaning.specs.State.{Grounds, fact_of, number_of}
 use Rattle.happening_meaning.specs.Writes.{some}
 use Rattle.happening_meaning.specs.Happening.{Point, objects_of, conditions_of, effects_of, rule_of}
+use Rattle.happening_meetings.specs.declared.walks.Kind.{Kind}
+use Rattle.happening_meetings.specs.declared.walks.Kind.TheVariants.{Reads, Adds, Deletes, Assigns}
 
 -- what is done at a cell: 0 reads it, 1 adds or raises it, 2 deletes it, 3 assigns it
 pub record Access : Type 0 where
@@ -15,6 +17,13 @@ pub record Access : Type 0 where
 
 abbrev pub access : ℕ → ℕ → Access
 access k x = record { kind = k; index = x }
+
+-- by the code's word for it
+abbrev pub kind_of : Kind → ℕ
+kind_of Reads = 0
+kind_of Adds = 1
+kind_of Deletes = 2
+kind_of Assigns = 3
 
 -- two points may do the same at one cell, unless they assign
 unfoldable pub clash : ℕ → ℕ → Bool

@@ -1,6 +1,8 @@
 -- Marks: at each cell what the points so far did there. 0 nothing, 1 more than one kind of thing, k + 2 only things of kind k.
 use Rattle.std.specs.Prelude.{◌≡◌, ℕ, ◌+◌, Bool, true, false, cond, ◌||◌, List, [], ◌∷◌, eqb, get_or, set, replicate}
 use Rattle.happening_meetings.specs.Accesses.{Access}
+use Rattle.happening_meetings.specs.declared.walks.Mode.{Mode}
+use Rattle.happening_meetings.specs.declared.walks.Mode.TheVariants.{Meet, Mark, Wipe}
 
 abbrev pub no_marks : List ℕ
 no_marks = replicate 17408 0
@@ -31,24 +33,28 @@ unfoldable pub wipe_all : List ℕ → List Access → List ℕ
 wipe_all l [] = l
 wipe_all l (a ∷ xs) = wipe_all (set l a.index 0) xs
 
--- ---- one walk in three modes: 0 holds each access against the marks, 1 marks it, else it is wiped
+-- ---- one walk in three modes: each access is held against the marks, marked, or wiped
 
-unfoldable pub after_one : ℕ → List ℕ → Access → List ℕ
-after_one mode l a = cond (eqb mode 0) l (cond (eqb mode 1) (mark_one l a) (set l a.index 0))
+unfoldable pub after_one : Mode → List ℕ → Access → List ℕ
+after_one Meet l a = l
+after_one Mark l a = mark_one l a
+after_one Wipe l a = set l a.index 0
 
-unfoldable pub met_one : ℕ → List ℕ → Access → Bool
-met_one mode l a = cond (eqb mode 0) (hit_one l a) false
+unfoldable pub met_one : Mode → List ℕ → Access → Bool
+met_one Meet l a = hit_one l a
+met_one Mark l a = false
+met_one Wipe l a = false
 
-unfoldable pub walked : ℕ → List ℕ → List Access → List ℕ
+unfoldable pub walked : Mode → List ℕ → List Access → List ℕ
 walked mode l [] = l
 walked mode l (a ∷ xs) = walked mode (after_one mode l a) xs
 
-unfoldable pub met : ℕ → List ℕ → List Access → Bool
+unfoldable pub met : Mode → List ℕ → List Access → Bool
 met mode l [] = false
 met mode l (a ∷ xs) = met_one mode l a || met mode (after_one mode l a) xs
 
 -- what a walk over accesses says: whether something was met, and the marks after it
-pub record Went (mode : ℕ) (l : List ℕ) (xs : List Access) (found : Bool) (after : List ℕ) : Type 0 where
+pub record Went (mode : Mode) (l : List ℕ) (xs : List Access) (found : Bool) (after : List ℕ) : Type 0 where
   pub told : found ≡ met mode l xs
   pub left : after ≡ walked mode l xs
 

@@ -1,15 +1,10 @@
 -- The accesses of a point, by the places in the rows at which what it needs stands.
-use Rattle.std.specs.Prelude.{ℕ, List, map, cond}
-use Rattle.domain_meaning.specs.Actions.{Lasting, moment}
-use Rattle.domain_prepared_meaning.specs.Decode.{lasts_at, tests_at, effects_at}
+use Rattle.std.specs.Prelude.{ℕ, List, map}
+use Rattle.domain_prepared_meaning.specs.Decode.{tests_at, effects_at}
 use Rattle.happening_forms.specs.Summed.{summed}
-use Rattle.happening_placing.specs.Given.{points_in}
+use Rattle.happening_placing.specs.Given.{rule_in, points_in}
 use Rattle.happening_placing.specs.declared.Placed.{Placed}
 use Rattle.happening_meetings.specs.Accesses.{Access, all_accesses, point_accesses}
-
--- "for a start, the duration rule"
-abbrev pub rule_in : List ℕ → Placed → Lasting
-rule_in rows p = cond p.begins (lasts_at rows p.rule) moment
 
 unfoldable pub placed_accesses : List ℕ → List ℕ → Placed → List Access
 placed_accesses rows os p = all_accesses summed os (tests_at rows p.tests) (rule_in rows p) (effects_at rows p.effects)

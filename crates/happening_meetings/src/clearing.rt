@@ -9,8 +9,10 @@ ghost use Rattle.happening_meetings.specs.Points.{accesses_in};
 
 use crate::{pairs, points, walks};
 use happening_meaning::Outcome;
+use walks::Mode;
 
 // Each point but the last is marked, and the one after it held against the marks so far: whether one meets a mark.
+#[tactic(auto, using(crate::proofs::Given::scan_start, crate::proofs::Given::scan_end, crate::proofs::Given::mark_end, crate::proofs::Given::accesses_all))]
 fn scan_all<'a>(
     rows: &'a [u8],
     points: &'a [usize; 256],
@@ -23,19 +25,17 @@ fn scan_all<'a>(
         × (marks.new ≡ mark_each no_marks (accesses_in rows.now points.now objects.now last 0)) }
 {
     let mut found = false;
-    let mut j = 0;
-    while j < last {
+    for j in 0..last {
         let p = happening_placing::point_at(rows, points, j);
-        points::walk_point(rows, p, objects, j, marks, 1);
-        j += 1;
-        let q = happening_placing::point_at(rows, points, j);
-        let h = points::walk_point(rows, q, objects, j, marks, 0);
-        found = walks::either(found, h);
+        points::walk_point(rows, p, objects, j, marks, Mode::Mark);
+        let q = happening_placing::point_at(rows, points, j + 1);
+        found |= points::walk_point(rows, q, objects, j + 1, marks, Mode::Meet);
     }
     found
 }
 
 // The marks of the first n points are taken away.
+#[tactic(auto, using(crate::proofs::Given::wipe_turn, crate::proofs::Given::wipe_end, crate::proofs::Given::accesses_all))]
 fn wipe_all<'a>(
     rows: &'a [u8],
     points: &'a [usize; 256],
@@ -46,11 +46,9 @@ fn wipe_all<'a>(
     requires { (n ≤ 64) × (385 ≤ length rows.now) }
     ensures { marks.new ≡ wipe_each marks.old (accesses_in rows.now points.now objects.now n 0) }
 {
-    let mut j = 0;
-    while j < n {
+    for j in 0..n {
         let p = happening_placing::point_at(rows, points, j);
-        points::walk_point(rows, p, objects, j, marks, 2);
-        j += 1;
+        points::walk_point(rows, p, objects, j, marks, Mode::Wipe);
     }
 }
 
@@ -72,6 +70,7 @@ fn some_pair<'a>(
 }
 
 // Point i and those after it.
+#[tactic(auto, using(crate::proofs::Given::by_point), unfolding(happening_meaning::specs::Happening::each, happening_meaning::specs::Happening::unless))]
 fn clear_all<'a>(
     rows: &'a [u8],
     points: &'a [usize; 256],
@@ -83,18 +82,17 @@ fn clear_all<'a>(
     ensures { result ≡ each (clear summed (point_in rows.now points.now objects.now i))
         (points_in rows.now points.now objects.now (n - (i + 1)) (i + 1)) }
 {
-    let mut j = i + 1;
-    while j < n {
+    for j in i + 1..n {
         let o = pairs::keep_clear(rows, points, objects, i, j);
         let Outcome::Done = o else {
             return o;
         };
-        j += 1;
     }
     Outcome::Done
 }
 
 // "Per pair, ordered by the lower line, then the higher"
+#[tactic(auto, using(crate::proofs::Given::by_point), unfolding(happening_meaning::specs::Happening::pairs, happening_meaning::specs::Happening::unless))]
 fn each_pair<'a>(
     rows: &'a [u8],
     points: &'a [usize; 256],
@@ -104,18 +102,17 @@ fn each_pair<'a>(
     requires { (n ≤ 64) × (385 ≤ length rows.now) }
     ensures { result ≡ pairs summed (points_in rows.now points.now objects.now n 0) }
 {
-    let mut i = 0;
-    while i < n {
+    for i in 0..n {
         let o = clear_all(rows, points, objects, n, i);
         let Outcome::Done = o else {
             return o;
         };
-        i += 1;
     }
     Outcome::Done
 }
 
 // Step 3. A happening of one point, the common case, pays nothing.
+#[tactic(auto, using(crate::proofs::Crossing::pairs_none, crate::proofs::Meeting::pairs_quiet))]
 pub fn clear_pairs<'a>(
     rows: &'a [u8],
     points: &'a [usize; 256],

@@ -1,83 +1,93 @@
-// One walk over what a point reads and writes, in three modes: 0 holds it against the marks, 1 marks it, else it is wiped.
-ghost use Rattle.std.specs.Prelude.{◌≡◌, ◌||◌, ◌+◌, ◌<◌, length};
+// One walk over what a point reads and writes, in three modes.
+ghost use Rattle.std.specs.Prelude.{◌≡◌, ◌+◌, ◌<◌, length};
 ghost use Rattle.domain_prepared_meaning.specs.Decode.{leaf_at, expr_at};
 ghost use Rattle.happening_forms.specs.Summed.{summed, four_at};
-ghost use Rattle.happening_meetings.specs.Accesses.{access, fact_cell, number_cell, expr_accesses};
+ghost use Rattle.happening_meetings.specs.Accesses.{access, kind_of, fact_cell, number_cell, expr_accesses};
 ghost use Rattle.happening_meetings.specs.Marks.{join_of, hit_by, after_one, met_one, Went};
 
 use happening_expressions::ends;
+use happening_forms::Taken;
 
-// Whether something was met, and the place after what was looked at.
+// What is done with each access: it is held against the marks, it is marked, or its mark is taken away.
 #[derive(Clone, Copy)]
-pub struct Walked {
-    pub found: bool,
-    pub next: usize,
+pub enum Mode {
+    Meet,
+    Mark,
+    Wipe,
 }
 
-fn join(m: u8, kind: u8) -> u8
-    requires { kind < 4 }
-    ensures { result ≡ join_of m kind }
+// What is done at a cell: it is read, added or raised, deleted, assigned.
+#[derive(Clone, Copy)]
+pub enum Kind {
+    Reads,
+    Adds,
+    Deletes,
+    Assigns,
+}
+
+// The mark of things of this kind alone.
+fn mark_of(kind: Kind) -> u8
+    ensures { (result ≡ kind_of kind + 2) × (result < 6) }
 {
-    if m == 0 {
-        return kind + 2;
-    }
-    if m == kind + 2 {
-        return m;
+    kind as u8 + 2
+}
+
+#[tactic(auto, unfolding(crate::specs::Marks::join_of))]
+fn join(m: u8, kind: Kind) -> u8
+    ensures { result ≡ join_of m (kind_of kind) }
+{
+    let alone = mark_of(kind);
+    if m == 0 || m == alone {
+        return alone;
     }
     1
 }
 
-fn hit(m: u8, kind: u8) -> bool
-    requires { kind < 4 }
-    ensures { result ≡ hit_by m kind }
+#[tactic(auto, unfolding(crate::specs::Marks::hit_by))]
+fn hit(m: u8, kind: Kind) -> bool
+    ensures { result ≡ hit_by m (kind_of kind) }
 {
     if m == 0 {
         return false;
     }
-    if m == kind + 2 {
-        return kind == 3;
+    if m == mark_of(kind) {
+        return matches!(kind, Kind::Assigns);
     }
     true
 }
 
-pub fn either(a: bool, b: bool) -> bool
-    ensures { result ≡ (a || b) }
-{
-    a || b
-}
-
+#[tactic(auto, unfolding(crate::specs::Accesses::fact_cell))]
 pub fn fact_cell(x: usize) -> usize
     ensures { (result ≡ fact_cell x) × (result < 17408) }
 {
-    if x < 16384 {
-        return x;
-    }
-    0
+    if x < 16384 { x } else { 0 }
 }
 
+#[tactic(auto, unfolding(crate::specs::Accesses::number_cell))]
 pub fn number_cell(x: usize) -> usize
     ensures { (result ≡ number_cell x) × (result < 17408) }
 {
-    if x < 1024 {
-        return 16384 + x;
-    }
-    0
+    if x < 1024 { 16384 + x } else { 0 }
 }
 
 // One access.
-pub fn touch(marks: &mut [u8; 17408], cell: usize, kind: u8, mode: u8) -> bool
-    requires { (cell < 17408) × (kind < 4) }
-    ensures { (result ≡ met_one mode marks.old (access kind cell)) × (marks.new ≡ after_one mode marks.old (access kind cell)) }
+#[tactic(auto, unfolding(crate::specs::Marks::met_one, crate::specs::Marks::after_one))]
+pub fn touch(marks: &mut [u8; 17408], cell: usize, kind: Kind, mode: Mode) -> bool
+    requires { cell < 17408 }
+    ensures { (result ≡ met_one mode marks.old (access (kind_of kind) cell))
+        × (marks.new ≡ after_one mode marks.old (access (kind_of kind) cell)) }
 {
-    if mode == 0 {
-        return hit(marks[cell], kind);
+    match mode {
+        Mode::Meet => hit(marks[cell], kind),
+        Mode::Mark => {
+            marks[cell] = join(marks[cell], kind);
+            false
+        }
+        Mode::Wipe => {
+            marks[cell] = 0;
+            false
+        }
     }
-    if mode == 1 {
-        marks[cell] = join(marks[cell], kind);
-        return false;
-    }
-    marks[cell] = 0;
-    false
 }
 
 fn leaf<'a>(
@@ -87,29 +97,21 @@ fn leaf<'a>(
     at: usize,
     tag: usize,
     marks: &mut [u8; 17408],
-    mode: u8,
-) -> Walked
+    mode: Mode,
+) -> Taken<bool>
     requires { (k < 64) × (at < length rows.now) }
     ensures { (result.next ≡ (leaf_at rows.now at tag).next) × Went mode marks.old
-        (expr_accesses summed (four_at objects.now k) (leaf_at rows.now at tag).tree) result.found marks.new }
+        (expr_accesses summed (four_at objects.now k) (leaf_at rows.now at tag).tree) result.what marks.new }
 {
     let next = ends::leaf_end(rows, at, tag);
-    if tag < 5 {
-        return Walked {
-            found: false,
-            next: next,
-        };
-    }
-    if tag < 8 {
-        let i = happening_forms::index(rows, objects, k, at + 1, tag - 5);
-        return Walked {
-            found: touch(marks, number_cell(i), 0, mode),
-            next: next,
-        };
-    }
-    Walked {
-        found: false,
-        next: next,
+    match tag {
+        0..=4 => Taken { what: false, next },
+        5..=7 => {
+            let i = happening_forms::index(rows, objects, k, at + 1, tag - 5);
+            let found = touch(marks, number_cell(i), Kind::Reads, mode);
+            Taken { what: found, next }
+        }
+        _ => Taken { what: false, next },
     }
 }
 
@@ -121,21 +123,15 @@ pub fn walk_expr<'a>(
     at: usize,
     depth: usize,
     marks: &mut [u8; 17408],
-    mode: u8,
-) -> Walked
+    mode: Mode,
+) -> Taken<bool>
     requires { k < 64 }
     ensures { (result.next ≡ (expr_at depth rows.now at).next) × Went mode marks.old
-        (expr_accesses summed (four_at objects.now k) (expr_at depth rows.now at).tree) result.found marks.new }
+        (expr_accesses summed (four_at objects.now k) (expr_at depth rows.now at).tree) result.what marks.new }
 {
-    if depth == 0 {
-        return Walked {
-            found: false,
-            next: at,
-        };
-    }
-    if rows.len() <= at {
-        return Walked {
-            found: false,
+    if depth == 0 || rows.len() <= at {
+        return Taken {
+            what: false,
             next: at,
         };
     }
@@ -148,8 +144,8 @@ pub fn walk_expr<'a>(
         return a;
     }
     let b = walk_expr(rows, objects, k, a.next, depth - 1, marks, mode);
-    Walked {
-        found: either(a.found, b.found),
+    Taken {
+        what: a.what | b.what,
         next: b.next,
     }
 }

@@ -1,7 +1,7 @@
 -- What a point's rule, conditions and effects are, and the conditions of a line under way, by the places at which they stand in the rows; and points by
 -- their numbers. Assumes nothing.
 use mathlib.Core.Path.{◌≡◌, refl, sym, ap, ◌∙◌}
-use mathlib.Core.List.{List, [], ◌∷◌, ◌++◌, append-nil}
+use mathlib.Core.List.{List, [], ◌∷◌, append-nil}
 use mathlib.Core.Bool.{Bool, true, false, cond}
 use Prim.Native.Nat.{ℕ, ◌+◌, ◌*◌, ◌%◌, ◌≤◌, ◌<◌}
 use native.Mathlib.Nat.{mod-eq_of_lt}
@@ -10,11 +10,11 @@ use lib.ListN.{length, get_or}
 use Rattle.domain_meaning.specs.Tables.{Entry, Table, entry_at}
 use Rattle.domain_meaning.specs.Conditions.{Cond}
 use Rattle.domain_meaning.specs.Effects.{Effect}
-use Rattle.domain_meaning.specs.Actions.{When, start, whole, end, Lasting, moment, Action}
+use Rattle.domain_meaning.specs.Actions.{start, whole, end, moment, Action}
 use Rattle.domain_prepared_meaning.specs.Preparing.{action_by}
 use Rattle.domain_prepared_meaning.specs.Decode.{lasts_at, tests_at, effects_at, place_in, action_at, actions_at}
 use Rattle.domain_prepared_meaning.proofs.Actions.{numbered}
-use Rattle.happening_meaning.specs.Happening.{Step, step_of, Point, parts_for, joined, line_of, objects_of, conditions_of, effects_of, rule_of}
+use Rattle.happening_meaning.specs.Happening.{Step, step_of, parts_for, joined, line_of, objects_of, conditions_of, effects_of, rule_of}
 use Rattle.happening_forms.specs.Summed.{four_at}
 use Rattle.happening_prepared_laws.proofs.Points.{three}
 use Rattle.happening_placing.specs.Given.{nameless, action_in, starts, placed_in, step_in, point_in, line_at}
@@ -64,6 +64,9 @@ module _ (rows points objects : List ℕ) (j : ℕ) where
       go : (b : Bool) → joined (parts_for (cond b start end) (step_in rows points objects j).effects) ≡ effects (cond b 4 5)
       go true = append-nil (effects 4)
       go false = append-nil (effects 5)
+
+-- what a point is, by its places
+pub ruleset by_place = (line_is, objects_are, duration_is, rule_is, conditions_are, effects_are)
 
 module _ (rows objects : List ℕ) (k line action d : ℕ) where
   pub during_is : parts_for whole (line_at rows objects k line action d).conditions ≡ tests_at rows (place_in rows (action % 32) 2)

@@ -1,9 +1,9 @@
 -- The points given to a call: four numbers each (line, action, time in the action: 1 for its start, else its end; duration) and four objects. Any numbers
 -- give some points. And a line under way, by its numbers.
-use Rattle.std.specs.Prelude.{ℕ, zero, suc, ◌+◌, ◌*◌, ◌%◌, List, [], ◌∷◌, Bool, true, false, cond, eqb, length, get_or}
+use Rattle.std.specs.Prelude.{ℕ, zero, suc, ◌+◌, ◌*◌, ◌%◌, List, [], ◌∷◌, Bool, cond, eqb, get_or}
 use Rattle.domain_meaning.specs.Tables.{Entry, entry}
-use Rattle.domain_meaning.specs.Actions.{When, start, end}
-use Rattle.domain_prepared_meaning.specs.Decode.{place_in, action_at}
+use Rattle.domain_meaning.specs.Actions.{start, end, Lasting, moment}
+use Rattle.domain_prepared_meaning.specs.Decode.{lasts_at, place_in, action_at}
 use Rattle.happening_meaning.specs.Happening.{Step, step_of, Point}
 use Rattle.happening_forms.specs.Summed.{four_at}
 use Rattle.happening_placing.specs.declared.Placed.{Placed}
@@ -11,6 +11,10 @@ use Rattle.happening_placing.specs.declared.Placed.{Placed}
 -- no name is needed of an action that happens
 abbrev pub nameless : Entry
 nameless = entry [] []
+
+-- "for a start, the duration rule"
+abbrev pub rule_in : List ℕ → Placed → Lasting
+rule_in rows p = cond p.begins (lasts_at rows p.rule) moment
 
 module _ (rows points : List ℕ) where
   -- one of 32 actions

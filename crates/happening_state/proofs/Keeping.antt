@@ -2,19 +2,14 @@
 use mathlib.Core.Path.{◌≡◌, refl}
 use mathlib.Core.List.{List}
 use mathlib.Core.Bool.{Bool, true, false, cond}
-use Prim.Native.Nat.{ℕ, ◌≤◌, ◌<◌}
+use Prim.Native.Nat.{ℕ, ◌<◌}
 use lib.Dec.{eqb}
 use lib.IntN.{ℤ}
-use lib.ListN.{length, set, get_or-eq_default}
+use lib.ListN.{length, set}
 use lib.Seq.{get_or-set_same, get_or-set_other}
 use Rattle.domain_meaning.specs.First.{undefined}
 use Rattle.happening_meaning.specs.State.{State, is_true, number_at}
 use Rattle.happening_state.specs.Masks.{Touched}
-
--- past the end no fact is true
-pub past_false : (facts : List ℕ) (i : ℕ) → length facts ≤ i → false ≡ is_true facts i
-unfolding is_true
-past_false facts i h = rw (get_or-eq_default facts 0 h)
 
 -- ---- facts
 

@@ -8,43 +8,36 @@ ghost use Rattle.happening_state.specs.Masks.{fact_bit, number_bit};
 use happening_meaning::Value;
 
 // Past the end no fact is true.
+#[tactic(auto, unfolding(happening_meaning::specs::State::is_true))]
 pub fn is_true(facts: &[u8], i: usize) -> bool
     ensures { result ≡ is_true facts.now i }
 {
-    if i < facts.len() {
-        return facts[i] == 1;
-    }
-    false
+    i < facts.len() && facts[i] == 1
 }
 
 // The number at an index, as it is stored; past the end the one that says it is undefined.
+#[tactic(auto, unfolding(happening_meaning::specs::State::number_at))]
 pub fn number(numbers: &[i64], i: usize) -> i64
     ensures { result ≡ number_at numbers.now i }
 {
     if i < numbers.len() {
-        return numbers[i];
+        numbers[i]
+    } else {
+        -1000000000001
     }
-    -1000000000001
 }
 
 // The number at an index, if it is defined.
+#[tactic(auto, unfolding(happening_meaning::specs::State::defined))]
 pub fn given(numbers: &[i64], i: usize) -> Value
     ensures { result ≡ stored numbers.now i }
 {
     let z = number(numbers, i);
     if happening_amounts::is_inside(z) {
-        return Value::Number(z);
+        Value::Number(z)
+    } else {
+        Value::Undefined
     }
-    Value::Undefined
-}
-
-fn told(b: bool) -> u8
-    ensures { result ≡ cond b 1 0 }
-{
-    if b {
-        return 1;
-    }
-    0
 }
 
 // Fact i becomes true, or false; past the end nothing is stored.
@@ -52,7 +45,7 @@ pub fn make(facts: &mut [u8], i: usize, b: bool)
     ensures { facts.new ≡ set facts.old i (cond b 1 0) }
 {
     if i < facts.len() {
-        facts[i] = told(b);
+        facts[i] = u8::from(b);
     }
 }
 
@@ -65,12 +58,14 @@ pub fn put(numbers: &mut [i64], i: usize, z: i64)
     }
 }
 
+#[tactic(auto, using(crate::proofs::Bits::bit_made))]
 pub fn fact_bit(i: usize) -> u64
     ensures { result ≡ fact_bit i }
 {
     1u64 << (i % 64)
 }
 
+#[tactic(auto, using(crate::proofs::Bits::bit_made))]
 pub fn number_bit(i: usize) -> u64
     ensures { result ≡ number_bit i }
 {

@@ -1,27 +1,27 @@
 -- Step 4 over the points from number j on: what is left leads to the whole. Assumes nothing.
 use mathlib.Core.Path.{◌≡◌, refl, sym, ap, ◌∙◌}
 use mathlib.Core.List.{List, [], ◌++◌}
-use mathlib.Core.Bool.{Bool, true, false, ◌||◌, or-false}
+use mathlib.Core.Bool.{Bool, ◌||◌, or-false}
 use Prim.Native.Nat.{ℕ, ◌+◌, ◌-◌, ◌*◌, ◌≤◌, ◌<◌}
 use native.Mathlib.Omega.{arith}
 use lib.IntN.{ℤ}
 use lib.ListN.{length}
 use Rattle.domain_prepared_meaning.specs.Decode.{effects_at}
 use Rattle.happening_meaning.specs.Writes.{some}
-use Rattle.happening_meaning.specs.Happening.{Point, unless, each, Made, made, change_all, change_points, leaves, stays, each_mark, all_marks, new_facts, effects_of}
+use Rattle.happening_meaning.specs.Happening.{Point, Made, made, change_all, change_points, each_mark, all_marks, effects_of}
 use Rattle.happening_meaning.specs.Happening.{line_of, objects_of}
 use Rattle.happening_meaning.specs.declared.Mark.{Mark}
 use Rattle.happening_meaning.specs.declared.Outcome.{Outcome}
-use Rattle.happening_meaning.specs.declared.Outcome.TheVariants.{Done, Range}
-use Rattle.happening_meaning.proofs.Failing.{Fails, fails}
+use Rattle.happening_meaning.specs.declared.Outcome.TheVariants.{Done}
 use Rattle.happening_forms.specs.Summed.{summed, four_at}
 use Rattle.happening_writes.specs.Rows.{marks_at}
-use Rattle.happening_writes.specs.Changing.{Room, settle_all, write_fact, adds}
+use Rattle.happening_writes.specs.Changing.{Room, settle_all, adds}
 use Rattle.happening_writes.specs.Masks.{mask_from}
 use Rattle.happening_writes.proofs.Bounds.{room_start, room_less, room_all}
 use Rattle.happening_writes.proofs.Following.{effects_few}
-use Rattle.happening_writes.proofs.Joining.{each_append, some_more, none_added}
+use Rattle.happening_writes.proofs.Joining.{each_append, some_more}
 use Rattle.happening_writes.proofs.Masking.{mask_append}
+use Rattle.happening_writes.proofs.Turning.{not_done}
 use Rattle.happening_writes.proofs.Settling.{settle_append}
 use Rattle.happening_placing.specs.Given.{placed_in, point_in, points_in}
 use Rattle.happening_placing.specs.declared.Placed.{Placed}
@@ -66,10 +66,6 @@ module _ (rows ps os : List ℕ) (n j : ℕ) where
     unfolding change_points
     change_end old ns = rw (points_end rows ps os n j z)
 
-    pub stay_end : (ns : List ℤ) → Done ≡ each (stays summed ns) (points_in rows ps os (n - j) j)
-    unfolding each
-    stay_end ns = rw (points_end rows ps os n j z)
-
     pub write_end : (f : List ℕ → Mark → List ℕ) (fs : List ℕ) → fs ≡ each_mark f fs (all_marks summed (points_in rows ps os (n - j) j))
     unfolding each_mark
     write_end f fs = rw (marks_end (points_end rows ps os n j z))
@@ -102,20 +98,10 @@ module _ (rows ps os : List ℕ) (n j : ℕ) where
     unfolding change_points
     change_turn old ns e d = sym (rw (points_step rows ps os n j h, made_is old ns, ← e, d))
 
-    pub change_fails : (old ns : List ℤ) {o : Outcome} {ms : List ℤ} → made o ms ≡ made_at rows os j old ns p → Fails o
+    pub change_fails : (old ns : List ℤ) {o : Outcome} {ms : List ℤ} → made o ms ≡ made_at rows os j old ns p → (o ≡ Done → ⊥)
         → made o ms ≡ change_points summed old ns (points_in rows ps os (n - j) j)
     unfolding change_points
-    change_fails old ns {o} e f = rw (points_step rows ps os n j h, made_is old ns, ← e, fails o f)
-
-    pub stay_turn : (ns : List ℤ) {b : Bool} → b ≡ some (leaves ns) (marks_at rows (four_at os j) p.effects) → b ≡ false
-        → each (stays summed ns) (points_in rows ps os (n - (j + 1)) (j + 1)) ≡ each (stays summed ns) (points_in rows ps os (n - j) j)
-    unfolding each unless stays
-    stay_turn ns e d = rw (points_step rows ps os n j h, ← marks_here rows ps os j ep, ← e, d)
-
-    pub stay_hit : (ns : List ℤ) {b : Bool} → b ≡ some (leaves ns) (marks_at rows (four_at os j) p.effects) → b ≡ true
-        → Range p.line ≡ each (stays summed ns) (points_in rows ps os (n - j) j)
-    unfolding each unless stays
-    stay_hit ns e d = rw (points_step rows ps os n j h, ← marks_here rows ps os j ep, ← e, d, ep, ← line_is rows ps os j)
+    change_fails old ns {o} e f = rw (points_step rows ps os n j h, made_is old ns, ← e, not_done o f)
 
     pub write_turn : (f : List ℕ → Mark → List ℕ) (fs : List ℕ) {gs : List ℕ} → gs ≡ each_mark f fs (marks_at rows (four_at os j) p.effects)
         → each_mark f gs (all_marks summed (points_in rows ps os (n - (j + 1)) (j + 1))) ≡ each_mark f fs (all_marks summed (points_in rows ps os (n - j) j))
@@ -144,12 +130,3 @@ module _ (rows ps os : List ℕ) (n j : ℕ) where
         ap (λ x. mask_from x (all_marks summed (points_in rows ps os (n - (j + 1)) (j + 1)))) e
         ∙ sym (mask_append w (marks_at rows (four_at os j) p.effects) (all_marks summed (points_in rows ps os (n - (j + 1)) (j + 1))))
         ∙ ap (mask_from w) (sym marks_step)
-
--- ---- the facts: a second time through the points, or none if no effect adds a fact
-
-module _ (fs : List ℕ) (ps : List Point) {gs : List ℕ} (e : gs ≡ each_mark (write_fact false) fs (all_marks summed ps)) where
-  pub facts_twice : {hs : List ℕ} → hs ≡ each_mark (write_fact true) gs (all_marks summed ps) → hs ≡ new_facts summed fs ps
-  facts_twice q = q ∙ ap (λ x. each_mark (write_fact true) x (all_marks summed ps)) e
-
-  pub facts_once : {any : Bool} → any ≡ some adds (all_marks summed ps) → any ≡ false → gs ≡ new_facts summed fs ps
-  facts_once q z = sym (none_added gs (all_marks summed ps) (sym q ∙ z)) ∙ ap (λ x. each_mark (write_fact true) x (all_marks summed ps)) e

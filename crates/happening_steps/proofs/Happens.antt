@@ -4,19 +4,24 @@ use mathlib.Core.List.{List}
 use Prim.Native.Nat.{ℕ}
 use lib.IntN.{ℤ}
 use Rattle.happening_meaning.specs.State.{State, Grounds}
-use Rattle.happening_meaning.specs.Happening.{Point, each, made, change_points, stays, all_marks, new_facts, Happened, happened, on_done, allowed, happening}
+use Rattle.happening_meaning.specs.Happening.{Point, unless, each, made, change_points, stays, all_marks, new_facts, Happened, happened, on_done, allowed, happening}
 use Rattle.happening_meaning.specs.declared.Outcome.{Outcome}
 use Rattle.happening_meaning.specs.declared.Outcome.TheVariants.{Done}
-use Rattle.happening_meaning.proofs.Failing.{Fails, fails, unless_done, unless_fails}
+use Rattle.happening_meaning.proofs.Failing.{unless_done}
 use Rattle.happening_state.specs.States.{state_in}
 use Rattle.happening_writes.specs.Changing.{settle_all}
+use Rattle.happening_writes.proofs.Turning.{not_done}
 use Rattle.happening_writes.proofs.Settling.{settled_old, settled_new}
 
-kept : (o : Outcome) → Fails o → (s : State) (h : Happened) → happened o s ≡ on_done o s h
-kept o f s h = rw (fails o f)
+kept : (o : Outcome) → (o ≡ Done → ⊥) → (s : State) (h : Happened) → happened o s ≡ on_done o s h
+kept o f s h = rw (not_done o f)
+
+first : (o next : Outcome) → (o ≡ Done → ⊥) → o ≡ unless o next
+unfolding unless
+first o next f = rw (not_done o f)
 
 module _ (g : Grounds) (fs : List ℕ) (ns fr : List ℤ) (ps : List Point) (same : fr ≡ ns) {o : Outcome} (eo : o ≡ allowed g (state_in fs ns) ps) where
-  pub happen_refused : Fails o → happened o (state_in fs ns) ≡ happening g (state_in fs ns) ps
+  pub happen_refused : (o ≡ Done → ⊥) → happened o (state_in fs ns) ≡ happening g (state_in fs ns) ps
   unfolding happening
   happen_refused f = rw (← eo) (kept o f (state_in fs ns) _)
 
@@ -33,12 +38,12 @@ module _ (g : Grounds) (fs : List ℕ) (ns fr : List ℤ) (ps : List Point) (sam
     happen_forth ek =
         sym (ek ∙ ap (λ x. settle_all x ns (all_marks g ps)) (ap (λ m. m.numbers) changed) ∙ settled_new g ns ps ∙ sym (ap (λ m. m.numbers) changed))
 
-    pub happen_fails : Fails c → happened c (state_in fs ns) ≡ happening g (state_in fs ns) ps
+    pub happen_fails : (c ≡ Done → ⊥) → happened c (state_in fs ns) ≡ happening g (state_in fs ns) ps
     unfolding happening
-    happen_fails f = rw (← eo, d, ← changed, ← unless_fails c (each (stays g ms) ps) f) (kept c f (state_in fs ns) _)
+    happen_fails f = rw (← eo, d, ← changed, ← first c (each (stays g ms) ps) f) (kept c f (state_in fs ns) _)
 
     module _ (dc : c ≡ Done) {s : Outcome} (es : s ≡ each (stays g ms) ps) where
-      pub happen_leaves : Fails s → happened s (state_in fs ns) ≡ happening g (state_in fs ns) ps
+      pub happen_leaves : (s ≡ Done → ⊥) → happened s (state_in fs ns) ≡ happening g (state_in fs ns) ps
       unfolding happening
       happen_leaves f = rw (← eo, d, ← changed, ← es, ← unless_done s dc) (kept s f (state_in fs ns) _)
 

@@ -1,8 +1,6 @@
 -- What the proofs of several functions use.
-pub mod Ruled
-pub mod Tested
+pub mod Spanned
 pub mod Applied
-pub mod Answers
 pub mod Happens
 pub mod Unwatched
 pub mod Promised

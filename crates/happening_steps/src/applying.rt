@@ -23,19 +23,18 @@ pub fn change_points<'a>(
     ensures { made result fresh.new ≡ change_points summed old.now fresh.old
         (points_in rows.now points.now objects.now n 0) }
 {
-    let mut j = 0;
-    while j < n {
+    for j in 0..n {
         let p = happening_placing::point_at(rows, points, j);
         let o = numbers::change(rows, old, fresh, objects, j, p.line, p.effects);
         let Outcome::Done = o else {
             return o;
         };
-        j += 1;
     }
     Outcome::Done
 }
 
 // "a new value outside (the lowest line to write one is named)"
+#[tactic(auto, using(happening_meetings::proofs::Given::by_point, happening_placing::proofs::Placing::line_is, happening_meetings::proofs::Given::marks_are), unfolding(happening_meaning::specs::Happening::each, happening_meaning::specs::Happening::unless, happening_meaning::specs::Happening::stays))]
 pub fn stay_all<'a>(
     rows: &'a [u8],
     fresh: &'a [i64],
@@ -47,18 +46,17 @@ pub fn stay_all<'a>(
     ensures { result ≡ each (stays summed fresh.now)
         (points_in rows.now points.now objects.now n 0) }
 {
-    let mut j = 0;
-    while j < n {
+    for j in 0..n {
         let p = happening_placing::point_at(rows, points, j);
         if numbers::leaves(rows, fresh, objects, j, p.effects) {
             return Outcome::Range(p.line);
         }
-        j += 1;
     }
     Outcome::Done
 }
 
 // What all points delete, or add. The answer: whether one of them adds a fact at all.
+#[tactic(auto, using(happening_meetings::proofs::Given::points_all, crate::proofs::Applied::write_turn, crate::proofs::Applied::write_end, crate::proofs::Applied::adds_turn, crate::proofs::Applied::adds_end))]
 fn write_points<'a>(
     rows: &'a [u8],
     facts: &mut [u8],
@@ -73,16 +71,15 @@ fn write_points<'a>(
         × (result ≡ some adds (all_marks summed (points_in rows.now points.now objects.now n 0))) }
 {
     let mut any = false;
-    let mut j = 0;
-    while j < n {
+    for j in 0..n {
         let p = happening_placing::point_at(rows, points, j);
         any = facts::write_facts(rows, facts, objects, j, p.effects, add, any);
-        j += 1;
     }
     any
 }
 
 // "(old without deleted) with added". The points are gone through again only if one of them adds a fact.
+#[tactic(auto, using(happening_writes::proofs::Joining::none_added))]
 pub fn renew_facts<'a>(
     rows: &'a [u8],
     facts: &mut [u8],
@@ -101,6 +98,7 @@ pub fn renew_facts<'a>(
 }
 
 // Each number that a point writes becomes what it is in the source.
+#[tactic(auto, using(happening_meetings::proofs::Given::points_all, crate::proofs::Applied::settle_turn, crate::proofs::Applied::settle_end))]
 pub fn settle_points<'a>(
     rows: &'a [u8],
     source: &'a [i64],
@@ -113,15 +111,14 @@ pub fn settle_points<'a>(
     ensures { target.new ≡ settle_all source.now target.old
         (all_marks summed (points_in rows.now points.now objects.now n 0)) }
 {
-    let mut j = 0;
-    while j < n {
+    for j in 0..n {
         let p = happening_placing::point_at(rows, points, j);
         numbers::settle(rows, source, target, objects, j, p.effects);
-        j += 1;
     }
 }
 
 // The bits of all facts and numbers that the points write.
+#[tactic(auto, using(happening_meetings::proofs::Given::points_all, crate::proofs::Applied::mask_turn, crate::proofs::Applied::mask_end))]
 pub fn written<'a>(
     rows: &'a [u8],
     points: &'a [usize; 256],
@@ -132,11 +129,9 @@ pub fn written<'a>(
     ensures { result ≡ mask_from 0 (all_marks summed (points_in rows.now points.now objects.now n 0)) }
 {
     let mut mask = 0u64;
-    let mut j = 0;
-    while j < n {
+    for j in 0..n {
         let p = happening_placing::point_at(rows, points, j);
         mask = masks::writes(rows, objects, j, p.effects, mask);
-        j += 1;
     }
     mask
 }

@@ -25,22 +25,20 @@ fn is_same(z: i64, d: usize) -> bool
     happening_amounts::at_most(z, s) && happening_amounts::at_most(s, z)
 }
 
+#[tactic(auto, unfolding(happening_meaning::specs::Happening::lasts))]
 fn compare_duration(line: usize, duration: usize, v: Value) -> Outcome
     ensures { result ≡ lasts line duration v }
 {
     match v {
-        Value::Number(z) => {
-            if is_same(z, duration) {
-                return Outcome::Done;
-            }
-            Outcome::Duration(line)
-        }
+        Value::Number(z) if is_same(z, duration) => Outcome::Done,
+        Value::Number(_) => Outcome::Duration(line),
         Value::Undefined => Outcome::Undefined(line),
         Value::Range => Outcome::Range(line),
     }
 }
 
 // What the truth of a line's conditions means, `fails` being for those that don't hold.
+#[tactic(auto, unfolding(happening_meaning::specs::Happening::judged))]
 pub fn judge(fails: Outcome, line: usize, t: Truth) -> Outcome
     ensures { result ≡ judged fails line t }
 {
@@ -53,6 +51,7 @@ pub fn judge(fails: Outcome, line: usize, t: Truth) -> Outcome
 }
 
 // "for a start, the duration rule", of point j
+#[tactic(auto, using(happening_placing::proofs::Placing::by_place), unfolding(happening_meaning::specs::Happening::lasting, happening_expressions::specs::Evaluated::valued_of))]
 fn test_rule<'a>(
     rows: &'a [u8],
     numbers: &'a [i64],
@@ -65,21 +64,15 @@ fn test_rule<'a>(
     ensures { result ≡ lasting summed numbers.now (point_in rows.now points.now objects.now j)
         (rule_of (point_in rows.now points.now objects.now j)) }
 {
-    if !p.begins {
+    let Some(at) = p.rule_expression(rows) else {
         return Outcome::Done;
-    }
-    if rows.len() <= p.rule {
-        return Outcome::Done;
-    }
-    if happening_forms::cell(rows, p.rule) == 0 {
-        return Outcome::Done;
-    }
-    let e = values::value(rows, numbers, objects, j, p.rule + 1, 16);
-    let v = e.value;
-    compare_duration(p.line, p.duration, v)
+    };
+    let e = values::value(rows, numbers, objects, j, at, 16);
+    compare_duration(p.line, p.duration, e.what)
 }
 
 // Step 1 for point j: the duration rule, then the conditions.
+#[tactic(auto, using(happening_placing::proofs::Placing::by_place), unfolding(happening_meaning::specs::Happening::tested, happening_meaning::specs::Happening::unless))]
 fn test<'a>(
     rows: &'a [u8],
     facts: &'a [u8],
@@ -102,6 +95,7 @@ fn test<'a>(
 }
 
 // Step 1, point by point.
+#[tactic(auto, using(happening_meetings::proofs::Given::by_point), unfolding(happening_meaning::specs::Happening::each, happening_meaning::specs::Happening::unless))]
 fn test_all<'a>(
     rows: &'a [u8],
     facts: &'a [u8],
@@ -114,18 +108,17 @@ fn test_all<'a>(
     ensures { result ≡ each (tested summed (state_in facts.now numbers.now))
         (points_in rows.now points.now objects.now n 0) }
 {
-    let mut j = 0;
-    while j < n {
+    for j in 0..n {
         let o = test(rows, facts, numbers, points, objects, j);
         let Outcome::Done = o else {
             return o;
         };
-        j += 1;
     }
     Outcome::Done
 }
 
 // Step 2 for point j: no two of its effects are in each other's way.
+#[tactic(auto, using(happening_placing::proofs::Placing::line_is, happening_meetings::proofs::Given::marks_are), unfolding(happening_meaning::specs::Happening::apart))]
 fn keep_apart<'a>(
     rows: &'a [u8],
     points: &'a [usize; 256],
@@ -143,6 +136,7 @@ fn keep_apart<'a>(
 }
 
 // Step 2, point by point.
+#[tactic(auto, using(happening_meetings::proofs::Given::by_point), unfolding(happening_meaning::specs::Happening::each, happening_meaning::specs::Happening::unless))]
 fn apart_all<'a>(
     rows: &'a [u8],
     points: &'a [usize; 256],
@@ -152,18 +146,17 @@ fn apart_all<'a>(
     requires { (n ≤ 64) × (385 ≤ length rows.now) }
     ensures { result ≡ each (apart summed) (points_in rows.now points.now objects.now n 0) }
 {
-    let mut j = 0;
-    while j < n {
+    for j in 0..n {
         let o = keep_apart(rows, points, objects, j);
         let Outcome::Done = o else {
             return o;
         };
-        j += 1;
     }
     Outcome::Done
 }
 
 // Steps 1 to 3.
+#[tactic(auto, unfolding(happening_meaning::specs::Happening::allowed, happening_meaning::specs::Happening::unless))]
 pub fn allow<'a>(
     rows: &'a [u8],
     facts: &'a [u8],

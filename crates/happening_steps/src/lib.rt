@@ -51,6 +51,7 @@ pub fn happen<'a>(
 }
 
 // "The last state of all meets the goal."
+#[tactic(auto, unfolding(happening_meaning::specs::Happening::reached))]
 pub fn reach<'a>(goal: &'a [u8], facts: &'a [u8], numbers: &'a [i64]) -> Outcome
     ensures { result ≡ reached summed (goal_at goal.now) (state_in facts.now numbers.now) }
 {

@@ -2,6 +2,7 @@
 use mathlib.Core.Path.{◌≡◌, refl, ap}
 use mathlib.Core.List.{List}
 use mathlib.Core.Bool.{Bool, true, false, cond}
+use Rattle.std.proofs.Common.{Option, Some, None}
 use Prim.Native.Nat.{ℕ, zero, suc, ◌+◌, ◌-◌, ◌≤◌, ◌<◌}
 use native.Mathlib.Omega.{arith}
 use lib.Dec.{ltb, eqb}
@@ -9,16 +10,15 @@ use lib.ListN.{length}
 use borrow.Author.Tests.{lt-ltb, le-ltb}
 use Rattle.domain_meaning.specs.Conditions.{Cond, Comparison}
 use Rattle.domain_meaning.specs.Conditions as C
-use Rattle.domain_meaning.specs.Indexes.{object_of}
 use Rattle.domain_rows.specs.Held.{byte_at}
 use Rattle.domain_stored_meaning.specs.Cells.{comparison_cell}
-use Rattle.domain_stored_meaning.specs.Decode.{Decoded, arg_of, comparison_of}
+use Rattle.domain_stored_meaning.specs.Decode.{Decoded, comparison_of}
 use Rattle.domain_prepared_meaning.specs.Forms.{index_by}
 use Rattle.domain_prepared_meaning.specs.Decode.{form_at, begins_test, same_at, atom_at, compare_at, test_at}
 use Rattle.happening_forms.proofs.Placing.{fact_at_lem}
-use Rattle.happening_tests.specs.Taken.{wants, row_of, row_at}
+use Rattle.happening_tests.specs.Taken.{row_of, row_at}
 use Rattle.happening_tests.specs.declared.taken.Row.{Row}
-use Rattle.happening_tests.specs.declared.taken.Row.TheVariants.{End, Fact, Same, Compare}
+use Rattle.happening_tests.specs.declared.taken.Row.TheVariants.{Fact, Compare}
 
 -- ---- which comparison
 
@@ -79,24 +79,20 @@ module _ (rows : List ℕ) (at tag : ℕ) where
 -- ---- taken apart
 
 module _ (rows os : List ℕ) (at : ℕ) where
-  pub same_way : (w : Bool) {p q x y : ℕ} {b : Bool} → p ≡ byte_at rows (at + 1) → x ≡ object_of os (arg_of p) → q ≡ byte_at rows (at + 2)
-      → y ≡ object_of os (arg_of q) → b ≡ wants w (eqb x y) → Same b (at + 3) ≡ row_of os (at + 1) (same_at rows at w)
-  same_way w p x q y b = rw (b, x, y, p, q)
-
   pub fact_way : (w : Bool) (v : ℕ) {i : ℕ} → i ≡ index_by (form_at rows (at + 1) v) os
-      → Fact w i (at + 3 + v) ≡ row_of os (at + 1) (atom_at rows at w v)
+      → Some (Fact w i (at + 3 + v)) ≡ row_of os (at + 1) (atom_at rows at w v)
   fact_way w v e = rw (fact_at_lem os (form_at rows (at + 1) v) e)
 
-  pub row_past : length rows ≤ at → End ≡ row_at rows os at
+  pub row_past : length rows ≤ at → None ≡ row_at rows os at
   unfolding row_at
   row_past h = rw (le-ltb at (length rows) h)
 
   module _ {tag : ℕ} (h : at < length rows) (e : tag ≡ byte_at rows at) where
-    pub row_low : tag < 2 → End ≡ row_at rows os at
+    pub row_low : tag < 2 → None ≡ row_at rows os at
     unfolding row_at begins_test
     row_low l = rw (lt-ltb at (length rows) h, ← e, lt-ltb tag 2 l)
 
-    pub row_high : 22 ≤ tag → End ≡ row_at rows os at
+    pub row_high : 22 ≤ tag → None ≡ row_at rows os at
     unfolding row_at begins_test
     row_high l = rw (lt-ltb at (length rows) h, ← e, le-ltb tag 2 (omega arith), le-ltb tag 22 l)
 
@@ -104,23 +100,23 @@ module _ (rows os : List ℕ) (at : ℕ) where
     unfolding row_at begins_test
     begun l u = rw (lt-ltb at (length rows) h, ← e, le-ltb tag 2 l, lt-ltb tag 22 u)
 
-    as_taken : {r : Row} (d : Decoded Cond) → 2 ≤ tag → tag < 22 → test_at rows at tag ≡ d → r ≡ row_of os (at + 1) d → r ≡ row_at rows os at
+    as_taken : {r : Option Row} (d : Decoded Cond) → 2 ≤ tag → tag < 22 → test_at rows at tag ≡ d → r ≡ row_of os (at + 1) d → r ≡ row_at rows os at
     as_taken d l u t r = rw (begun l u, t) r
 
-    pub row_same : {r : Row} → 2 ≤ tag → tag < 4 → r ≡ row_of os (at + 1) (same_at rows at (eqb tag 2)) → r ≡ row_at rows os at
+    pub row_same : {r : Row} → 2 ≤ tag → tag < 4 → Some r ≡ row_of os (at + 1) (same_at rows at (eqb tag 2)) → Some r ≡ row_at rows os at
     row_same l u r = as_taken _ l (omega arith) (test_same rows at tag u) r
 
-    pub row_fact : {r : Row} → 4 ≤ tag → tag < 8 → r ≡ row_of os (at + 1) (atom_at rows at true (tag - 4)) → r ≡ row_at rows os at
+    pub row_fact : {r : Row} → 4 ≤ tag → tag < 8 → Some r ≡ row_of os (at + 1) (atom_at rows at true (tag - 4)) → Some r ≡ row_at rows os at
     row_fact l u r = as_taken _ (omega arith) (omega arith) (test_fact rows at tag l u) r
 
-    pub row_no_fact : {r : Row} → 8 ≤ tag → tag < 12 → r ≡ row_of os (at + 1) (atom_at rows at false (tag - 8)) → r ≡ row_at rows os at
+    pub row_no_fact : {r : Row} → 8 ≤ tag → tag < 12 → Some r ≡ row_of os (at + 1) (atom_at rows at false (tag - 8)) → Some r ≡ row_at rows os at
     row_no_fact l u r = as_taken _ (omega arith) (omega arith) (test_no_fact rows at tag l u) r
 
-    pub row_compare : 12 ≤ tag → tag < 17 → Compare true (tag - 12) (at + 1) ≡ row_at rows os at
+    pub row_compare : 12 ≤ tag → tag < 17 → Some (Compare true (tag - 12) (at + 1)) ≡ row_at rows os at
     row_compare l u =
         as_taken _ (omega arith) (omega arith) (test_compare rows at tag l u)
-        (ap (λ (n : ℕ). Compare true n (at + 1)) (celled (tag - 12) (omega arith)))
+        (ap (λ (n : ℕ). Some (Compare true n (at + 1))) (celled (tag - 12) (omega arith)))
 
-    pub row_no_compare : 17 ≤ tag → tag < 22 → Compare false (tag - 17) (at + 1) ≡ row_at rows os at
+    pub row_no_compare : 17 ≤ tag → tag < 22 → Some (Compare false (tag - 17) (at + 1)) ≡ row_at rows os at
     row_no_compare l u =
-        as_taken _ (omega arith) u (test_no_compare rows at tag l) (ap (λ (n : ℕ). Compare false n (at + 1)) (celled (tag - 17) (omega arith)))
+        as_taken _ (omega arith) u (test_no_compare rows at tag l) (ap (λ (n : ℕ). Some (Compare false n (at + 1))) (celled (tag - 17) (omega arith)))

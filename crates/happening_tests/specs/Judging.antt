@@ -8,20 +8,19 @@ use Rattle.happening_meaning.specs.declared.Value.{Value}
 use Rattle.happening_meaning.specs.declared.Truth.{Truth}
 use Rattle.happening_meaning.specs.declared.Truth.TheVariants.{Holds}
 use Rattle.happening_forms.specs.Summed.{summed}
+use Rattle.happening_forms.specs.declared.Taken.{Taken}
 use Rattle.happening_tests.specs.Taken.{second_side}
 use Rattle.happening_tests.specs.declared.taken.Row.{Row}
-use Rattle.happening_tests.specs.declared.taken.Row.TheVariants.{End, Fact, Same, Compare}
-use Rattle.happening_tests.specs.declared.truths.Judged.{Judged}
+use Rattle.happening_tests.specs.declared.taken.Row.TheVariants.{Fact, Same, Compare}
 
 -- what a value that is no number makes of a condition
 unfoldable pub blamed : Value → Truth
 blamed v = on_value v (λ _. Holds)
 
-abbrev pub judged : Truth → ℕ → Judged
-judged t n = record { truth = t; next = n }
+abbrev pub judged : Truth → ℕ → Taken Truth
+judged t n = record { what = t; next = n }
 
-unfoldable pub row_judged : List ℕ → State → List ℕ → Row → Judged
-row_judged rows s os End = judged Holds 0
+unfoldable pub row_judged : List ℕ → State → List ℕ → Row → Taken Truth
 row_judged rows s os (Fact w i n) = judged (agrees w (is_true s.facts i)) n
 row_judged rows s os (Same h n) = judged (agrees true h) n
 row_judged rows s os (Compare w op e) =

@@ -8,11 +8,10 @@ use Rattle.happening_meaning.specs.Writes.{expr_reads}
 use Rattle.happening_forms.specs.Summed.{summed}
 use Rattle.happening_state.specs.Masks.{fact_bit}
 use Rattle.happening_expressions.specs.Evaluated.{expr_mask}
-use Rattle.happening_expressions.specs.declared.masks.Masked.{Masked}
-use Rattle.happening_expressions.specs.declared.reads.Found.{Found}
+use Rattle.happening_forms.specs.declared.Taken.{Taken}
 use Rattle.happening_tests.specs.Taken.{second_side}
 use Rattle.happening_tests.specs.declared.taken.Row.{Row}
-use Rattle.happening_tests.specs.declared.taken.Row.TheVariants.{End, Fact, Same, Compare}
+use Rattle.happening_tests.specs.declared.taken.Row.TheVariants.{Fact, Same, Compare}
 
 module _ (g : Grounds) (os : List ℕ) where
   unfoldable mutual
@@ -36,31 +35,29 @@ module _ (g : Grounds) (os : List ℕ) where
 
 -- ---- of a condition that was taken apart
 
-abbrev pub masked : ℕ → ℕ → Masked
-masked m n = record { mask = m; next = n }
+abbrev pub masked : ℕ → ℕ → Taken ℕ
+masked m n = record { what = m; next = n }
 
-unfoldable pub row_masked : List ℕ → List ℕ → Row → Masked
-row_masked rows os End = masked 0 0
+unfoldable pub row_masked : List ℕ → List ℕ → Row → Taken ℕ
 row_masked rows os (Fact w i n) = masked (fact_bit i) n
 row_masked rows os (Same h n) = masked 0 n
 row_masked rows os (Compare w op e) =
     masked (bit_or (expr_mask summed os (expression_at rows e).tree) (expr_mask summed os (second_side rows e).tree))
     (second_side rows e).next
 
-abbrev pub found : Bool → ℕ → Found
-found b n = record { found = b; next = n }
+abbrev pub found : Bool → ℕ → Taken Bool
+found b n = record { what = b; next = n }
 
 -- number x if `numeric`, else fact x
-abbrev pub fact_found : Bool → ℕ → ℕ → ℕ → Found
+abbrev pub fact_found : Bool → ℕ → ℕ → ℕ → Taken Bool
 fact_found numeric x i n = found (cond numeric false (eqb i x)) n
 
-abbrev pub sides_found : List ℕ → List ℕ → Bool → ℕ → ℕ → Found
+abbrev pub sides_found : List ℕ → List ℕ → Bool → ℕ → ℕ → Taken Bool
 sides_found rows os numeric x e =
     found (cond numeric (expr_reads summed os x (expression_at rows e).tree || expr_reads summed os x (second_side rows e).tree) false)
     (second_side rows e).next
 
-unfoldable pub row_found : List ℕ → List ℕ → Bool → ℕ → Row → Found
-row_found rows os numeric x End = found false 0
+unfoldable pub row_found : List ℕ → List ℕ → Bool → ℕ → Row → Taken Bool
 row_found rows os numeric x (Fact w i n) = fact_found numeric x i n
 row_found rows os numeric x (Same h n) = found false n
 row_found rows os numeric x (Compare w op e) = sides_found rows os numeric x e

@@ -3,33 +3,29 @@ ghost use Rattle.std.specs.Prelude.{◌≡◌, true, false, ◌||◌, ◌<◌};
 ghost use Rattle.domain_prepared_meaning.specs.Decode.{tests_at};
 ghost use Rattle.happening_meaning.specs.Writes.{some, cond_reads};
 ghost use Rattle.happening_forms.specs.Summed.{summed, four_at};
-ghost use Rattle.happening_tests.specs.Reading.{mask_of, row_masked, fact_found, sides_found, row_found};
+ghost use Rattle.happening_tests.specs.Reading.{mask_of, row_masked, sides_found, row_found};
 
 use crate::taken;
 use crate::taken::Row;
-use happening_expressions::masks::Masked;
-use happening_expressions::reads::Found;
 use happening_expressions::{ends, masks, reads};
+use happening_forms::Taken;
 
-fn row_mask<'a>(rows: &'a [u8], objects: &'a [u8; 256], k: usize, row: Row) -> Masked
+#[tactic(auto, unfolding(crate::specs::Reading::row_masked, happening_expressions::specs::Evaluated::expr_masked))]
+fn row_mask<'a>(rows: &'a [u8], objects: &'a [u8; 256], k: usize, row: Row) -> Taken<u64>
     requires { k < 64 }
     ensures { result ≡ row_masked rows.now (four_at objects.now k) row }
 {
     match row {
-        Row::End => Masked { mask: 0, next: 0 },
-        Row::Fact(_, i, next) => Masked {
-            mask: happening_state::fact_bit(i),
-            next: next,
+        Row::Fact(_, i, next) => Taken {
+            what: happening_state::fact_bit(i),
+            next,
         },
-        Row::Same(_, next) => Masked {
-            mask: 0,
-            next: next,
-        },
+        Row::Same(_, next) => Taken { what: 0, next },
         Row::Compare(_, _, e) => {
             let a = masks::mask_of(rows, objects, k, e, 16);
             let b = masks::mask_of(rows, objects, k, a.next, 16);
-            Masked {
-                mask: a.mask | b.mask,
+            Taken {
+                what: a.what | b.what,
                 next: b.next,
             }
         }
@@ -43,42 +39,19 @@ pub fn mask_of<'a>(rows: &'a [u8], objects: &'a [u8; 256], k: usize, at: usize) 
 {
     let mut m: u64 = 0;
     let mut i = at;
-    let mut left = rows.len();
-    while 0 < left {
-        let row = taken::test_at(rows, objects, k, i);
-        if taken::is_end(row) {
+    for _ in 0..rows.len() {
+        let Some(row) = taken::test_at(rows, objects, k, i) else {
             return m;
-        }
+        };
         let v = row_mask(rows, objects, k, row);
-        m = m | v.mask;
+        m |= v.what;
         i = v.next;
-        left -= 1;
     }
     m
 }
 
-fn fact_reads(i: usize, next: usize, numeric: bool, x: usize) -> Found
-    ensures { result ≡ fact_found numeric x i next }
-{
-    if numeric {
-        return Found {
-            found: false,
-            next: next,
-        };
-    }
-    Found {
-        found: i == x,
-        next: next,
-    }
-}
-
-fn either(a: bool, b: bool) -> bool
-    ensures { result ≡ (a || b) }
-{
-    a || b
-}
-
 // The two sides of a comparison.
+#[tactic(auto, unfolding(happening_expressions::specs::Evaluated::expr_found))]
 fn sides_read<'a>(
     rows: &'a [u8],
     objects: &'a [u8; 256],
@@ -86,25 +59,26 @@ fn sides_read<'a>(
     e: usize,
     numeric: bool,
     x: usize,
-) -> Found
+) -> Taken<bool>
     requires { k < 64 }
     ensures { result ≡ sides_found rows.now (four_at objects.now k) numeric x e }
 {
     if numeric {
         let a = reads::expr_reads(rows, objects, k, e, 16, x);
         let b = reads::expr_reads(rows, objects, k, a.next, 16, x);
-        return Found {
-            found: either(a.found, b.found),
+        return Taken {
+            what: a.what || b.what,
             next: b.next,
         };
     }
     let second = ends::expr_end(rows, e, 16);
-    Found {
-        found: false,
+    Taken {
+        what: false,
         next: ends::expr_end(rows, second, 16),
     }
 }
 
+#[tactic(auto, unfolding(crate::specs::Reading::row_found))]
 fn row_reads<'a>(
     rows: &'a [u8],
     objects: &'a [u8; 256],
@@ -112,20 +86,16 @@ fn row_reads<'a>(
     row: Row,
     numeric: bool,
     x: usize,
-) -> Found
+) -> Taken<bool>
     requires { k < 64 }
     ensures { result ≡ row_found rows.now (four_at objects.now k) numeric x row }
 {
     match row {
-        Row::End => Found {
-            found: false,
-            next: 0,
+        Row::Fact(_, i, next) => Taken {
+            what: !numeric && i == x,
+            next,
         },
-        Row::Fact(_, i, next) => fact_reads(i, next, numeric, x),
-        Row::Same(_, next) => Found {
-            found: false,
-            next: next,
-        },
+        Row::Same(_, next) => Taken { what: false, next },
         Row::Compare(_, _, e) => sides_read(rows, objects, k, e, numeric, x),
     }
 }
@@ -143,18 +113,15 @@ fn read<'a>(
     ensures { result ≡ some (cond_reads summed (four_at objects.now k) numeric x) (tests_at rows.now at) }
 {
     let mut i = at;
-    let mut left = rows.len();
-    while 0 < left {
-        let row = taken::test_at(rows, objects, k, i);
-        if taken::is_end(row) {
+    for _ in 0..rows.len() {
+        let Some(row) = taken::test_at(rows, objects, k, i) else {
             return false;
-        }
+        };
         let v = row_reads(rows, objects, k, row, numeric, x);
-        if v.found {
+        if v.what {
             return true;
         }
         i = v.next;
-        left -= 1;
     }
     false
 }

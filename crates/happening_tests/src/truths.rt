@@ -10,52 +10,35 @@ ghost use Rattle.happening_tests.specs.Judging.{blamed, row_judged};
 use crate::taken;
 use crate::taken::Row;
 use happening_expressions::values;
+use happening_forms::Taken;
 use happening_meaning::{Truth, Value};
 
-// Whether a condition holds, and the place after it.
-#[derive(Clone, Copy)]
-pub struct Judged {
-    pub truth: Truth,
-    pub next: usize,
-}
-
+#[tactic(auto, unfolding(happening_meaning::specs::Truths::agrees))]
 fn agree(wanted: bool, so: bool) -> Truth
     ensures { result ≡ agrees wanted so }
 {
-    if wanted {
-        if so {
-            return Truth::Holds;
-        }
-        return Truth::Fails;
+    if wanted == so {
+        Truth::Holds
+    } else {
+        Truth::Fails
     }
-    if so {
-        return Truth::Fails;
-    }
-    Truth::Holds
 }
 
 // 0 equal, 1 less, 2 at most, 3 more, else at least.
+#[tactic(auto, unfolding(happening_meaning::specs::Truths::compared, domain_stored_meaning::specs::Decode::comparison_of))]
 fn compares(op: usize, x: i64, y: i64) -> bool
     ensures { result ≡ compared (comparison_of op) x y }
 {
-    if op == 0 {
-        if happening_amounts::at_most(x, y) {
-            return happening_amounts::at_most(y, x);
-        }
-        return false;
+    match op {
+        0 => x == y,
+        1 => x < y,
+        2 => x <= y,
+        3 => x > y,
+        _ => x >= y,
     }
-    if op == 1 {
-        return !happening_amounts::at_most(y, x);
-    }
-    if op == 2 {
-        return happening_amounts::at_most(x, y);
-    }
-    if op == 3 {
-        return !happening_amounts::at_most(x, y);
-    }
-    happening_amounts::at_most(y, x)
 }
 
+#[tactic(auto, unfolding(crate::specs::Judging::blamed))]
 fn blame(v: Value) -> Truth
     ensures { result ≡ blamed v }
 {
@@ -66,6 +49,7 @@ fn blame(v: Value) -> Truth
     }
 }
 
+#[tactic(auto, unfolding(crate::specs::Judging::blamed, happening_meaning::specs::Truths::compared_of))]
 fn compare(wanted: bool, op: usize, a: Value, b: Value) -> Truth
     ensures { result ≡ compared_of wanted (comparison_of op) a b }
 {
@@ -78,7 +62,8 @@ fn compare(wanted: bool, op: usize, a: Value, b: Value) -> Truth
     agree(wanted, compares(op, x, y))
 }
 
-// A condition that was taken apart.
+// Whether a condition that was taken apart holds.
+#[tactic(auto, unfolding(crate::specs::Judging::row_judged, happening_expressions::specs::Evaluated::valued_of))]
 fn judge<'a>(
     rows: &'a [u8],
     facts: &'a [u8],
@@ -86,37 +71,24 @@ fn judge<'a>(
     objects: &'a [u8; 256],
     k: usize,
     row: Row,
-) -> Judged
+) -> Taken<Truth>
     requires { k < 64 }
     ensures { result ≡ row_judged rows.now (state_in facts.now numbers.now) (four_at objects.now k) row }
 {
     match row {
-        Row::End => Judged {
-            truth: Truth::Holds,
-            next: 0,
+        Row::Fact(w, i, next) => Taken {
+            what: agree(w, happening_state::is_true(facts, i)),
+            next,
         },
-        Row::Fact(w, i, next) => {
-            let t = agree(w, happening_state::is_true(facts, i));
-            Judged {
-                truth: t,
-                next: next,
-            }
-        }
-        Row::Same(h, next) => {
-            let t = agree(true, h);
-            Judged {
-                truth: t,
-                next: next,
-            }
-        }
+        Row::Same(h, next) => Taken {
+            what: agree(true, h),
+            next,
+        },
         Row::Compare(w, op, e) => {
             let a = values::value(rows, numbers, objects, k, e, 16);
-            let x = a.value;
             let b = values::value(rows, numbers, objects, k, a.next, 16);
-            let y = b.value;
-            let t = compare(w, op, x, y);
-            Judged {
-                truth: t,
+            Taken {
+                what: compare(w, op, a.what, b.what),
                 next: b.next,
             }
         }
@@ -137,19 +109,15 @@ pub fn hold<'a>(
         (tests_at rows.now at) }
 {
     let mut i = at;
-    let mut left = rows.len();
-    while 0 < left {
-        let row = taken::test_at(rows, objects, k, i);
-        if taken::is_end(row) {
+    for _ in 0..rows.len() {
+        let Some(row) = taken::test_at(rows, objects, k, i) else {
             return Truth::Holds;
-        }
+        };
         let v = judge(rows, facts, numbers, objects, k, row);
-        let t = v.truth;
-        let Truth::Holds = t else {
-            return t;
+        let Truth::Holds = v.what else {
+            return v.what;
         };
         i = v.next;
-        left -= 1;
     }
     Truth::Holds
 }

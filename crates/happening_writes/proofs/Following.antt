@@ -16,8 +16,11 @@ use Rattle.domain_rows.specs.Held.{byte_at}
 use Rattle.domain_stored_meaning.specs.Decode.{Decoded, decoded, mapped}
 use Rattle.domain_prepared_meaning.specs.Forms.{ref_by}
 use Rattle.domain_prepared_meaning.specs.Decode.{form_at, leaf_at, expr_node, expr_at, expression_at, begins_effect, effect_at, effects_from, effects_at}
+use Rattle.std.specs.declared.option.Option.{Option}
+use Rattle.std.specs.declared.option.Option.TheVariants.{Some, None}
+use Rattle.happening_writes.specs.declared.rows.How.{How}
 use Rattle.happening_writes.specs.declared.rows.Row.{Row}
-use Rattle.happening_writes.specs.declared.rows.Row.TheVariants.{End, Fact, Number}
+use Rattle.happening_writes.specs.declared.rows.Row.TheVariants.{Fact, Number}
 use Rattle.happening_writes.specs.Rows.{params_of, how_of, row_of, taken_at, row_at}
 use Rattle.happening_writes.proofs.Decoding.{by_tag}
 
@@ -96,9 +99,9 @@ pub record FactAt (rows : List ℕ) (at : ℕ) (added : Bool) (v next : ℕ) : T
   pub further : at < next
   pub effects : effects_at rows at ≡ becomes added (ref_by (form_at rows (at + 1) v)) ∷ effects_at rows next
 
-pub record NumberAt (rows : List ℕ) (at how v right : ℕ) : Type 0 where
+pub record NumberAt (rows : List ℕ) (at : ℕ) (how : How) (v right : ℕ) : Type 0 where
   pub change : Change
-  pub cell : how_of change ≡ how
+  pub called : how_of change ≡ how
   pub few : v ≤ 3
   pub inside : at < length rows
   pub further : at < (expression_at rows right).next
@@ -106,9 +109,12 @@ pub record NumberAt (rows : List ℕ) (at how v right : ℕ) : Type 0 where
       ≡ changes change (ref_by (form_at rows (at + 1) v)) (expression_at rows right).tree ∷ effects_at rows (expression_at rows right).next
 
 abbrev pub Says : List ℕ → ℕ → Row → Type 0
-Says rows at End = effects_at rows at ≡ []
 Says rows at (Fact a v n) = FactAt rows at a v n
 Says rows at (Number h v r) = NumberAt rows at h v r
+
+abbrev Tells : List ℕ → ℕ → Option Row → Type 0
+Tells rows at None = effects_at rows at ≡ []
+Tells rows at (Some r) = Says rows at r
 
 params_few : (tag : ℕ) → begins_effect tag ≡ true → params_of tag ≤ 3
 unfolding params_of begins_effect
@@ -152,7 +158,7 @@ module _ (rows : List ℕ) (at : ℕ) where
         rw e
         (record {
           change = how;
-          cell = refl;
+          called = refl;
           few = params_few (byte_at rows at) b;
           inside = h;
           further = omega (arith, expr_after rows 16 (at + 3 + params_of (byte_at rows at)));
@@ -167,19 +173,23 @@ module _ (rows : List ℕ) (at : ℕ) where
         (λ (p : ltb tag 8 ≡ false) (q : ltb tag 12 ≡ false) (r : ltb tag 15 ≡ false) (s : ltb tag 18 ≡ true). number_so raise (rw (p, q, r, s)))
         (λ (p : ltb tag 8 ≡ false) (q : ltb tag 12 ≡ false) (r : ltb tag 15 ≡ false) (s : ltb tag 18 ≡ false). number_so lower (rw (p, q, r, s)))
 
-  says : Says rows at (row_at rows at)
+  says : Tells rows at (row_at rows at)
   unfolding row_at
   says = by_place (ltb at (length rows)) refl
     where
-      by_begin : ltb at (length rows) ≡ true → (b : Bool) → begins_effect (byte_at rows at) ≡ b → Says rows at (cond b (taken_at rows at (byte_at rows at)) End)
+      by_begin : ltb at (length rows) ≡ true → (b : Bool) → begins_effect (byte_at rows at) ≡ b
+          → Tells rows at (cond b (Some (taken_at rows at (byte_at rows at))) None)
       by_begin h true e = taken_says (ltb-true at (length rows) h) e
       by_begin h false e = unfolded rows at ∙ rw (h, e)
 
       by_place : (b : Bool) → ltb at (length rows) ≡ b
-          → Says rows at (cond b (cond (begins_effect (byte_at rows at)) (taken_at rows at (byte_at rows at)) End) End)
+          → Tells rows at (cond b (cond (begins_effect (byte_at rows at)) (Some (taken_at rows at (byte_at rows at))) None) None)
       by_place true h = by_begin h (begins_effect (byte_at rows at)) refl
       by_place false h = unfolded rows at ∙ rw h
 
-  -- of a row that code has taken apart
-  pub told : {row r : Row} → row ≡ row_at rows at → row ≡ r → Says rows at r
-  told e q = subst (Says rows at) (sym e ∙ q) says
+  -- where the list ends, and of a row that code has taken apart
+  pub ended : None ≡ row_at rows at → effects_at rows at ≡ []
+  ended e = subst (Tells rows at) (sym e) says
+
+  pub told : {row r : Row} → Some row ≡ row_at rows at → row ≡ r → Says rows at r
+  told {row} {r} e q = subst (Says rows at) q (subst (Tells rows at) (sym e) says)

@@ -4,7 +4,7 @@ pub mod Following
 pub mod Bounds
 pub mod Changed
 pub mod Settling
-pub mod Clashing
 pub mod Turning
 pub mod Joining
 pub mod Masking
+pub mod Walking

@@ -1,5 +1,5 @@
 -- Step 4 as code does it: one effect on a number, by what it does, its index and the value of its right side; and room for exact sums.
-use Rattle.std.specs.Prelude.{◌≡◌, ℕ, ◌+◌, ◌*◌, ◌≤◌, ◌<◌, ◌^◌, List, [], ◌∷◌, Bool, true, false, cond, eqb, ℤ, set}
+use Rattle.std.specs.Prelude.{◌≡◌, ℕ, ◌+◌, ◌*◌, ◌≤◌, ◌<◌, ◌^◌, List, [], ◌∷◌, Bool, true, false, cond, ℤ, set}
 use Rattle.std.specs.Int.Signed.{mag}
 use Rattle.domain_meaning.specs.Effects.{Change, assign, raise, lower}
 use Rattle.happening_meaning.specs.State.{inside, number_at, stored}
@@ -9,10 +9,14 @@ use Rattle.happening_meaning.specs.declared.Mark.{Mark}
 use Rattle.happening_meaning.specs.declared.Mark.TheVariants.{Nothing, Fact, Number}
 use Rattle.happening_meaning.specs.declared.Outcome.{Outcome}
 use Rattle.happening_meaning.specs.declared.Outcome.TheVariants.{Done}
+use Rattle.happening_writes.specs.declared.rows.How.{How}
+use Rattle.happening_writes.specs.declared.rows.How.TheVariants.{Assigned, Raised, Lowered}
 
--- what is done to a number, by the code's number for it
-unfoldable pub change_in : ℕ → Change
-change_in how = cond (eqb how 0) assign (cond (eqb how 1) raise lower)
+-- what is done to a number, by the code's word for it
+abbrev pub change_in : How → Change
+change_in Assigned = assign
+change_in Raised = raise
+change_in Lowered = lower
 
 -- what a value that is no number comes to
 unfoldable pub blamed : ℕ → Value → Outcome

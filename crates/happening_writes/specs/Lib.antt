@@ -1,4 +1,5 @@
 -- What the contracts name.
 pub mod Rows
+pub mod Left
 pub mod Changing
 pub mod Masks

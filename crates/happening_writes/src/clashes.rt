@@ -1,94 +1,44 @@
 // Effects that can't be together, in one point or in two; and what right sides read.
-ghost use Rattle.std.specs.Prelude.{◌≡◌, ◌<◌, eqb};
+ghost use Rattle.std.specs.Prelude.{◌≡◌, ◌<◌};
 ghost use Rattle.domain_prepared_meaning.specs.Decode.{effects_at};
 ghost use Rattle.happening_meaning.specs.Writes.{undo, collide, against, some, itself, right_reads};
-ghost use Rattle.happening_meaning.specs.declared.Mark.TheVariants.{Fact, Number};
 ghost use Rattle.happening_forms.specs.Summed.{summed, four_at};
 ghost use Rattle.happening_writes.specs.Rows.{marks_at};
+ghost use Rattle.happening_writes.specs.Left.{left};
 
+use crate::marks::Marks;
 use crate::rows;
-use happening_expressions::{ends, reads};
+use happening_expressions::reads;
 use happening_meaning::Mark;
 use rows::Row;
 
 // Both write one number, "unless both only raise or lower it".
-fn collides(assigned: bool, x: usize, how: usize, y: usize) -> bool
-    ensures { result ≡ collide (Number assigned x) (Number (eqb how 0) y) }
+#[tactic(auto, unfolding(happening_meaning::specs::Writes::collide))]
+fn collide(m: Mark, n: Mark) -> bool
+    ensures { result ≡ collide m n }
 {
-    x == y && (assigned || how == 0)
-}
-
-// Whether one of the list at a place writes number x so, as one that assigns it, or only raises or lowers it, can't be with.
-fn collided<'a>(
-    rows: &'a [u8],
-    objects: &'a [u8; 256],
-    k: usize,
-    from: usize,
-    assigned: bool,
-    x: usize,
-) -> bool
-    requires { k < 64 }
-    ensures { result ≡ some (collide (Number assigned x)) (marks_at rows.now (four_at objects.now k) from) }
-{
-    let mut at = from;
-    loop {
-        let row = rows::effect_at(rows, at);
-        match row {
-            Row::End => {
-                return false;
-            }
-            Row::Fact(_, _, next) => {
-                at = next;
-            }
-            Row::Number(how, v, right) => {
-                let y = happening_forms::index(rows, objects, k, at + 1, v);
-                if collides(assigned, x, how, y) {
-                    return true;
-                }
-                at = ends::expr_end(rows, right, 16);
-            }
-        }
+    match (m, n) {
+        (Mark::Number(assigned, x), Mark::Number(assigns, y)) => x == y && (assigned || assigns),
+        _ => false,
     }
 }
 
 // "one adds what the other deletes"
-fn undoes(added: bool, x: usize, adds: bool, y: usize) -> bool
-    ensures { result ≡ undo (Fact added x) (Fact adds y) }
+#[tactic(auto, unfolding(happening_meaning::specs::Writes::undo))]
+fn undo(m: Mark, n: Mark) -> bool
+    ensures { result ≡ undo m n }
 {
-    x == y && added != adds
+    match (m, n) {
+        (Mark::Fact(added, x), Mark::Fact(adds, y)) => x == y && added != adds,
+        _ => false,
+    }
 }
 
-// Whether one of the list at a place deletes fact x that is added, or adds it where it is deleted.
-fn undone<'a>(
-    rows: &'a [u8],
-    objects: &'a [u8; 256],
-    k: usize,
-    from: usize,
-    added: bool,
-    x: usize,
-) -> bool
-    requires { k < 64 }
-    ensures { result ≡ some (undo (Fact added x)) (marks_at rows.now (four_at objects.now k) from) }
+#[tactic(auto, unfolding(happening_meaning::specs::Writes::against))]
+fn against(m: Mark, n: Mark) -> bool
+    ensures { result ≡ against m n }
 {
-    let mut at = from;
-    loop {
-        let row = rows::effect_at(rows, at);
-        match row {
-            Row::End => {
-                return false;
-            }
-            Row::Fact(adds, v, next) => {
-                let y = happening_forms::index(rows, objects, k, at + 1, v);
-                if undoes(added, x, adds, y) {
-                    return true;
-                }
-                at = next;
-            }
-            Row::Number(_, _, right) => {
-                at = ends::expr_end(rows, right, 16);
-            }
-        }
-    }
+    collide(m, n) || undo(m, n)
 }
 
 // Whether an effect of another point can't be together with one of the list at a place.
@@ -96,37 +46,32 @@ pub fn clashes<'a>(rows: &'a [u8], objects: &'a [u8; 256], k: usize, from: usize
     requires { k < 64 }
     ensures { result ≡ some (against m) (marks_at rows.now (four_at objects.now k) from) }
 {
+    Marks::new(rows, objects, k, from).any(|n| against(m, n))
+}
+
+// Whether a mark collides with one of those after it: only a number does.
+fn collided(m: Mark, mut later: Marks) -> bool
+    ensures { result ≡ some (collide m) (left later.entry) }
+{
     match m {
-        Mark::Nothing => false,
-        Mark::Fact(added, x) => undone(rows, objects, k, from, added, x),
-        Mark::Number(assigned, x) => collided(rows, objects, k, from, assigned, x),
+        Mark::Number(..) => later.any(|n| collide(m, n)),
+        Mark::Nothing | Mark::Fact(..) => false,
     }
 }
 
 // Step 2: "no number is assigned twice, or assigned and also raised or lowered".
+#[tactic(auto, unfolding(happening_meaning::specs::Writes::itself))]
 pub fn itself<'a>(rows: &'a [u8], objects: &'a [u8; 256], k: usize, from: usize) -> bool
     requires { k < 64 }
     ensures { result ≡ itself (marks_at rows.now (four_at objects.now k) from) }
 {
-    let mut at = from;
-    loop {
-        let row = rows::effect_at(rows, at);
-        match row {
-            Row::End => {
-                return false;
-            }
-            Row::Fact(_, _, next) => {
-                at = next;
-            }
-            Row::Number(how, v, right) => {
-                let x = happening_forms::index(rows, objects, k, at + 1, v);
-                at = ends::expr_end(rows, right, 16);
-                if collided(rows, objects, k, at, how == 0, x) {
-                    return true;
-                }
-            }
+    let mut marks = Marks::new(rows, objects, k, from);
+    while let Some(m) = marks.next() {
+        if collided(m, marks) {
+            return true;
         }
     }
+    false
 }
 
 // Whether a right side of the list at a place reads number x.
@@ -141,22 +86,17 @@ pub fn rights_read<'a>(
     ensures { result ≡ some (right_reads summed (four_at objects.now k) x) (effects_at rows.now from) }
 {
     let mut at = from;
-    loop {
-        let row = rows::effect_at(rows, at);
+    while let Some(row) = rows::effect_at(rows, at) {
         match row {
-            Row::End => {
-                return false;
-            }
-            Row::Fact(_, _, next) => {
-                at = next;
-            }
-            Row::Number(_, _, right) => {
+            Row::Fact { next, .. } => at = next,
+            Row::Number { right, .. } => {
                 let e = reads::expr_reads(rows, objects, k, right, 16, x);
-                if e.found {
+                if e.what {
                     return true;
                 }
                 at = e.next;
             }
         }
     }
+    false
 }

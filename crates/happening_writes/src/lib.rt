@@ -4,6 +4,7 @@
 
 pub mod clashes;
 pub mod facts;
+pub mod marks;
 pub mod masks;
 pub mod numbers;
 pub mod rows;

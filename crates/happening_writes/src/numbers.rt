@@ -1,20 +1,21 @@
 // The effects of a point on numbers: right sides are evaluated in the old numbers, new ones are stored in a second table.
-ghost use Rattle.std.specs.Prelude.{◌≡◌, ◌-◌, ◌<◌, ◌^◌, not, length, set};
+ghost use Rattle.std.specs.Prelude.{◌≡◌, ◌-◌, ◌<◌, ◌^◌, length};
 ghost use Rattle.std.specs.Int.Signed.{mag};
 ghost use Rattle.domain_prepared_meaning.specs.Decode.{effects_at};
 ghost use Rattle.happening_amounts.specs.Ranged.{Ranged};
-ghost use Rattle.happening_meaning.specs.State.{inside, number_at};
 ghost use Rattle.happening_meaning.specs.Writes.{some};
 ghost use Rattle.happening_meaning.specs.Happening.{made, change_all, leaves};
 ghost use Rattle.happening_forms.specs.Summed.{summed, four_at};
 ghost use Rattle.happening_writes.specs.Rows.{marks_at};
 ghost use Rattle.happening_writes.specs.Changing.{Bounded, Room, change_in, blamed, shifted, change_by, settle_all};
 
+use crate::marks::Marks;
 use crate::rows;
-use happening_expressions::{ends, values};
-use happening_meaning::{Outcome, Value};
-use rows::Row;
+use happening_expressions::values;
+use happening_meaning::{Mark, Outcome, Value};
+use rows::{How, Row};
 
+#[tactic(auto, unfolding(crate::specs::Changing::blamed))]
 fn blame(line: usize, v: Value) -> Outcome
     ensures { result ≡ blamed line v }
 {
@@ -26,6 +27,7 @@ fn blame(line: usize, v: Value) -> Outcome
 }
 
 // Number x is raised, or lowered, by z: "the exact sum of rises and falls".
+#[tactic(auto, unfolding(crate::specs::Changing::shifted, crate::specs::Changing::blamed))]
 fn shift(old: &[i64], fresh: &mut [i64], line: usize, x: usize, raises: bool, z: i64) -> Outcome
     requires { (mag z < 2 ^ 61) × Bounded (2 ^ 61 - 1) old.now fresh.old }
     ensures { made result fresh.new ≡ shifted line old.now fresh.old x raises z }
@@ -43,12 +45,13 @@ fn shift(old: &[i64], fresh: &mut [i64], line: usize, x: usize, raises: bool, z:
     Outcome::Done
 }
 
-// Number x is assigned (0), raised (1) or lowered (2) by the value v of the right side.
+// Number x is assigned, raised or lowered by the value v of the right side.
+#[tactic(auto, unfolding(crate::specs::Changing::change_by, crate::specs::Changing::shifted, crate::specs::Changing::blamed))]
 fn change_number(
     old: &[i64],
     fresh: &mut [i64],
     line: usize,
-    how: usize,
+    how: How,
     x: usize,
     v: Value,
 ) -> Outcome
@@ -58,11 +61,14 @@ fn change_number(
     let Value::Number(z) = v else {
         return blame(line, v);
     };
-    if how == 0 {
-        happening_state::put(fresh, x, z);
-        return Outcome::Done;
+    match how {
+        How::Assigned => {
+            happening_state::put(fresh, x, z);
+            Outcome::Done
+        }
+        How::Raised => shift(old, fresh, line, x, true, z),
+        How::Lowered => shift(old, fresh, line, x, false, z),
     }
-    shift(old, fresh, line, x, how == 1, z)
 }
 
 // The effects of a point on the numbers.
@@ -80,20 +86,13 @@ pub fn change<'a>(
         fresh.old (effects_at rows.now from) }
 {
     let mut at = from;
-    loop {
-        let row = rows::effect_at(rows, at);
+    while let Some(row) = rows::effect_at(rows, at) {
         match row {
-            Row::End => {
-                return Outcome::Done;
-            }
-            Row::Fact(_, _, next) => {
-                at = next;
-            }
-            Row::Number(how, v, right) => {
-                let x = happening_forms::index(rows, objects, k, at + 1, v);
+            Row::Fact { next, .. } => at = next,
+            Row::Number { how, params, right } => {
+                let x = happening_forms::index(rows, objects, k, at + 1, params);
                 let e = values::value(rows, old, objects, k, right, 16);
-                let u = e.value;
-                let o = change_number(old, fresh, line, how, x, u);
+                let o = change_number(old, fresh, line, how, x, e.what);
                 let Outcome::Done = o else {
                     return o;
                 };
@@ -101,12 +100,17 @@ pub fn change<'a>(
             }
         }
     }
+    Outcome::Done
 }
 
-fn leaves_range(fresh: &[i64], x: usize) -> bool
-    ensures { result ≡ not (inside (number_at fresh.now x)) }
+#[tactic(auto, unfolding(happening_meaning::specs::Happening::leaves))]
+fn leaves_range(fresh: &[i64], m: Mark) -> bool
+    ensures { result ≡ leaves fresh.now m }
 {
-    !happening_amounts::is_inside(happening_state::number(fresh, x))
+    match m {
+        Mark::Number(_, x) => !happening_amounts::is_inside(happening_state::number(fresh, x)),
+        Mark::Nothing | Mark::Fact(..) => false,
+    }
 }
 
 // Whether a number that a point writes has ended outside the range.
@@ -120,34 +124,11 @@ pub fn leaves<'a>(
     requires { k < 64 }
     ensures { result ≡ some (leaves fresh.now) (marks_at rows.now (four_at objects.now k) from) }
 {
-    let mut at = from;
-    loop {
-        let row = rows::effect_at(rows, at);
-        match row {
-            Row::End => {
-                return false;
-            }
-            Row::Fact(_, _, next) => {
-                at = next;
-            }
-            Row::Number(_, v, right) => {
-                let x = happening_forms::index(rows, objects, k, at + 1, v);
-                if leaves_range(fresh, x) {
-                    return true;
-                }
-                at = ends::expr_end(rows, right, 16);
-            }
-        }
-    }
-}
-
-fn settle_one(source: &[i64], target: &mut [i64], x: usize)
-    ensures { target.new ≡ set target.old x (number_at source.now x) }
-{
-    happening_state::put(target, x, happening_state::number(source, x));
+    Marks::new(rows, objects, k, from).any(|m| leaves_range(fresh, m))
 }
 
 // Each number that a point writes becomes what it is in the source.
+#[tactic(auto, unfolding(crate::specs::Changing::settle_all, crate::specs::Changing::settle_one))]
 pub fn settle<'a>(
     rows: &'a [u8],
     source: &'a [i64],
@@ -160,21 +141,9 @@ pub fn settle<'a>(
     ensures { target.new ≡ settle_all source.now target.old
         (marks_at rows.now (four_at objects.now k) from) }
 {
-    let mut at = from;
-    loop {
-        let row = rows::effect_at(rows, at);
-        match row {
-            Row::End => {
-                return;
-            }
-            Row::Fact(_, _, next) => {
-                at = next;
-            }
-            Row::Number(_, v, right) => {
-                let x = happening_forms::index(rows, objects, k, at + 1, v);
-                settle_one(source, target, x);
-                at = ends::expr_end(rows, right, 16);
-            }
+    for m in Marks::new(rows, objects, k, from) {
+        if let Mark::Number(_, x) = m {
+            happening_state::put(target, x, happening_state::number(source, x));
         }
     }
 }

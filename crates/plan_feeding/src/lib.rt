@@ -6,7 +6,7 @@ pub mod stepping;
 use plan_running::Past;
 
 // What is kept of a plan beside the state, the points that wait and the bytes of the line.
-#[derive(Clone, Copy)]
+#[derive(Clone, Copy, PartialEq, Eq)]
 pub struct PlanProgress {
     // how many bytes the line has so far, and its number
     pub used: usize,

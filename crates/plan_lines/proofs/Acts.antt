@@ -1,9 +1,10 @@
 -- The ways through a plan line: what is refused on the way is the line's refusal, and the whole way gives the step. Assumes nothing.
+use Rattle.std.specs.Prelude.{Result, Ok, Err}
 use mathlib.Core.Path.{◌≡◌, refl, sym, ap, ◌∙◌}
 use mathlib.Core.List.{List, [], ◌∷◌}
 use mathlib.Core.Bool.{Bool, true, false}
-use mathlib.Core.Option.{Option, some}
-use Prim.Native.Nat.{ℕ, ◌+◌, ◌*◌, ◌≤◌, ◌<◌}
+use mathlib.Core.Option.{some}
+use Prim.Native.Nat.{ℕ, ◌+◌, ◌≤◌, ◌<◌}
 use native.Mathlib.Omega.{arith}
 use borrow.Author.Tests.{ne_eqb, eqb-false}
 use lib.Dec.{eqb}
@@ -23,10 +24,9 @@ use Rattle.domain_meaning.specs.Read.{Read, Reader, got, refused, and_then}
 use Rattle.domain_meaning.specs.Due.{after_of}
 use Rattle.domain_meaning.specs.Tables.{Table, entry_at, wanted_of}
 use Rattle.domain_meaning.specs.Actions.{Action}
-use Rattle.domain_due.specs.Answers.{answer_of}
-use Rattle.domain_due.specs.declared.Parsed.{Parsed}
-use Rattle.domain_due.specs.declared.Parsed.TheVariants.{Done, Refused}
-use Rattle.domain_due.proofs.Dues.{not_end, answer_done, answer_refused, never_done}
+use Rattle.domain_due.specs.Answers.{answer_of, Parsed, at, Done, Refused}
+use Rattle.domain_due.specs.declared.Refusal.{Refusal}
+use Rattle.domain_due.proofs.Dues.{not_end, done_parts, refused_parts, answer_done, answer_refused, never_done}
 use Rattle.domain_prepared_meaning.specs.Preparing.{action_by}
 use Rattle.domain_prepared_meaning.specs.Decode.{lasts_at, place_in, action_at}
 use Rattle.domain_prepared_meaning.proofs.Actions.{numbered}
@@ -45,24 +45,19 @@ use Rattle.plan_meaning.proofs.Walk.{ReadStep}
 use Rattle.plan_meaning.proofs.Steps.{step_there}
 use Rattle.plan_lines.specs.Knowing.{known_in, lasts_of}
 use Rattle.plan_lines.specs.Reading.{AmountAnswer, span_answer, named_action, lasting_read, Listed}
-use Rattle.plan_lines.specs.Steps.{refused_line, Stepped, Lined}
+use Rattle.plan_lines.specs.Steps.{step_from, Stepped, Lined}
 use Rattle.plan_lines.proofs.Names.{signed_length, arity_signed}
 use Rattle.plan_lines.proofs.Lasts.{span_lasting}
 use Rattle.plan_lines.proofs.Objects.{named_then, known_named, action_below, objects_count, four_padded}
 
 -- ---- a refusal on the way
 
-module _ (n : ℕ) (r : Line) (a : Parsed) (c p : ℕ) (e : a ≡ Refused c p) (q : r ≡ refused_line a) where
-  pub stepped_refused : (x : Read (Step Act)) → x ≡ refused c p → Stepped n r x
-  unfolding Stepped
-  stepped_refused x h = rw h (q ∙ ap refused_line e)
-
-  pub lined_refused : (x : Read (Option (Step Act))) → x ≡ refused c p → Lined n r x
-  unfolding Lined
-  lined_refused x h = rw h (q ∙ ap refused_line e)
+pub stepped_refused : (n c p : ℕ) (x : Read (Step Act)) → x ≡ refused c p → Stepped n (Err (at c p)) x
+unfolding Stepped
+stepped_refused n c p x h = rw h refl
 
 same_refused : {A : Type 0} (j b c p : ℕ) → Refused j b ≡ Refused c p → ◌≡◌ {A = Read A} (refused j b) (refused c p)
-same_refused j b c p e = let x : j ≡ c = cc in let y : b ≡ p = cc in rw (x, y)
+same_refused j b c p e = let h = refused_parts j c b p e in rw (h.0, h.1)
 
 listed_refused : (r : Parsed) (out m : List ℕ) (c p : ℕ) (x : Read (List ℕ)) → Listed r out m x → r ≡ Refused c p → x ≡ refused c p
 unfolding Listed
@@ -113,10 +108,9 @@ span_refused (refused j q) c p e = same_refused j q c p e
 -- the number that was answered says the span
 span_done : (x : Read Span) (a d : ℕ) → Given Lies Free x → span_answer x ≡ Done a d → x ≡ got (span_in d) a
 span_done (got t n) a d (reads h) e =
-    let z : n ≡ a = cc in
-    let y : duration_of t ≡ d = cc in
-    let w : t ≡ span_in d = sym h ∙ ap span_in y in
-    rw (w, z)
+    let q = done_parts n a (duration_of t) d e in
+    let w : t ≡ span_in d = sym h ∙ ap span_in q.1 in
+    rw (w, q.0)
 span_done (refused c p) a d g e = never_done c p a d e
 
 -- ---- objects that were taken
@@ -128,7 +122,7 @@ record Taken (x : Read (List ℕ)) (out m : List ℕ) (at : ℕ) : Type 0 where
 
 listed_done : (r : Parsed) (out m : List ℕ) (a u : ℕ) (x : Read (List ℕ)) → Listed r out m x → r ≡ Done a u → Taken x out m a
 unfolding Listed
-listed_done r out m a u (got os n) h e = let z : n ≡ a = cc in record { objects = os; is = rw z; stored = h.1 }
+listed_done r out m a u (got os n) h e = let q = done_parts n a (length os) u (sym h.0 ∙ e) in record { objects = os; is = rw q.0; stored = h.1 }
 listed_done r out m a u (refused c p) h e = never_done c p a u (sym h ∙ e)
 
 -- ---- the action with a number, of what the model's numbers say
@@ -249,7 +243,7 @@ module _ (s tables : List ℕ) (c : Counts) (heads : List ℕ) (acting : ℕ) (r
           act_read = act_behind ∙ rw (taken.is, span_done (lasting_read s lasts g) z d (span_lies s lasts g) y)
 
           pub act_stepped : out ≡ 0 ∷ 0 ∷ 0 ∷ 0 ∷ [] → start < 1000000000000 → d < 1000000000000
-              → Stepped acting (R.Read (stored n start d i t (length s))) (act_at s known n start at)
+              → Stepped acting (Ok (stored n start d i t (length s))) (act_at s known n start at)
           unfolding Stepped
           act_stepped zeros small short =
               rw act_read (stored n start d i t (length s), refl, lies, (below, small, short))
@@ -264,10 +258,23 @@ module _ (s tables : List ℕ) (c : Counts) (heads : List ℕ) (acting : ℕ) (r
 
 -- ---- the ways through a line
 
-stepped_lined : (n : ℕ) (r : Line) (x : Read (Step Act)) → Stepped n r x → Lined n r (and_then x (λ y e. got (some y) e))
+abbrev line_of : Result D.Step Refusal → Line
+line_of (Ok y) = R.Read y
+line_of (Err why) = R.Refused why.0 why.1
+
+stepped_lined : (n : ℕ) (r : Result D.Step Refusal) (x : Read (Step Act)) → Stepped n r x → Lined n (line_of r) (and_then x (λ y e. got (some y) e))
 unfolding Stepped Lined
-stepped_lined n r (got y e) h = h
-stepped_lined n r (refused c p) h = h
+stepped_lined n r (got y e) h = (h.0, ap line_of h.1, h.2, h.3)
+stepped_lined n r (refused c p) h = ap line_of h
+
+module _ (s : List ℕ) (k : Known) (n before : ℕ) (t : Token) where
+  pub start_refused : (c p : ℕ) → answer_of (start_at before t (after_of t)) ≡ Refused c p → step_from s k n before t (after_of t) ≡ refused c p
+  unfolding step_from
+  start_refused c p h = rw (answer_refused (start_at before t (after_of t)) c p h)
+
+  pub step_started : (a start : ℕ) → answer_of (start_at before t (after_of t)) ≡ Done a start → step_from s k n before t (after_of t) ≡ act_at s k n start a
+  unfolding step_from
+  step_started a start h = rw (answer_done (start_at before t (after_of t)) a start h)
 
 module _ (s : List ℕ) (k : Known) (n before at acting : ℕ) where
   pub line_blank : (p : ℕ) → plan_token_at s at ≡ T.End p → Lined acting R.Blank (line_at s k n before at)
@@ -275,13 +282,14 @@ module _ (s : List ℕ) (k : Known) (n before at acting : ℕ) where
   line_blank p e = rw e refl
 
   module _ (t : Token) (e : t ≡ plan_token_at s at) (o : OneOf (0 ∷ 1 ∷ 2 ∷ 3 ∷ 4 ∷ 5 ∷ []) (tag_of token-type.the_type t)) where
-    line_started : line_at s k n before at ≡ and_then (start_at before t (after_of t)) (λ start a. and_then (act_at s k n start a) (λ x z. got (some x) z))
-    unfolding line_at
-    line_started = rw (← e, not_end t _ _ o)
+    line_started : line_at s k n before at ≡ and_then (step_from s k n before t (after_of t)) (λ x z. got (some x) z)
+    unfolding line_at step_from
+    line_started = rw (← e, not_end t _ _ o) (go (start_at before t (after_of t)))
+      where
+        go : (x : Read ℕ) → and_then x (λ start a. and_then (act_at s k n start a) (λ y z. got (some y) z)) ≡ and_then
+            (and_then x (λ start a. act_at s k n start a)) (λ y z. got (some y) z)
+        go (got start a) = refl
+        go (refused c p) = refl
 
-    pub start_refused : (c p : ℕ) → answer_of (start_at before t (after_of t)) ≡ Refused c p → line_at s k n before at ≡ refused c p
-    start_refused c p h = line_started ∙ rw (answer_refused (start_at before t (after_of t)) c p h)
-
-    pub line_stepped : (a start : ℕ) (r : Line) → answer_of (start_at before t (after_of t)) ≡ Done a start → Stepped acting r (act_at s k n start a)
-        → Lined acting r (line_at s k n before at)
-    line_stepped a start r h g = rw (line_started, answer_done (start_at before t (after_of t)) a start h) (stepped_lined acting r (act_at s k n start a) g)
+    pub line_stepped : (r : Result D.Step Refusal) → Stepped acting r (step_from s k n before t (after_of t)) → Lined acting (line_of r) (line_at s k n before at)
+    line_stepped r h = rw line_started (stepped_lined acting r (step_from s k n before t (after_of t)) h)

@@ -5,7 +5,6 @@ use Prim.Native.Nat.{ℕ}
 use Rattle.domain_prepared_meaning.specs.Decode.{actions_at}
 use Rattle.domain_stored_meaning.specs.Entries.{signed_in}
 use Rattle.domain_terms.specs.declared.scope.Counts.{Counts}
-use Rattle.plan_meaning.specs.Lines.{Known}
 use Rattle.plan_lines.specs.Knowing.{types_in, objects_in, known_in}
 
 pub known_in_lem : (tables : List ℕ) (c : Counts) (heads : List ℕ) (acting : ℕ) (rows : List ℕ)

@@ -1,5 +1,5 @@
 -- The ways through a step's duration. Assumes nothing.
-use mathlib.Core.Path.{◌≡◌, refl, sym, ◌∙◌}
+use mathlib.Core.Path.{◌≡◌, refl}
 use mathlib.Core.List.{List, [], ◌∷◌}
 use mathlib.Core.Bool.{Bool, true, false}
 use Prim.Native.Nat.{ℕ, ◌<◌}
@@ -12,9 +12,7 @@ use Rattle.text_tokens.specs.declared.tokens.Token.{Token}
 use Rattle.text_tokens.specs.declared.tokens.Token.TheVariants as T
 use Rattle.text_tokens.specs.contracts.tokens.Token as token-type
 use Rattle.domain_meaning.specs.Due.{number_of, place_of}
-use Rattle.domain_due.specs.Answers.{answer_of}
-use Rattle.domain_due.specs.declared.Parsed.{Parsed}
-use Rattle.domain_due.specs.declared.Parsed.TheVariants.{Done, Refused}
+use Rattle.domain_due.specs.Answers.{answer_of, Parsed, Done, Refused}
 use Rattle.domain_due.proofs.Dues.{not_number, not_end, answer_done, answer_refused}
 use Rattle.domain_meaning.specs.Actions.{Lasting}
 use Rattle.domain_meaning.specs.Actions as A
@@ -40,17 +38,14 @@ module _ (s : List ℕ) (at : ℕ) where
     duration_zero h = (rw (q, ← v, eq-eqb d 0 h), tt)
 
     module _ (some : d ≡ 0 → ⊥) where
-      pub duration_open : (r : Parsed) (k b : ℕ) → r ≡ answer_of (mark s 93 e) → r ≡ Refused k b → (r ≡ span_answer (duration_in s at)) × AmountAnswer r
+      pub duration_open : (k b : ℕ) → answer_of (mark s 93 e) ≡ Refused k b → (Refused k b ≡ span_answer (duration_in s at)) × Unit {0}
       unfolding duration_in
-      duration_open r k b m h = (rw (q, ← v, ne_eqb d 0 some, answer_refused (mark s 93 e) k b (sym m ∙ h)) h, amount_refused r k b h)
+      duration_open k b m = (rw (q, ← v, ne_eqb d 0 some, answer_refused (mark s 93 e) k b m), tt)
 
       module _ (a w : ℕ) (m : answer_of (mark s 93 e) ≡ Done a w) where
-        pub duration_on : (r : Parsed) (k b : ℕ) → r ≡ answer_of (line_end s a) → r ≡ Refused k b → (r ≡ span_answer (duration_in s at)) × AmountAnswer r
+        pub duration_on : (k b : ℕ) → answer_of (line_end s a) ≡ Refused k b → (Refused k b ≡ span_answer (duration_in s at)) × Unit {0}
         unfolding duration_in
-        duration_on r k b l h = (
-          rw (q, ← v, ne_eqb d 0 some, answer_done (mark s 93 e) a w m, answer_refused (line_end s a) k b (sym l ∙ h)) h,
-          amount_refused r k b h,
-        )
+        duration_on k b l = (rw (q, ← v, ne_eqb d 0 some, answer_done (mark s 93 e) a w m, answer_refused (line_end s a) k b l), tt)
 
         pub duration_read : (n x : ℕ) → answer_of (line_end s a) ≡ Done n x → d < 1000000000000 → (Done n d ≡ span_answer (duration_in s at)) × (d < 1000000000000)
         unfolding duration_in

@@ -1,4 +1,5 @@
 -- The ways through what is due in a plan line: marks, brackets, names, the start. Assumes nothing.
+use Rattle.std.specs.Prelude.{None, Some}
 use mathlib.Core.Path.{◌≡◌, refl}
 use mathlib.Core.List.{List, [], ◌∷◌}
 use Prim.Native.Nat.{ℕ, ◌≤◌, ◌<◌}
@@ -6,7 +7,6 @@ use lib.IntN.{ℤ, nat_abs}
 use types.Run.{OneOf, miss}
 use denote.Enum.Declared.{tag_of}
 use borrow.Author.Tests.{eq-eqb, ne_eqb, lt-ltb, le-ltb}
-use Rattle.text_words.specs.declared.spelling.Place.TheVariants as F
 use Rattle.text_tokens.specs.Runs.{part}
 use Rattle.text_tokens.specs.Tokens.{plan_token_at}
 use Rattle.text_tokens.specs.declared.tokens.Token.{Token}
@@ -15,9 +15,7 @@ use Rattle.text_tokens.specs.declared.tokens.Word.{Word}
 use Rattle.text_tokens.specs.contracts.tokens.Token as token-type
 use Rattle.domain_meaning.specs.Tables.{Table, lookup, declared}
 use Rattle.domain_meaning.specs.Due.{after_of, number_of, place_of}
-use Rattle.domain_due.specs.Answers.{answer_of}
-use Rattle.domain_due.specs.declared.Parsed.{Parsed}
-use Rattle.domain_due.specs.declared.Parsed.TheVariants.{Done, Refused}
+use Rattle.domain_due.specs.Answers.{answer_of, Parsed, Done, Refused}
 use Rattle.domain_due.proofs.Dues.{not_word, not_number, not_open, not_end}
 use Rattle.plan_meaning.specs.Lines.{on_mark, mark, opening, name, line_end, start_at}
 use Rattle.plan_lines.specs.Reading.{AmountAnswer, named_action, named_by}
@@ -78,11 +76,11 @@ module _ (s : List ℕ) (names : Table) (t : Token) where
   unfolding named_by
   named_else r o q = rw (not_word t _ _ o) q
 
-  pub named_missing : (k : Word) (p e : ℕ) → t ≡ T.Word k p e → lookup names (part s p e) ≡ F.Nothing → Refused 8 p ≡ answer_of (named_by s names t (after_of t))
+  pub named_missing : (k : Word) (p e : ℕ) → t ≡ T.Word k p e → lookup names (part s p e) ≡ None → Refused 8 p ≡ answer_of (named_by s names t (after_of t))
   unfolding named_by declared
   named_missing k p e q h = rw (q, h)
 
-  pub named_found : (k : Word) (p e i : ℕ) → t ≡ T.Word k p e → lookup names (part s p e) ≡ F.At i → Done e i ≡ answer_of (named_by s names t (after_of t))
+  pub named_found : (k : Word) (p e i : ℕ) → t ≡ T.Word k p e → lookup names (part s p e) ≡ Some i → Done e i ≡ answer_of (named_by s names t (after_of t))
   unfolding named_by declared
   named_found k p e i q h = rw (q, h)
 

@@ -1,5 +1,6 @@
 -- Names that were found, and the loop over a step's objects: its ways, and what the rest says of the whole. Assumes nothing.
-use mathlib.Core.Path.{◌≡◌, refl, sym, ap, ◌∙◌}
+use Rattle.std.specs.Prelude.{None, Option, Some}
+use mathlib.Core.Path.{◌≡◌, refl, ap, ◌∙◌}
 use mathlib.Core.List.{List, [], ◌∷◌, append-nil}
 use mathlib.Core.Bool.{true, false}
 use Prim.Native.Nat.{ℕ, suc, ◌+◌, ◌-◌, ◌≤◌, ◌<◌}
@@ -10,8 +11,6 @@ use lib.ListN.{length, get_or, drop, set, length-drop}
 use lib.Seq.{sets, drop-drop, get_or-drop}
 use types.Run.{OneOf}
 use denote.Enum.Declared.{tag_of}
-use Rattle.text_words.specs.declared.spelling.Place.{Place}
-use Rattle.text_words.specs.declared.spelling.Place.TheVariants as F
 use Rattle.text_tokens.specs.Runs.{part}
 use Rattle.text_tokens.specs.Tokens.{plan_token_at}
 use Rattle.text_tokens.specs.declared.tokens.Token.{Token}
@@ -20,10 +19,8 @@ use Rattle.text_tokens.specs.contracts.tokens.Token as token-type
 use Rattle.domain_meaning.specs.Read.{Read, Reader, got, refused, and_then, give, refuse}
 use Rattle.domain_meaning.specs.Tables.{Table, entry_at, type_of, lookup, on_found, declared, is_below}
 use Rattle.domain_meaning.specs.Due.{Name, after_of, place_of}
-use Rattle.domain_due.specs.Answers.{answer_of}
-use Rattle.domain_due.specs.declared.Parsed.{Parsed}
-use Rattle.domain_due.specs.declared.Parsed.TheVariants.{Done, Refused}
-use Rattle.domain_due.proofs.Dues.{not_close, never_done, answer_refused}
+use Rattle.domain_due.specs.Answers.{answer_of, Parsed, Done, Refused}
+use Rattle.domain_due.proofs.Dues.{not_close, done_parts, never_done, answer_refused}
 use Rattle.domain_meaning.specs.Indexes.{padded}
 use Rattle.domain_rows.proofs.Rows.{sets_padded}
 use Rattle.domain_meaning.proofs.Given.{Gives, reads, refuses, behind, given_then, close_ahead}
@@ -45,15 +42,14 @@ record Named (x : Read Name) (t : Table) (place a v : ℕ) : Type 0 where
   pub read : Name
   pub is : x ≡ got read a
   pub at_place : read.place ≡ place
-  pub found : lookup t read.word ≡ F.At v
+  pub found : lookup t read.word ≡ Some v
 
-word_named : (s : List ℕ) (t : Table) (p e a v : ℕ) (f : Place) → lookup t (part s p e) ≡ f → answer_of (on_found f (λ i. give i) (refuse 8 p) e) ≡ Done a v
+word_named : (s : List ℕ) (t : Table) (p e a v : ℕ) (f : Option ℕ) → lookup t (part s p e) ≡ f → answer_of (on_found f (λ i. give i) (refuse 8 p) e) ≡ Done a v
     → Named (got (record { place = p; word = part s p e }) e) t p a v
-word_named s t p e a v (F.At i) q h =
-    let x : i ≡ v = cc in
-    let y : e ≡ a = cc in
-    record { read = record { place = p; word = part s p e }; is = rw y; at_place = refl; found = rw x at q }
-word_named s t p e a v F.Nothing q h = never_done 8 p a v h
+word_named s t p e a v (Some i) q h =
+    let h = done_parts e a i v h in
+    record { read = record { place = p; word = part s p e }; is = rw h.0; at_place = refl; found = rw h.1 at q }
+word_named s t p e a v None q h = never_done 8 p a v h
 
 token_named : (s : List ℕ) (names : Table) (t : Token) (a v : ℕ) → answer_of (named_by s names t (after_of t)) ≡ Done a v
     → Named (name_from s t (after_of t)) names (place_of t) a v
@@ -194,9 +190,8 @@ module _ (s : List ℕ) (k : Known) (ws : List ℕ) (from : ℕ) (out₀ out : L
   onward_early p n m e h = stops (Refused 9 p) 9 p m (objects_early s k at (drop j ws) p n e (omega (arith, left))) refl
 
   module _ (no : OneOf (0 ∷ 1 ∷ 2 ∷ 4 ∷ 5 ∷ 6 ∷ []) (tag_of token-type.the_type (plan_token_at s at))) where
-    pub onward_refused : (r : Parsed) (c p : ℕ) (m : List ℕ) → r ≡ answer_of (named_action s k.objects at) → r ≡ Refused c p
-        → Listed r out₀ m (objects_to s k ws from)
-    onward_refused r c p m q e = stops r c p m (objects_refused s k at no (drop j ws) c p (argument_refused s k at c p (sym q ∙ e))) e
+    pub onward_refused : (c p : ℕ) (m : List ℕ) → answer_of (named_action s k.objects at) ≡ Refused c p → Listed (Refused c p) out₀ m (objects_to s k ws from)
+    onward_refused c p m q = stops (Refused c p) c p m (objects_refused s k at no (drop j ws) c p (argument_refused s k at c p q)) refl
 
     module _ (a v : ℕ) (q : answer_of (named_action s k.objects at) ≡ Done a v) where
       pub onward_extra : (p : ℕ) (m : List ℕ) → p ≡ place_of (plan_token_at s at) → length ws ≤ j → Listed (Refused 9 p) out₀ m (objects_to s k ws from)

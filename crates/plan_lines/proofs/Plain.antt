@@ -2,13 +2,8 @@
 use mathlib.Core.Path.{◌≡◌}
 use mathlib.Core.List.{List}
 use Prim.Native.Nat.{ℕ, ◌+◌}
-use native.Mathlib.Nat.{lt_of_lt_of_le}
 use native.Mathlib.Omega.{arith}
-use mir.Syntax.{w64}
-use mir.Val.{Fits}
-use lib.Dec.{T, lit≤}
-use lib.IntN.{ℤ, nat_abs}
-use lib.Signed.{non_neg}
+use lib.IntN.{ℤ}
 use lib.ListN.{length}
 use Rattle.text_tokens.specs.Tokens.{plan_token_at}
 use Rattle.text_tokens.specs.declared.tokens.Token.{Token}
@@ -27,9 +22,6 @@ small_in m (T.End p) h = tt
 
 pub plan_small : (s : List ℕ) (at : ℕ) → Small (plan_token_at s at)
 plan_small s at = small_in (at + length s) (plan_token_at s at) (plan_token s (at + length s) at (omega arith) (omega arith))
-
-pub plain_fits : (z : ℤ) → Plain z → T (non_neg z) × Fits w64 (nat_abs z)
-plain_fits z h = (rw h.0 tt, record { fits = lt_of_lt_of_le h.1 (lit≤ tt) })
 
 -- of a token that was seen to be a number
 pub plain_at : (t : Token) (z : ℤ) (p e : ℕ) → t ≡ T.Number z p e → Small t → Plain z

@@ -1,5 +1,5 @@
 -- What the functions answer, by what the definition of a plan line says is read.
-use Rattle.std.specs.Prelude.{◌≡◌, ℕ, ◌<◌, List, Bool, true, false, cond, eqb, ℤ, pos, nat_abs, length}
+use Rattle.std.specs.Prelude.{◌≡◌, ℕ, ◌<◌, List, Bool, true, false, cond, eqb, ℤ, pos, nat_abs, length, Err}
 use Prim.Native.Char.{code}
 use Rattle.std.proofs.lemmas.List.Edits.{sets}
 use Rattle.text_tokens.specs.Runs.{part}
@@ -8,8 +8,7 @@ use Rattle.text_tokens.specs.declared.tokens.Token.TheVariants as T
 use Rattle.domain_meaning.specs.Read.{◌>>=◌, Read, Reader, got, refused, give, refuse}
 use Rattle.domain_meaning.specs.Tables.{Table, declared}
 use Rattle.domain_meaning.specs.Due.{Name, on_word, on_end}
-use Rattle.domain_due.specs.declared.Parsed.{Parsed}
-use Rattle.domain_due.specs.declared.Parsed.TheVariants.{Done, Refused}
+use Rattle.domain_due.specs.Answers.{Parsed, Done, Refused}
 use Rattle.plan_meaning.specs.Plan.{Span, moment}
 use Rattle.plan_meaning.specs.Lines.{token, misplaced, on_mark, name, duration_in}
 use Rattle.plan_meaning.specs.Promised.{duration_of}
@@ -30,7 +29,7 @@ Small (T.End p) = Unit {0}
 -- a number that was read is one of a plan line
 abbrev pub AmountAnswer : Parsed → Type 0
 AmountAnswer (Done n a) = a < 1000000000000
-AmountAnswer (Refused k p) = Unit {0}
+AmountAnswer (Err why) = Unit {0}
 
 -- how long a step lasts was read: 0 for a simple action
 abbrev pub span_answer : Read Span → Parsed

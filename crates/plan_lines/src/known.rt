@@ -10,10 +10,9 @@ use domain_terms::scope;
 use domain_terms::scope::Counts;
 use text_tokens::runs;
 use text_words::names;
-use text_words::spelling::Place;
 
 // The number of the object w.
-pub fn object_of<'a>(tables: &'a [u8], counts: Counts, w: &'a [u8]) -> Place
+pub fn object_of<'a>(tables: &'a [u8], counts: Counts, w: &'a [u8]) -> Option<usize>
     requires { Tabled tables.now counts }
     ensures { result ≡ lookup (objects_in tables.now counts) w.now }
 {
@@ -30,17 +29,16 @@ pub fn is_fit(tables: &[u8], counts: Counts, i: usize, want: usize) -> bool
     ensures { result ≡ is_below (length (types_in tables.now counts)) (types_in tables.now counts)
         (type_of (entry_at (objects_in tables.now counts) i)) want }
 {
-    let n = counts.types;
     scope::is_below(
         tables,
-        n,
+        counts.types,
         scope::kept_in(tables, layout::OBJECTS_AT, counts.objects, i, 0),
         want,
     )
 }
 
 // The number of the action w.
-pub fn action_of<'a>(heads: &'a [u8], acting: usize, w: &'a [u8]) -> Place
+pub fn action_of<'a>(heads: &'a [u8], acting: usize, w: &'a [u8]) -> Option<usize>
     requires { Headed heads.now acting }
     ensures { result ≡ lookup (signed_in heads.now acting) w.now }
 {
@@ -52,11 +50,7 @@ pub fn arity(heads: &[u8], acting: usize, i: usize) -> usize
     requires { Headed heads.now acting }
     ensures { (result ≡ length (wanted_of (entry_at (signed_in heads.now acting) i))) × (result ≤ 4) }
 {
-    let n = scope::kept_in(heads, 0, acting, i, 0);
-    if n < 4 {
-        return n;
-    }
-    4
+    scope::kept_in(heads, 0, acting, i, 0).min(4)
 }
 
 // The type of parameter j of action i.
@@ -64,10 +58,7 @@ pub fn wanted(heads: &[u8], acting: usize, i: usize, j: usize) -> usize
     requires { Headed heads.now acting × (j < length (wanted_of (entry_at (signed_in heads.now acting) i))) }
     ensures { result ≡ get_or (wanted_of (entry_at (signed_in heads.now acting) i)) j 0 }
 {
-    if j < 4 {
-        return scope::kept_in(heads, 0, acting, i, j + 1);
-    }
-    0
+    scope::kept_in(heads, 0, acting, i, j + 1)
 }
 
 // Whether action i is a durative one: the first byte of its duration rule says it, at the first of its six places.

@@ -9,11 +9,10 @@ ghost use Rattle.plan_lines.specs.Knowing.{Tabled, Headed, objects_in, known_in}
 ghost use Rattle.plan_lines.specs.Reading.{Plain, AmountAnswer, span_answer, named_action, named_by, lasting_read, Listed, Small};
 
 use crate::known;
-use domain_due::Parsed;
+use domain_due::{Parsed, Refusal};
 use domain_terms::scope::Counts;
 use text_tokens::tokens::Token;
 use text_tokens::{signs, tokens};
-use text_words::spelling::Place;
 
 // A colon or a square bracket.
 pub fn mark_due(text: &[u8], from: usize, b: u8) -> Parsed
@@ -21,12 +20,12 @@ pub fn mark_due(text: &[u8], from: usize, b: u8) -> Parsed
 {
     let t = signs::sign_at(text, from, b);
     let Token::Mark(c, p, next) = t else {
-        return domain_due::refusal(t, 1);
+        return Err(domain_due::not_due(t, 1));
     };
     if c == b {
-        return Parsed::Done(next, p);
+        return Ok((next, p));
     }
-    Parsed::Refused(3, p)
+    Err(Refusal(3, p))
 }
 
 // An opening bracket.
@@ -35,9 +34,9 @@ pub fn opening_due(text: &[u8], from: usize) -> Parsed
 {
     let t = signs::sign_at(text, from, b'(');
     let Token::Open(p, next) = t else {
-        return domain_due::refusal(t, 1);
+        return Err(domain_due::not_due(t, 1));
     };
-    Parsed::Done(next, p)
+    Ok((next, p))
 }
 
 // The line's end.
@@ -46,9 +45,9 @@ fn end_due(text: &[u8], from: usize) -> Parsed
 {
     let t = signs::end_at(text, from);
     let Token::End(p) = t else {
-        return domain_due::refusal(t, 1);
+        return Err(domain_due::not_due(t, 1));
     };
-    Parsed::Done(p, p)
+    Ok((p, p))
 }
 
 // An action's name: its number.
@@ -58,13 +57,12 @@ pub fn action_at<'a>(text: &'a [u8], from: usize, heads: &'a [u8], acting: usize
 {
     let t = tokens::plan_token_at(text, from);
     let Token::Word(_, p, e) = t else {
-        return domain_due::refusal(t, 1);
+        return Err(domain_due::not_due(t, 1));
     };
-    let f = known::action_of(heads, acting, tokens::word_of(text, t));
-    let Place::At(i) = f else {
-        return Parsed::Refused(8, p);
+    let Some(i) = known::action_of(heads, acting, tokens::word_of(text, t)) else {
+        return Err(Refusal(8, p));
     };
-    Parsed::Done(e, i)
+    Ok((e, i))
 }
 
 // The number of the object that a token names.
@@ -73,13 +71,12 @@ fn object_at<'a>(text: &'a [u8], t: Token, tables: &'a [u8], counts: Counts) -> 
     ensures { result ≡ answer_of (named_by text.now (objects_in tables.now counts) t (after_of t)) }
 {
     let Token::Word(_, p, e) = t else {
-        return domain_due::refusal(t, 1);
+        return Err(domain_due::not_due(t, 1));
     };
-    let f = known::object_of(tables, counts, tokens::word_of(text, t));
-    let Place::At(i) = f else {
-        return Parsed::Refused(8, p);
+    let Some(i) = known::object_of(tables, counts, tokens::word_of(text, t)) else {
+        return Err(Refusal(8, p));
     };
-    Parsed::Done(e, i)
+    Ok((e, i))
 }
 
 // The objects of action i, to the closing bracket: how many, stored in `out`.
@@ -106,19 +103,16 @@ pub fn objects_at<'a>(
         let t = signs::sign_at(text, at, b')');
         if let Token::Close(p, next) = t {
             if j < arity {
-                return Parsed::Refused(9, p);
+                return Err(Refusal(9, p));
             }
-            return Parsed::Done(next, j);
+            return Ok((next, j));
         }
-        let a = object_at(text, t, tables, counts);
-        let Parsed::Done(after, x) = a else {
-            return a;
-        };
+        let (after, x) = object_at(text, t, tables, counts)?;
         if arity <= j {
-            return Parsed::Refused(9, domain_due::place_of(t));
+            return Err(Refusal(9, domain_due::place_of(t)));
         }
         if !known::is_fit(tables, counts, x, known::wanted(heads, acting, i, j)) {
-            return Parsed::Refused(10, domain_due::place_of(t));
+            return Err(Refusal(10, domain_due::place_of(t)));
         }
         domain_literals::put(out, j, x);
         at = after;
@@ -140,13 +134,13 @@ pub fn start_at(t: Token, before: usize) -> Parsed
     ensures { (result ≡ answer_of (start_at before t (after_of t))) × AmountAnswer result }
 {
     let Token::Number(z, p, next) = t else {
-        return domain_due::refusal(t, 1);
+        return Err(domain_due::not_due(t, 1));
     };
     let n = amount_of(z);
     if n < before {
-        return Parsed::Refused(16, p);
+        return Err(Refusal(16, p));
     }
-    Parsed::Done(next, n)
+    Ok((next, n))
 }
 
 // A duration after its opening bracket, to the line's end. "17 bracket .. holding 0: .. the number"
@@ -155,21 +149,15 @@ fn duration_at(text: &[u8], from: usize) -> Parsed
 {
     let t = tokens::plan_token_at(text, from);
     let Token::Number(z, p, next) = t else {
-        return domain_due::refusal(t, 1);
+        return Err(domain_due::not_due(t, 1));
     };
     let d = amount_of(z);
     if d == 0 {
-        return Parsed::Refused(17, p);
+        return Err(Refusal(17, p));
     }
-    let m = mark_due(text, next, 93);
-    let Parsed::Done(after, _) = m else {
-        return m;
-    };
-    let e = end_due(text, after);
-    let Parsed::Done(end, _) = e else {
-        return e;
-    };
-    Parsed::Done(end, d)
+    let (after, _) = mark_due(text, next, b']')?;
+    let (end, _) = end_due(text, after)?;
+    Ok((end, d))
 }
 
 // The bracket, or the line's end: 0 if there is none. "17 bracket missing, not wanted"
@@ -179,18 +167,18 @@ pub fn span_at(text: &[u8], from: usize, lasting: bool) -> Parsed
     let t = signs::sign_at(text, from, b'[');
     if let Token::End(p) = t {
         if lasting {
-            return Parsed::Refused(17, p);
+            return Err(Refusal(17, p));
         }
-        return Parsed::Done(p, 0);
+        return Ok((p, 0));
     }
     let Token::Mark(b, p, next) = t else {
-        return domain_due::refusal(t, 1);
+        return Err(domain_due::not_due(t, 1));
     };
-    if b != 91 {
-        return Parsed::Refused(3, p);
+    if b != b'[' {
+        return Err(Refusal(3, p));
     }
     if lasting {
         return duration_at(text, next);
     }
-    Parsed::Refused(17, p)
+    Err(Refusal(17, p))
 }

@@ -1,56 +1,40 @@
 // A plan line, whole: "One step a line: `start: (action objects) [duration]`, the bracket for durative actions only."
-ghost use Rattle.std.specs.Prelude.{◌≡◌, ◌<◌};
-ghost use Rattle.plan_meaning.specs.Lines.{act_at, line_at};
+ghost use Rattle.std.specs.Prelude.{◌≡◌};
+ghost use Rattle.domain_meaning.specs.Due.{after_of};
+ghost use Rattle.plan_meaning.specs.Lines.{line_at};
 ghost use Rattle.plan_lines.specs.Knowing.{Tabled, Headed, known_in};
-ghost use Rattle.plan_lines.specs.Steps.{refused_line, Stepped, Lined};
+ghost use Rattle.plan_lines.specs.Reading.{Small};
+ghost use Rattle.plan_lines.specs.Steps.{step_from, Stepped, Lined};
 
 use crate::{known, reading};
-use domain_due::Parsed;
+use domain_due::Refusal;
 use domain_terms::scope::Counts;
 use plan_meaning::{Line, Step};
 use text_tokens::tokens;
 use text_tokens::tokens::Token;
 
-// What was refused on the way is the line's refusal.
-fn refused(a: Parsed) -> Line
-    ensures { result ≡ refused_line a }
-{
-    match a {
-        Parsed::Done(_, _) => Line::Blank,
-        Parsed::Refused(k, p) => Line::Refused(k, p),
-    }
-}
-
-// The action with its objects and its duration, after the colon's place.
-fn act_at<'a>(
+// The step of a line whose first token is t.
+fn step_from<'a>(
     text: &'a [u8],
-    from: usize,
+    t: Token,
     tables: &'a [u8],
     counts: Counts,
     heads: &'a [u8],
     acting: usize,
     rows: &'a [u8],
     number: usize,
-    start: usize,
-) -> Line
-    requires { Tabled tables.now counts × Headed heads.now acting × (start < 1000000000000) }
-    ensures { Stepped acting result (act_at text.now
-        (known_in tables.now counts heads.now acting rows.now) number start from) }
+    before: usize,
+) -> Result<Step, Refusal>
+    requires { Tabled tables.now counts × Headed heads.now acting × Small t }
+    ensures { Stepped acting result (step_from text.now
+        (known_in tables.now counts heads.now acting rows.now) number before t (after_of t)) }
 {
-    let m = reading::mark_due(text, from, 58);
-    let Parsed::Done(colon, _) = m else {
-        return refused(m);
-    };
-    let o = reading::opening_due(text, colon);
-    let Parsed::Done(open, _) = o else {
-        return refused(o);
-    };
-    let a = reading::action_at(text, open, heads, acting);
-    let Parsed::Done(named, action) = a else {
-        return refused(a);
-    };
+    let (next, start) = reading::start_at(t, before)?;
+    let (colon, _) = reading::mark_due(text, next, b':')?;
+    let (open, _) = reading::opening_due(text, colon)?;
+    let (named, action) = reading::action_at(text, open, heads, acting)?;
     let mut objects = [0u8; 4];
-    let g = reading::objects_at(
+    let (given, _) = reading::objects_at(
         text,
         named,
         tables,
@@ -60,15 +44,9 @@ fn act_at<'a>(
         rows,
         action,
         &mut objects,
-    );
-    let Parsed::Done(given, _) = g else {
-        return refused(g);
-    };
-    let s = reading::span_at(text, given, known::is_lasting(rows, action));
-    let Parsed::Done(_, duration) = s else {
-        return refused(s);
-    };
-    Line::Read(Step {
+    )?;
+    let (_, duration) = reading::span_at(text, given, known::is_lasting(rows, action))?;
+    Ok(Step {
         line: number,
         start,
         duration,
@@ -100,11 +78,8 @@ pub fn line_at<'a>(
     if let Token::End(_) = t {
         return Line::Blank;
     }
-    let s = reading::start_at(t, before);
-    let Parsed::Done(next, start) = s else {
-        return refused(s);
-    };
-    act_at(
-        text, next, tables, counts, heads, acting, rows, number, start,
-    )
+    match step_from(text, t, tables, counts, heads, acting, rows, number, before) {
+        Ok(x) => Line::Read(x),
+        Err(Refusal(k, p)) => Line::Refused(k, p),
+    }
 }

@@ -1,4 +1,6 @@
 -- What is known of every plan line, from one walk through its definition: of the step that it gives, and of its refusal. Assumes nothing.
+use Rattle.std.specs.Prelude.{None, Some}
+use Rattle.std.specs.Prelude as Prelude
 use mathlib.Core.Path.{◌≡◌, refl}
 use mathlib.Core.List.{List, [], ◌∷◌}
 use mathlib.Core.Bool.{true}
@@ -12,8 +14,6 @@ use borrow.Author.Tests.{ltb-false, ne_eqb, eqb-false}
 use Rattle.plan_meaning.proofs.Marks.{given_mark}
 use Rattle.domain_meaning.proofs.Given.{Given, reads, refuses, given_then, given_either, given_word, given_number, given_open, given_close, given_end}
 use Rattle.text_words.specs.Bytes.{is_one_of}
-use Rattle.text_words.specs.declared.spelling.Place.{Place}
-use Rattle.text_words.specs.declared.spelling.Place.TheVariants as F
 use Rattle.text_tokens.specs.Tokens.{plan_token_at}
 use Rattle.text_tokens.specs.declared.tokens.Token.{Token}
 use Rattle.domain_rows.proofs.Rows.{length_padded}
@@ -104,9 +104,9 @@ module _ (s : List ℕ) (m : ℕ) (room : min (length s) 256 ≤ m) where
   unfolding declared
   declared_walk t p w at i h = go (lookup t w) refl
     where
-      go : (f : Place) → lookup t w ≡ f → Given (λ (i n : ℕ). (i < length t) × (n ≤ m)) (Placed m) (on_found f (λ i. give i) (refuse 8 p) at)
-      go (F.At j) e = reads (found_below t w j e, h)
-      go F.Nothing e = row 8 i refl
+      go : (f : Prelude.Option ℕ) → lookup t w ≡ f → Given (λ (i n : ℕ). (i < length t) × (n ≤ m)) (Placed m) (on_found f (λ i. give i) (refuse 8 p) at)
+      go (Some j) e = reads (found_below t w j e, h)
+      go None e = row 8 i refl
 
   -- ---- the objects
 

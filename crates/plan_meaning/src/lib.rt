@@ -2,7 +2,7 @@
 #![tactic(auto)]
 
 // A step of a plan. Its duration is 0 if its action is simple; of its four objects those past its action's parameters are 0. `width` is its line's length.
-#[derive(Clone, Copy)]
+#[derive(Clone, Copy, PartialEq, Eq, Default)]
 pub struct Step {
     pub line: usize,
     pub start: usize,
@@ -16,7 +16,7 @@ pub struct Step {
 }
 
 // A point of a step: its end, or else its start.
-#[derive(Clone, Copy)]
+#[derive(Clone, Copy, PartialEq, Eq, Default)]
 pub struct Slot {
     pub step: Step,
     pub ends: bool,

@@ -2,7 +2,7 @@
 use mathlib.Core.Path.{◌≡◌, refl, sym, ap, ap₂, ◌∙◌}
 use mathlib.Core.Bool.{Bool, true, false, cond, ◌&&◌}
 use mathlib.Core.List.{List, [], ◌∷◌, ◌++◌, append_assoc}
-use Prim.Native.Nat.{ℕ, zero, suc, ◌+◌, ◌-◌, ◌≤◌, ◌<◌}
+use Prim.Native.Nat.{ℕ, zero, suc, ◌+◌, ◌≤◌, ◌<◌}
 use native.Mathlib.Omega.{arith}
 use lib.Dec.{ltb}
 use lib.ListN.{get_or, set, take, drop, length, length-set, length-drop}
@@ -139,27 +139,22 @@ shifted_in from n l p h =
     ap (take (n + 1)) (window from n l p ∙ shift_inserts time_of 0 p n (drop from l) m)
     ∙ take_at (insert time_of p (take n (drop from l))) (drop (suc n) (drop from l)) (n + 1) k
 
--- ---- the turns of the loop
+-- ---- the turns of the loop, at place q, the one after it r, with m keys left
 
-module _ (from : ℕ) (l : List ℕ) (p : ℕ) where
-  pub shift_none : (i : ℕ) → i ≡ 0 → set l from p ≡ shifted_at from i l p
+module _ (from : ℕ) (l : List ℕ) (p : ℕ) {m : ℕ} where
+  pub shift_none : m ≡ 0 → set l from p ≡ shifted_at from m l p
   unfolding shifted_at
-  shift_none i z = rw z (ap (λ (k : ℕ). set l k p) (omega arith))
+  shift_none z = rw z (ap (λ (k : ℕ). set l k p) (omega arith))
 
-  module _ {x : ℕ} where
-    pub shift_stop : (i : ℕ) → 0 < i → x ≡ get_or l (from + i - 1) 0 → time_of x ≤ time_of p → set l (from + i) p ≡ shifted_at from i l p
+  module _ (i : ℕ) {q r : ℕ} (at : q ≡ from + i) (next : r ≡ from + suc i) (left : m ≡ suc i) where
+    pub shift_stop : time_of (get_or l q 0) ≤ time_of p → set l r p ≡ shifted_at from m l p
     unfolding shifted_at
-    shift_stop zero h ex g = absurd (omega arith)
-    shift_stop (suc i) h ex g =
-        let k : from + i ≡ from + suc i - 1 = omega arith in
-        let y : get_or l (from + i) 0 ≡ x = ap (λ (n : ℕ). get_or l n 0) k ∙ sym ex in
-        sym (rw (y, le-ltb (time_of p) (time_of x) g))
+    shift_stop g =
+        let h : time_of (get_or l (from + i) 0) ≤ time_of p = rw at at g in
+        rw (next, left, le-ltb (time_of p) (time_of (get_or l (from + i) 0)) h)
 
-    pub shift_go : (i : ℕ) → 0 < i → x ≡ get_or l (from + i - 1) 0 → time_of p < time_of x → shifted_at from (i - 1) (set l (from + i) x) p ≡ shifted_at from i l p
+    pub shift_go : time_of p < time_of (get_or l q 0) → shifted_at from i (set l r (get_or l q 0)) p ≡ shifted_at from m l p
     unfolding shifted_at
-    shift_go zero h ex g = absurd (omega arith)
-    shift_go (suc i) h ex g =
-        let k : from + i ≡ from + suc i - 1 = omega arith in
-        let m : suc i - 1 ≡ i = omega arith in
-        let y : get_or l (from + i) 0 ≡ x = ap (λ (n : ℕ). get_or l n 0) k ∙ sym ex in
-        rw m (sym (rw (y, lt-ltb (time_of p) (time_of x) g)))
+    shift_go g =
+        let h : time_of p < time_of (get_or l (from + i) 0) = rw at at g in
+        rw (at, next, left, lt-ltb (time_of p) (time_of (get_or l (from + i) 0)) h)

@@ -26,7 +26,7 @@ use happening_steps::applying;
 use plan_waiting::lent;
 
 // The first failure and its time; or none, and the time of the last happening.
-#[derive(Clone, Copy)]
+#[derive(Clone, Copy, PartialEq, Eq)]
 pub struct Past {
     pub outcome: Outcome,
     pub time: usize,

@@ -142,17 +142,6 @@ inside_put words objects n h w o p s put =
 
 -- ---- no point
 
--- place after place is listed
-pub list_turn : (words : List ℕ) (i : ℕ) → 384 + i < length words → ((k : ℕ) → k < i → get_or words (384 + k) 0 ≡ k)
-    → (k : ℕ) → k < i + 1 → get_or (set words (384 + i) i) (384 + k) 0 ≡ k
-list_turn words i l h k g = go (eqb k i) refl
-  where
-    go : (b : Bool) → eqb k i ≡ b → get_or (set words (384 + i) i) (384 + k) 0 ≡ k
-    go true e = let z : k ≡ i = eqb-true k i e in rw z (get_or-set_same words (384 + i) i 0 l)
-    go false e =
-        let z : k ≡ i → ⊥ = eqb-false k i e in
-        get_or-set_other words (384 + i) (384 + k) i 0 (λ y. z (omega arith)) ∙ h k (omega arith)
-
 module _ (words objects : List ℕ) (long : length words ≡ 640) (wide : length objects ≡ 256) (each : (k : ℕ) → k < 64 → get_or words (384 + k) 0 ≡ k) where
   abbrev cleared : List ℕ
   cleared = set words 448 449

@@ -1,20 +1,17 @@
 -- What is tested of points, in its parts and from them; and by the places of a loop. Assumes nothing.
-use Prim.Native.Nat.{ℕ, zero, suc, ◌+◌, ◌≤◌, ◌<◌}
-use mathlib.Core.Bool.{Bool, true, false, true≢false}
-use mathlib.Core.List.{List, [], ◌∷◌, ◌++◌}
-use mathlib.Core.Path.{◌≡◌, refl, sym, ◌∙◌}
-use native.Mathlib.Numerals.{add-one}
-use native.Mathlib.Omega.{arith}
+use Prim.Native.Nat.{ℕ, ◌≤◌}
+use mathlib.Core.Bool.{true}
+use mathlib.Core.List.{List, [], ◌∷◌}
+use mathlib.Core.Path.{◌≡◌, refl}
 use borrow.Author.Tests.{le-leb}
 use lib.Dec.{leb}
-use lib.ListN.{length, take, get_or}
-use lib.Seq.{take-suc, get_or-take, length-take-le}
+use Rattle.std.specs.List.{list_all}
 use Rattle.base_laws.proofs.Splits.{and_left, and_right}
 use Rattle.plan_meaning.specs.Listed.{listed_line}
 use Rattle.plan_meaning.specs.declared.Step.{Step}
 use Rattle.plan_meaning.specs.declared.Slot.{Slot}
 use Rattle.plan_meaning.proofs.Listed.{line_of}
-use Rattle.plan_waiting.specs.Waiting.{no_slot, sound_step, sound_all, listed_step, step_fits, slots_fit}
+use Rattle.plan_waiting.specs.Waiting.{sound_step, sound_all, listed_step, step_fits, slots_fit}
 
 -- ---- a step
 
@@ -62,28 +59,7 @@ module _ (n : ℕ) where
   fit_sound [] h = refl
   fit_sound (s ∷ ss) h = rw (fits_sound s.step (fit_first s ss h), fit_sound ss (fit_rest s ss h))
 
-  fit_at : (i : ℕ) (l : List Slot) → slots_fit n l ≡ true → i < length l → step_fits n (get_or l i no_slot).step ≡ true
-  fit_at zero [] h k = absurd (let y : ⊥ = omega arith in y)
-  fit_at zero (s ∷ ss) h k = fit_first s ss h
-  fit_at (suc i) [] h k = absurd (let y : ⊥ = omega arith in y)
-  fit_at (suc i) (s ∷ ss) h k = fit_at i ss (fit_rest s ss h) (omega arith)
-
-  fit_snoc : (l : List Slot) (s : Slot) → slots_fit n l ≡ true → step_fits n s.step ≡ true → slots_fit n (l ++ s ∷ []) ≡ true
-  fit_snoc [] s h k = fit_more s [] k fit_none
-  fit_snoc (r ∷ rs) s h k = fit_more r (rs ++ s ∷ []) (fit_first r rs h) (fit_snoc rs s (fit_rest r rs h) k)
-
-  -- ---- by the places of a loop: the first i of the points, and one of the first m
-
-  module _ (l : List Slot) (i : ℕ) where
-    pub fit_step : i < length l → slots_fit n (take i l) ≡ true → step_fits n (get_or l i no_slot).step ≡ true → slots_fit n (take (i + 1) l) ≡ true
-    fit_step h s t = rw (add-one, take-suc l i no_slot h) (fit_snoc (take i l) (get_or l i no_slot) s t)
-
-    pub unfit_within : (m : ℕ) → i < m → m ≤ length l → step_fits n (get_or l i no_slot).step ≡ false → slots_fit n (take m l) ≡ false
-    unfit_within m k h s = go (slots_fit n (take m l)) refl
-      where
-        there : slots_fit n (take m l) ≡ true → step_fits n (get_or l i no_slot).step ≡ true
-        there f = rw (← get_or-take m l i no_slot k) (fit_at i (take m l) f (omega (arith, length-take-le m l h)))
-
-        go : (b : Bool) → slots_fit n (take m l) ≡ b → slots_fit n (take m l) ≡ false
-        go true e = absurd (true≢false (sym (there e) ∙ s))
-        go false e = e
+  pub fit_all : (l : List Slot) → slots_fit n l ≡ list_all (λ s. step_fits n s.step) l
+  unfolding slots_fit
+  fit_all [] = refl
+  fit_all (s ∷ ss) = rw (fit_all ss)

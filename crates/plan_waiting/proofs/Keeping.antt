@@ -127,19 +127,8 @@ module _ (words objects : List ℕ) (n : ℕ) (h : Kept words objects n) where
       ∙ sym (get_or-take n (drop (begin_in words) words) 0 0 g ∙ get_or-drop (begin_in words) words 0 0) ∙ ap (λ (l : List ℕ). get_or l 0 0) e in
       soonest_first (when_at slot) b p s o ∙ ap (λ (t : ℕ). min t b) (sym (ap time_of k ∙ key_time slot p))
 
-  next_first : (b : ℕ) → 0 < n → Machine.soonest b (waiting (queue_in words objects n)) ≡ min (time_of (get_or words (begin_in words) 0)) b
+  pub next_first : (b : ℕ) → 0 < n → Machine.soonest b (waiting (queue_in words objects n)) ≡ min (time_of (get_or words (begin_in words) 0)) b
   next_first b g = waits b ∙ first_time b (ordered (when_at slot) ps) (ordered_sorted (when_at slot) ps) h.holds g
-
-  pub next_none : (b : ℕ) → n ≡ 0 → b ≡ Machine.soonest b (waiting (queue_in words objects n))
-  next_none b z = rw z
-
-  pub next_sooner : (b : ℕ) {t : ℕ} → (n ≡ 0 → ⊥) → t ≡ time_of (get_or words (begin_in words) 0) → t < b
-      → t ≡ Machine.soonest b (waiting (queue_in words objects n))
-  next_sooner b z e l = omega (arith, next_first b (omega arith))
-
-  pub next_bound : (b : ℕ) {t : ℕ} → (n ≡ 0 → ⊥) → t ≡ time_of (get_or words (begin_in words) 0) → b ≤ t
-      → b ≡ Machine.soonest b (waiting (queue_in words objects n))
-  next_bound b z e l = omega (arith, next_first b (omega arith))
 
   -- ---- the happening at the soonest time
 

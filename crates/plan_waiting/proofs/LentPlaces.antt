@@ -229,6 +229,8 @@ module _ (words : List ℕ) (i : ℕ) where
     unfolding slot_in
     start_there e = start_time (slot_in words objects i) (begins_there e)
 
+pub ruleset point_times = (word_start, word_duration, ends_there, begins_there, end_there, start_there)
+
 pub timed_place : (words : List ℕ) (n i : ℕ) → TimedWords words n → i < n → TimedWord words (get_or words (384 + i) 0 % 64)
 timed_place words n i t h =
     let o = t.0 in

@@ -6,9 +6,9 @@ use mathlib.Core.Path.{◌≡◌, refl, sym, ap, ◌∙◌}
 use native.Mathlib.Omega.{arith}
 use borrow.Author.Tests.{ltb-true, ltb-false, eqb-true, eqb-false, le-ltb, le-leb, lt-leb, eq-eqb, ne_eqb}
 use lib.Dec.{eqb, ltb, leb}
-use lib.ListN.{length, take, get_or, set, length-set, length-append, get_or-append}
-use lib.Seq.{get_or-set_same, get_or-set_other, get_or-take, get_or-append-add, ext_get_or, length-take-le}
-use Rattle.plan_waiting.specs.Lent.{places_in, place_at, Apart, Moved, TakenOut}
+use lib.ListN.{length, take, get_or, length-append, get_or-append}
+use lib.Seq.{get_or-take, get_or-append-add, ext_get_or, length-take-le}
+use Rattle.plan_waiting.specs.Lent.{places_in, place_at, Apart, Moved}
 use Rattle.plan_waiting.proofs.LentPlaces.{places_long, place_there}
 
 -- ---- the turns of the loop
@@ -27,98 +27,6 @@ pub record Carried (words₀ words : List ℕ) (n p i x : ℕ) : Type 0 where
   pub stood : i ≤ n → x ≡ get_or words₀ (384 + i) 0
   pub first : n < i → x % 64 ≡ p
   pub none : (a : ℕ) → i ≤ a → a ≤ n → place_at words₀ a ≡ p → ⊥
-
-pub carry_none : (words : List ℕ) (n p : ℕ) → p < 64 → length words ≡ 640 → Carried words words n p (n + 1) p
-carry_none words n p h l =
-    record {
-      shifted =
-          record {
-            front = λ k g. refl;
-            back = λ k g. refl;
-            after = λ a g k. absurd (let y : ⊥ = omega arith in y);
-            last = λ g. absurd (let y : ⊥ = omega arith in y);
-            long = l;
-          };
-      stood = λ g. absurd (let y : ⊥ = omega arith in y);
-      first = λ g. omega arith;
-      none = λ a g k e. omega arith;
-    }
-
-module _ {words₀ words : List ℕ} {n p i₁ x : ℕ} (c : Carried words₀ words n p i₁ x) (i : ℕ) (e : i₁ ≡ i + 1) (few : n < 64) (l : i ≤ n) where
-  abbrev stored : List ℕ
-  stored = set words (384 + i) x
-
-  same : (k : ℕ) → (k ≡ 384 + i → ⊥) → get_or stored k 0 ≡ get_or words k 0
-  same k g = get_or-set_other words (384 + i) k x 0 g
-
-  here : get_or stored (384 + i) 0 ≡ x
-  here = get_or-set_same words (384 + i) x 0 (omega (arith, c.shifted.long))
-
-  there : get_or words (384 + i) 0 ≡ get_or words₀ (384 + i) 0
-  there = c.shifted.front (384 + i) (omega arith)
-
-  further : Shifted words₀ stored n p i
-  further =
-      record {
-        front = λ k g. same k (λ z. omega arith) ∙ c.shifted.front k (omega arith);
-        back = λ k g. same k (λ z. omega arith) ∙ c.shifted.back k g;
-        after = λ a g k. after a g k (eqb a i) refl;
-        last = λ g. last (eqb i n) refl;
-        long = length-set words (384 + i) x ∙ c.shifted.long;
-      }
-    where
-      after : (a : ℕ) → i ≤ a → a < n → (b : Bool) → eqb a i ≡ b → get_or stored (384 + a) 0 ≡ get_or words₀ (384 + (a + 1)) 0
-      after a g k true q =
-          let z : a ≡ i = eqb-true a i q in
-          let y : i₁ ≡ a + 1 = omega arith in
-          ap (λ (m : ℕ). get_or stored (384 + m) 0) z ∙ here ∙ c.stood (omega arith) ∙ ap (λ (m : ℕ). get_or words₀ (384 + m) 0) y
-      after a g k false q =
-          let z : a ≡ i → ⊥ = eqb-false a i q in
-          same (384 + a) (λ y. z (omega arith)) ∙ c.shifted.after a (omega arith) k
-
-      last : (b : Bool) → eqb i n ≡ b → place_at stored n ≡ p
-      last true q =
-          let z : i ≡ n = eqb-true i n q in
-          ap (place_at stored) (sym z) ∙ ap (λ (y : ℕ). y % 64) here ∙ c.first (omega arith)
-      last false q =
-          let z : i ≡ n → ⊥ = eqb-false i n q in
-          ap (λ (y : ℕ). y % 64) (same (384 + n) (λ y. z (omega arith))) ∙ c.shifted.last (omega arith)
-
-  pub carry_on : (place_at words i ≡ p → ⊥) → Carried words₀ stored n p i (get_or words (384 + i) 0)
-  carry_on other =
-      record {
-        shifted = further;
-        stood = λ g. there;
-        first = λ g. absurd (let y : ⊥ = omega arith in y);
-        none = λ a g k q. none a g k q (eqb a i) refl;
-      }
-    where
-      none : (a : ℕ) → i ≤ a → a ≤ n → place_at words₀ a ≡ p → (b : Bool) → eqb a i ≡ b → ⊥
-      none a g k q true z = other (ap (λ (y : ℕ). y % 64) there ∙ ap (place_at words₀) (sym (eqb-true a i z)) ∙ q)
-      none a g k q false z = let y : a ≡ i → ⊥ = eqb-false a i z in c.none a (omega arith) k q
-
-  pub carry_found : place_at words i ≡ p → TakenOut words₀ stored n p
-  carry_found found =
-      let was : place_at words₀ i ≡ p = ap (λ (y : ℕ). y % 64) (sym there) ∙ found in
-      record {
-        below = λ k g. further.front k (omega arith);
-        above = further.back;
-        long = further.long;
-        moved = λ j g q. (
-          i,
-          was,
-          record { inside = l; before = λ a h. further.front (384 + a) (omega arith); after = further.after; last = further.last l ∙ sym was },
-        );
-      }
-
-pub carry_end : {words₀ words : List ℕ} {n p i x : ℕ} → Carried words₀ words n p i x → i ≡ 0 → TakenOut words₀ words n p
-carry_end c z =
-    record {
-      below = λ k g. c.shifted.front k (omega arith);
-      above = c.shifted.back;
-      long = c.shifted.long;
-      moved = λ j g q. absurd (c.none j (omega arith) g q);
-    }
 
 -- ---- no place is listed twice then
 

@@ -11,7 +11,7 @@ use lib.Seq.{get_or-take, get_or-drop, get_or-append_seam, take-suc, length-take
 use Rattle.plan_meaning.specs.Lists.{keep}
 use Rattle.plan_meaning.proofs.Lists.{keep_append}
 use Rattle.plan_ordering.specs.Keys.{keys_in}
-use Rattle.plan_waiting.specs.Lent.{places_in, place_of, place_at, Apart, TakenOut, Going, Sifted}
+use Rattle.plan_waiting.specs.Lent.{places_in, place_of, place_at, Apart, TakenOut, Sifted}
 use Rattle.plan_waiting.proofs.LentPlaces.{places_long, place_there}
 use Rattle.plan_waiting.proofs.Moving.{moved_apart, closed_up}
 
@@ -68,9 +68,6 @@ pub record Sifting (f : ℕ → Bool) (words₀ words : List ℕ) (begin n m i :
   pub below : (k : ℕ) → k < 384 → get_or words k 0 ≡ get_or words₀ k 0
   pub above : (k : ℕ) → 448 ≤ k → get_or words k 0 ≡ get_or words₀ k 0
   pub apart : Apart words
-
-pub sift_none : (f : ℕ → Bool) (words : List ℕ) (begin n k : ℕ) → Apart words → Going f words begin n k → Sifting f words words begin n k n
-sift_none f words begin n k a h = record { stays = refl; goes = h; below = λ j g. refl; above = λ j g. refl; apart = a }
 
 module _ {f : ℕ → Bool} {words₀ words : List ℕ} {begin n m₁ i₁ : ℕ} (s : Sifting f words₀ words begin n m₁ i₁) (m i : ℕ) (em : m₁ ≡ m + 1)
     (ei : i₁ ≡ i + 1) (few : i < 64) (low : 449 ≤ begin) (room : begin + m < length words₀) {words' : List ℕ} {p : ℕ}

@@ -11,20 +11,34 @@ ghost use Rattle.plan_waiting.specs.Lent.{Left, Entered, Sized, TimedWords, Time
 
 use crate::Queue;
 use plan_meaning::{Slot, Step};
+use plan_ordering::{KEYS, PLACES};
+
+// The places as they came are listed from this word on.
+const LISTED: usize = 384;
+
+// The word that says where the keys begin.
+const BEGIN: usize = 448;
+
+// The time of a point in its action: its start, or its end.
+const START: usize = 1;
+
+const END: usize = 3;
 
 // When the point at place p happens.
+#[tactic(auto, using(crate::proofs::LentPlaces::point_times))]
 pub fn time_at(words: &[usize; 640], p: usize) -> usize
     requires { (p < 64) × TimedWord words.now p }
     ensures { ((o : List ℕ) → result ≡ time (point_in (slot_in words.now o p))) × (result < 2000000000000) }
 {
     let at = 6 * p;
-    if words[at + 2] == 3 {
+    if words[at + 2] == END {
         return words[at + 4] + words[at + 3];
     }
     words[at + 4]
 }
 
 // The start of the step at place p.
+#[tactic(auto, unfolding(crate::specs::Lent::slot_in))]
 pub fn start_at(words: &[usize; 640], p: usize) -> usize
     requires { p < 64 }
     ensures { (o : List ℕ) → result ≡ (slot_in words.now o p).step.start }
@@ -33,6 +47,7 @@ pub fn start_at(words: &[usize; 640], p: usize) -> usize
 }
 
 // Its line.
+#[tactic(auto, unfolding(crate::specs::Lent::slot_in))]
 pub fn line_at(words: &[usize; 640], p: usize) -> usize
     requires { p < 64 }
     ensures { (o : List ℕ) → result ≡ (slot_in words.now o p).step.line }
@@ -41,6 +56,7 @@ pub fn line_at(words: &[usize; 640], p: usize) -> usize
 }
 
 // Its action.
+#[tactic(auto, unfolding(crate::specs::Lent::slot_in))]
 pub fn action_at(words: &[usize; 640], p: usize) -> usize
     requires { p < 64 }
     ensures { (o : List ℕ) → result ≡ (slot_in words.now o p).step.action }
@@ -49,19 +65,18 @@ pub fn action_at(words: &[usize; 640], p: usize) -> usize
 }
 
 // Whether the point at place p is an end that lies after the time t.
+#[tactic(auto, using(crate::proofs::LentPlaces::point_times))]
 pub fn is_open(words: &[usize; 640], p: usize, t: usize) -> bool
     requires { (p < 64) × TimedWord words.now p }
     ensures { (o : List ℕ)
         → result ≡ ((slot_in words.now o p).ends && ltb t (time (point_in (slot_in words.now o p)))) }
 {
     let at = 6 * p;
-    if words[at + 2] == 3 {
-        return t < words[at + 4] + words[at + 3];
-    }
-    false
+    words[at + 2] == END && t < words[at + 4] + words[at + 3]
 }
 
 // What stands at place p.
+#[tactic(auto, unfolding(crate::specs::Lent::slot_in))]
 pub fn slot_at<'a>(words: &'a [usize; 640], objects: &'a [u8; 256], p: usize) -> Slot
     requires { p < 64 }
     ensures { result ≡ slot_in words.now objects.now p }
@@ -81,7 +96,7 @@ pub fn slot_at<'a>(words: &'a [usize; 640], objects: &'a [u8; 256], p: usize) ->
     };
     Slot {
         step,
-        ends: words[at + 2] == 3,
+        ends: words[at + 2] == END,
     }
 }
 
@@ -90,7 +105,7 @@ pub fn place_at(words: &[usize; 640], i: usize) -> usize
     requires { i < 64 }
     ensures { (result ≡ place_at words.now i) × (result < 64) }
 {
-    words[384 + i] % 64
+    words[LISTED + i] % PLACES
 }
 
 // The place of the point whose key is number i.
@@ -98,11 +113,11 @@ pub fn due_place(words: &[usize; 640], i: usize) -> usize
     requires { begin_in words.now + i < 640 }
     ensures { (result ≡ get_or words.now (begin_in words.now + i) 0 % 64) × (result < 64) }
 {
-    let begin = words[448];
-    words[begin + i] % 64
+    words[words[BEGIN] + i] % PLACES
 }
 
 // The least time below b of the n points, or b: that of the first key.
+#[tactic(auto, using(crate::proofs::Keeping::next_first))]
 pub fn soonest(words: &[usize; 640], n: usize, b: usize) -> usize
     requires { Inside words.now (begin_in words.now) n }
     ensures { (o : List ℕ) → Kept words.now o n → result ≡ Machine.soonest b (waiting (queue_in words.now o n)) }
@@ -110,21 +125,17 @@ pub fn soonest(words: &[usize; 640], n: usize, b: usize) -> usize
     if n == 0 {
         return b;
     }
-    let begin = words[448];
-    let t = words[begin] / 64;
-    if t < b {
-        return t;
-    }
-    b
+    b.min(words[words[BEGIN]] / PLACES)
 }
 
 // How many of the n points have the soonest time t: their keys are in front.
+#[tactic(auto, using(crate::proofs::Keeping::due_keys))]
 pub fn due(words: &[usize; 640], n: usize, t: usize) -> usize
     requires { Inside words.now (begin_in words.now) n }
     ensures { (result ≤ n) × ((o : List ℕ) (b : ℕ) → Kept words.now o n
         → t ≡ Machine.soonest b (waiting (queue_in words.now o n)) → Due words.now o n t result) }
 {
-    plan_ordering::front_of(words, words[448], n, t)
+    plan_ordering::front_of(words, words[BEGIN], n, t)
 }
 
 // The time of the last of the n points, 0 if there is none.
@@ -133,13 +144,8 @@ pub fn last(words: &[usize; 640], n: usize) -> usize
     ensures { ((o : List ℕ) → result ≡ latest (waiting (queue_in words.now o n))) × (result < 2000000000000) }
 {
     let mut best = 0;
-    let mut i = 0;
-    while i < n {
-        let t = time_at(words, place_at(words, i));
-        if best < t {
-            best = t;
-        }
-        i += 1;
+    for i in 0..n {
+        best = time_at(words, place_at(words, i)).max(best);
     }
     best
 }
@@ -148,10 +154,7 @@ pub fn last(words: &[usize; 640], n: usize) -> usize
 pub fn when_of(ends: bool) -> usize
     ensures { result ≡ when_in ends }
 {
-    if ends {
-        return 3;
-    }
-    1
+    if ends { END } else { START }
 }
 
 // Another point to place p. The arrays come as slices: where an array is lent as a slice its length is known to the proof.
@@ -180,12 +183,10 @@ fn take_out(words: &mut [usize; 640], n: usize, p: usize)
     ensures { TakenOut words.old words.new n p }
 {
     let mut carried = p;
-    let mut i = n + 1;
-    while 0 < i {
-        i -= 1;
-        let x = words[384 + i];
-        words[384 + i] = carried;
-        if x % 64 == p {
+    for i in (0..n + 1).rev() {
+        let x = words[LISTED + i];
+        words[LISTED + i] = carried;
+        if x % PLACES == p {
             return;
         }
         carried = x;
@@ -197,10 +198,8 @@ fn take_due(words: &mut [usize; 640], begin: usize, r: usize, k: usize)
     requires { (r + k ≤ 64) × Apart words.old × Inside words.old begin k }
     ensures { (f : ℕ → Bool) → Going f words.old begin (r + k) k → Sifted f words.old words.new (r + k) r }
 {
-    let mut m = k;
-    while 0 < m {
-        m -= 1;
-        let p = words[begin + m] % 64;
+    for m in (0..k).rev() {
+        let p = words[begin + m] % PLACES;
         take_out(words, r + m, p);
     }
 }
@@ -213,10 +212,10 @@ pub fn later(words: &mut [usize; 640], n: usize, t: usize) -> usize
         × ((m : ℕ) → Sound m (queue_in words.old o n) → Sound m (queue_in words.new o result))
         × Left words.old o n words.new result }
 {
-    let begin = words[448];
+    let begin = words[BEGIN];
     let k = plan_ordering::front_of(words, begin, n, t);
     take_due(words, begin, n - k, k);
-    words[448] = begin + k;
+    words[BEGIN] = begin + k;
     n - k
 }
 
@@ -229,9 +228,9 @@ fn enter_point(words: &mut [usize; 640], objects: &mut [u8; 256], n: usize, s: S
 {
     let p = place_at(words, n);
     put(words, objects, p, s);
-    let key = time_at(words, p) * 64 + p;
-    let begin = words[448];
-    words[448] = plan_ordering::enter(words, begin, n, key);
+    let key = time_at(words, p) * PLACES + p;
+    let begin = words[BEGIN];
+    words[BEGIN] = plan_ordering::enter(words, begin, n, key);
 }
 
 // The points of a step more: how many there are then.
@@ -243,27 +242,19 @@ pub fn enter(words: &mut [usize; 640], objects: &mut [u8; 256], n: usize, x: Ste
         → Sound m (queue_in words.new objects.new result))
         × Entered words.old objects.old n words.new objects.new result x }
 {
-    enter_point(
-        words,
-        objects,
-        n,
-        Slot {
-            step: x,
-            ends: false,
-        },
-    );
+    let start = Slot {
+        step: x,
+        ends: false,
+    };
+    enter_point(words, objects, n, start);
     if x.duration == 0 {
         return n + 1;
     }
-    enter_point(
-        words,
-        objects,
-        n + 1,
-        Slot {
-            step: x,
-            ends: true,
-        },
-    );
+    let end = Slot {
+        step: x,
+        ends: true,
+    };
+    enter_point(words, objects, n + 1, end);
     n + 2
 }
 
@@ -272,26 +263,22 @@ fn clear(words: &mut [usize], objects: &[u8])
     requires { Sized words.old objects.now }
     ensures { Kept words.new objects.now 0 }
 {
-    let mut i = 0;
-    while i < 64 {
-        words[384 + i] = i;
-        i += 1;
+    for i in 0..PLACES {
+        words[LISTED + i] = i;
     }
-    words[448] = 449;
+    words[BEGIN] = KEYS;
 }
 
 // The points of a queue, into the lent numbers.
+#[tactic(auto, using(crate::proofs::Soundness::timed_at, crate::proofs::Places::length_mapped))]
 pub fn lend(q: Queue, words: &mut [usize; 640], objects: &mut [u8; 256])
     requires { Timed q }
     ensures { Kept words.new objects.new q.count
         × (used (queue_in words.new objects.new q.count) ≡ used q) }
 {
     clear(words, objects);
-    let n = q.count;
-    let mut i = 0;
-    while i < n {
+    for i in 0..q.count {
         enter_point(words, objects, i, q.slots[i]);
-        i += 1;
     }
 }
 
@@ -300,12 +287,9 @@ pub fn back<'a>(words: &'a [usize; 640], objects: &'a [u8; 256], n: usize) -> Qu
     requires { n ≤ 64 }
     ensures { result ≡ queue_of (used (queue_in words.now objects.now n)) }
 {
-    let fresh = crate::nobody();
-    let mut slots = fresh.slots;
-    let mut i = 0;
-    while i < n {
+    let mut slots = crate::nobody().slots;
+    for i in 0..n {
         slots[i] = slot_at(words, objects, place_at(words, i));
-        i += 1;
     }
     Queue { slots, count: n }
 }

@@ -11,13 +11,14 @@ ghost use Rattle.plan_waiting.specs.Waiting.{used, queue_of, sound_step, listed_
 
 use plan_meaning::{Slot, Step};
 
-#[derive(Clone, Copy)]
+#[derive(Clone, Copy, PartialEq, Eq)]
 pub struct Queue {
     pub slots: [Slot; 64],
     pub count: usize,
 }
 
 // How many points a step has: "A durative line gives two points, .. a simple line one."
+#[tactic(auto, using(crate::proofs::Points::one_point, crate::proofs::Points::two_points))]
 pub fn points_of(x: Step) -> usize
     ensures { result ≡ length (points_of (step_in x)) }
 {
@@ -28,23 +29,12 @@ pub fn points_of(x: Step) -> usize
 }
 
 // A queue in which no point waits.
+#[tactic(auto, using(crate::proofs::Places::zero_slot), unfolding(crate::specs::Waiting::queue_of))]
 pub fn nobody() -> Queue
     ensures { result ≡ queue_of [] }
 {
-    let step = Step {
-        line: 0,
-        start: 0,
-        duration: 0,
-        action: 0,
-        a: 0,
-        b: 0,
-        c: 0,
-        d: 0,
-        width: 0,
-    };
-    let slot = Slot { step, ends: false };
     Queue {
-        slots: [slot; 64],
+        slots: [Slot::default(); 64],
         count: 0,
     }
 }
@@ -54,56 +44,39 @@ pub fn tidy(q: Queue) -> Queue
     requires { q.count ≤ 64 }
     ensures { result ≡ queue_of (used q) }
 {
-    let fresh = nobody();
-    let n = q.count;
-    let mut slots = fresh.slots;
-    let mut i = 0;
-    while i < n {
-        slots[i] = q.slots[i];
-        i += 1;
-    }
-    Queue { slots, count: n }
+    let mut tidied = q;
+    tidied.slots[q.count..].fill(Slot::default());
+    tidied
 }
 
 // Whether a step's times are those of a plan line and its action is one of n.
+#[tactic(auto, unfolding(crate::specs::Waiting::sound_step))]
 fn sound_step(x: Step, n: usize) -> bool
     ensures { result ≡ sound_step n x }
 {
-    if x.action < n {
-        if x.start < 1000000000000 {
-            return x.duration < 1000000000000;
-        }
-    }
-    false
+    x.action < n && x.start < 1000000000000 && x.duration < 1000000000000
 }
 
 // Whether it is the number of a plan's line.
+#[tactic(auto, unfolding(plan_meaning::specs::Listed::listed_line))]
 pub fn is_line(l: usize) -> bool
     ensures { result ≡ listed_line l }
 {
-    if 1 <= l {
-        return l <= 1000000;
-    }
-    false
+    1 <= l && l <= 1000000
 }
 
 // Whether a step's line is one of a plan, of at most 256 bytes.
+#[tactic(auto, unfolding(crate::specs::Waiting::listed_step))]
 fn listed_step(x: Step) -> bool
     ensures { result ≡ listed_step x }
 {
-    if is_line(x.line) {
-        return x.width <= 256;
-    }
-    false
+    is_line(x.line) && x.width <= 256
 }
 
 fn step_fits(x: Step, n: usize) -> bool
     ensures { result ≡ step_fits n x }
 {
-    if sound_step(x, n) {
-        return listed_step(x);
-    }
-    false
+    sound_step(x, n) && listed_step(x)
 }
 
 // Whether all of the points are so.
@@ -111,14 +84,5 @@ pub fn slots_fit(q: Queue, n: usize) -> bool
     requires { q.count ≤ 64 }
     ensures { result ≡ slots_fit n (used q) }
 {
-    let m = q.count;
-    let mut i = 0;
-    while i < m {
-        let s = q.slots[i];
-        if !step_fits(s.step, n) {
-            return false;
-        }
-        i += 1;
-    }
-    true
+    q.slots[..q.count].iter().all(|s| step_fits(s.step, n))
 }

@@ -1,9 +1,10 @@
 -- What arguments are, and sizes of parts.
 use mathlib.Core.Path.{◌≡◌, refl}
 use mathlib.Core.List.{[], ◌∷◌}
+use Rattle.std.specs.Prelude.{Some, None}
 use Rattle.text_words.specs.Bytes.{bytes, lower_of}
 use Rattle.text_words.specs.Spelling.{same_word}
-use Rattle.program_arguments.specs.Arguments.{option_of, argument_of, size_from}
+use Rattle.program_arguments.specs.Arguments.{option_of, argument_of, size_from, size_in}
 use Rattle.program_arguments.specs.declared.arguments.Argument.TheVariants.{State, Names, Quiet, Part, AnswerOn3, End, File, Unknown}
 
 arguments : argument_of (bytes "--state") ∷ argument_of (bytes "--names") ∷ argument_of (bytes "--quiet") ∷ argument_of (bytes "--part")
@@ -18,3 +19,7 @@ sizes : size_from 0 (bytes "1") ∷ size_from 0 (bytes "64") ∷ size_from 0 (by
     ≡ 1 ∷ 64 ∷ 65536 ∷ 0 ∷ 0 ∷ 0 ∷ 0 ∷ 0 ∷ []
 unfolding bytes size_from
 sizes = refl
+
+given : size_in (bytes "64") ∷ size_in (bytes "0") ∷ size_in (bytes "65537") ∷ size_in (bytes "12x") ∷ [] ≡ Some 64 ∷ None ∷ None ∷ None ∷ []
+unfolding bytes size_from size_in
+given = refl

@@ -1,5 +1,5 @@
 -- What an argument is, and the size of parts that one gives.
-use Rattle.std.specs.Prelude.{ℕ, ◌+◌, ◌-◌, ◌*◌, List, [], ◌∷◌, cond, length, eqb, ltb}
+use Rattle.std.specs.Prelude.{ℕ, ◌+◌, ◌-◌, ◌*◌, List, [], ◌∷◌, cond, length, eqb, ltb, Option, Some, None}
 use Prim.Native.Char.{code}
 use Rattle.text_words.specs.Bytes.{bytes}
 use Rattle.text_words.specs.Spelling.{same_word}
@@ -30,3 +30,7 @@ size_from n (b ∷ w) =
     (cond (ltb (code "9") b) 0
     (cond (ltb 65536 (n * 10 + (b - 48))) 0
     (size_from (n * 10 + (b - 48)) w)))
+
+-- the size of parts that an argument gives, if it gives one
+unfoldable pub size_in : List ℕ → Option ℕ
+size_in w = cond (eqb (size_from 0 w) 0) None (Some (size_from 0 w))

@@ -1,6 +1,6 @@
 // The arguments: `[--state] [--names] [--part N] [--quiet] [--] DOMAIN PROBLEM PLAN`, and `--answer-on-3`, which the script `khushelvo` gives.
 ghost use Rattle.std.specs.Prelude.{◌≡◌};
-ghost use Rattle.program_arguments.specs.Arguments.{argument_of, option_of, size_from};
+ghost use Rattle.program_arguments.specs.Arguments.{argument_of, option_of, size_in};
 
 use crate::files;
 use program_quotes::stderr;
@@ -22,7 +22,7 @@ pub enum Argument {
     Unknown,
 }
 
-// What is asked for. A file is known by the number of the argument that names it: 0, the program's own name, is none.
+// What is asked for. A file is known by the number of the argument that names it.
 #[derive(Clone, Copy)]
 pub struct Options {
     pub state: bool,
@@ -30,20 +30,46 @@ pub struct Options {
     pub quiet: bool,
     // whether the answer's line goes to descriptor 3 too
     pub answer_on_3: bool,
-    // how many bytes of the plan are fed at a time; 0 if that is wrong
+    // how many bytes of the plan are fed at a time
     pub part: usize,
-    // whether the last argument was `--part`
-    pub expects: bool,
-    // whether all that follows is files
-    pub ended: bool,
     pub domain: usize,
     pub problem: usize,
     pub plan: usize,
-    // the first option that is unknown, and the first file that is too many
-    pub unknown: usize,
-    pub extra: usize,
 }
 
+// What the arguments up to one of them say.
+#[derive(Clone, Copy, Default)]
+struct Given {
+    state: bool,
+    names: bool,
+    quiet: bool,
+    answer_on_3: bool,
+    // none if the size that was given is wrong
+    part: Option<usize>,
+    // whether the last argument was `--part`
+    expects: bool,
+    // whether all that follows is files
+    ended: bool,
+    domain: Option<usize>,
+    problem: Option<usize>,
+    plan: Option<usize>,
+    // the first option that is unknown, and the first file that is too many
+    unknown: Option<usize>,
+    extra: Option<usize>,
+}
+
+// What is wrong with the arguments.
+#[derive(Clone, Copy)]
+enum Wrong {
+    // these two with the number of the argument
+    Unknown(usize),
+    Extra(usize),
+    Part,
+    // so many files are given
+    Files(usize),
+}
+
+#[tactic(auto, unfolding(crate::specs::Arguments::option_of, text_words::specs::Bytes::bytes))]
 fn option_of(w: &[u8]) -> Argument
     ensures { result ≡ option_of w.now }
 {
@@ -69,194 +95,141 @@ fn option_of(w: &[u8]) -> Argument
 }
 
 // Options begin with a minus; a minus alone is standard input.
+#[tactic(auto, unfolding(crate::specs::Arguments::argument_of))]
 fn argument_of(w: &[u8]) -> Argument
     ensures { result ≡ argument_of w.now }
 {
-    if !classes::begins_with(w, b'-') {
-        return Argument::File;
+    if classes::begins_with(w, b'-') && w.len() != 1 {
+        option_of(w)
+    } else {
+        Argument::File
     }
-    if w.len() == 1 {
-        return Argument::File;
-    }
-    option_of(w)
 }
 
-// A size of parts from 1 to 65,536; 0 if it is none.
-fn part_size(w: &[u8]) -> usize
-    ensures { result ≡ size_from 0 w.now }
+// A size of parts, from 1 to 65,536.
+fn part_size(w: &[u8]) -> Option<usize>
+    ensures { result ≡ size_in w.now }
 {
     let mut size = 0;
-    let mut i = 0;
-    while i < w.len() {
-        let b = w[i];
-        if b < b'0' {
-            return 0;
+    for b in w {
+        if !b.is_ascii_digit() {
+            return None;
         }
-        if b'9' < b {
-            return 0;
-        }
-        size = size * 10 + (b - b'0') as usize;
+        size = size * 10 + usize::from(*b - b'0');
         if 65536 < size {
-            return 0;
+            return None;
         }
-        i += 1;
     }
-    size
+    if size == 0 { None } else { Some(size) }
 }
 
-impl Options {
+impl Given {
     // The files in their order.
-    fn name(mut self, i: usize) -> Options {
-        if self.domain == 0 {
-            self.domain = i;
-            return self;
+    fn add_file(&mut self, i: usize) {
+        if self.domain.is_none() {
+            self.domain = Some(i);
+        } else if self.problem.is_none() {
+            self.problem = Some(i);
+        } else if self.plan.is_none() {
+            self.plan = Some(i);
+        } else {
+            self.extra.get_or_insert(i);
         }
-        if self.problem == 0 {
-            self.problem = i;
-            return self;
-        }
-        if self.plan == 0 {
-            self.plan = i;
-            return self;
-        }
-        if self.extra == 0 {
-            self.extra = i;
-        }
-        self
     }
 
     // Argument i.
-    fn take(mut self, i: usize, w: &[u8]) -> Options {
-        let expects = self.expects;
-        if expects {
+    fn add(&mut self, i: usize, w: &[u8]) {
+        if self.expects {
             self.part = part_size(w);
             self.expects = false;
-            return self;
+            return;
         }
-        let ended = self.ended;
-        if ended {
-            return self.name(i);
+        if self.ended {
+            self.add_file(i);
+            return;
         }
         match argument_of(w) {
-            Argument::State => {
-                self.state = true;
-                self
-            }
-            Argument::Names => {
-                self.names = true;
-                self
-            }
-            Argument::Quiet => {
-                self.quiet = true;
-                self
-            }
-            Argument::Part => {
-                self.expects = true;
-                self
-            }
-            Argument::AnswerOn3 => {
-                self.answer_on_3 = true;
-                self
-            }
-            Argument::End => {
-                self.ended = true;
-                self
-            }
-            Argument::File => self.name(i),
+            Argument::State => self.state = true,
+            Argument::Names => self.names = true,
+            Argument::Quiet => self.quiet = true,
+            Argument::Part => self.expects = true,
+            Argument::AnswerOn3 => self.answer_on_3 = true,
+            Argument::End => self.ended = true,
+            Argument::File => self.add_file(i),
             Argument::Unknown => {
-                if self.unknown == 0 {
-                    self.unknown = i;
-                }
-                self
+                self.unknown.get_or_insert(i);
             }
         }
     }
-}
 
-// Argument i, or none after the last. One that is longer than 4,096 bytes counts as empty.
-fn take_argument(rt: &impl Env, options: Options, i: usize) -> Option<Options> {
-    let mut word = io::buffer();
-    match rt.arg(i, &mut word) {
-        Ok(n) => Some(options.take(i, &word[..n])),
-        Err(FillError::TooLong) => Some(options.take(i, b"")),
-        Err(FillError::NotPresent) => None,
+    // After the last argument.
+    fn options(self) -> Result<Options, Wrong> {
+        if let Some(i) = self.unknown {
+            return Err(Wrong::Unknown(i));
+        }
+        if let Some(i) = self.extra {
+            return Err(Wrong::Extra(i));
+        }
+        if self.expects {
+            return Err(Wrong::Part);
+        }
+        Ok(Options {
+            state: self.state,
+            names: self.names,
+            quiet: self.quiet,
+            answer_on_3: self.answer_on_3,
+            part: self.part.ok_or(Wrong::Part)?,
+            domain: self.domain.ok_or(Wrong::Files(0))?,
+            problem: self.problem.ok_or(Wrong::Files(1))?,
+            plan: self.plan.ok_or(Wrong::Files(2))?,
+        })
     }
 }
 
-pub fn read(rt: &impl Env) -> Options {
-    let mut options = Options {
-        state: false,
-        names: false,
-        quiet: false,
-        answer_on_3: false,
-        part: 65536,
-        expects: false,
-        ended: false,
-        domain: 0,
-        problem: 0,
-        plan: 0,
-        unknown: 0,
-        extra: 0,
+// Argument by argument. One that is longer than 4,096 bytes counts as empty.
+fn read_all(rt: &impl Env) -> Given {
+    let mut given = Given {
+        part: Some(65536),
+        ..Given::default()
     };
+    let mut word = io::buffer();
     for i in 1..usize::MAX {
-        match take_argument(rt, options, i) {
-            Some(taken) => {
-                options = taken;
+        match rt.arg(i, &mut word) {
+            Ok(n) => given.add(i, &word[..n]),
+            Err(FillError::TooLong) => given.add(i, b""),
+            Err(FillError::NotPresent) => break,
+        }
+    }
+    given
+}
+
+impl Wrong {
+    // A line that says what is wrong, and one that says what is wanted.
+    fn say(self, rt: &impl Env) {
+        match self {
+            Wrong::Unknown(i) => {
+                stderr::say("khushelvo: unknown option ");
+                files::say_name(rt, i);
             }
-            None => break,
+            Wrong::Extra(i) => {
+                stderr::say("khushelvo: one file too many: ");
+                files::say_name(rt, i);
+            }
+            Wrong::Part => stderr::say("khushelvo: --part wants a number from 1 to 65536"),
+            Wrong::Files(n) => {
+                stderr::say(format_args!("khushelvo: three files are wanted, not {n}"))
+            }
         }
+        stderr::say(
+            "\nusage: khushelvo [--state] [--names] [--part N] [--quiet] [--] DOMAIN PROBLEM PLAN (khushelvo --help says more)\n",
+        );
     }
-    options
 }
 
-// Ends a line that says what is wrong, and says what is wanted.
-fn say_usage() {
-    stderr::say(
-        b"\nusage: khushelvo [--state] [--names] [--part N] [--quiet] [--] DOMAIN PROBLEM PLAN (khushelvo --help says more)\n",
-    );
-}
-
-impl Options {
-    // How many of the three files are given.
-    fn count_files(self) -> usize {
-        if self.domain == 0 {
-            return 0;
-        }
-        if self.problem == 0 {
-            return 1;
-        }
-        if self.plan == 0 {
-            return 2;
-        }
-        3
-    }
-
-    // Whether the arguments are right; if not, a line says what is wrong.
-    pub fn are_right(self, rt: &impl Env) -> bool {
-        if self.unknown != 0 {
-            stderr::say(b"khushelvo: unknown option ");
-            files::say_name(rt, self.unknown);
-            say_usage();
-            return false;
-        }
-        if self.extra != 0 {
-            stderr::say(b"khushelvo: one file too many: ");
-            files::say_name(rt, self.extra);
-            say_usage();
-            return false;
-        }
-        let expects = self.expects;
-        if expects || self.part == 0 {
-            stderr::say(b"khushelvo: --part wants a number from 1 to 65536");
-            say_usage();
-            return false;
-        }
-        let count = self.count_files();
-        if count < 3 {
-            stderr::say_with(b"khushelvo: three files are wanted, not ", count, b"");
-            say_usage();
-            return false;
-        }
-        true
-    }
+// What the arguments ask for; or says what is wrong with them.
+pub fn read(rt: &impl Env) -> Option<Options> {
+    read_all(rt)
+        .options()
+        .inspect_err(|wrong| wrong.say(rt))
+        .ok()
 }

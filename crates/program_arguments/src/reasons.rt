@@ -25,13 +25,10 @@ impl fmt::Write for Text {
 
 // Where the system's number begins, which stands in brackets after the words; the end if there is none.
 fn words_end(text: &[u8]) -> usize {
-    let mut end = text.len();
-    for i in 1..text.len() {
-        if text[i] == b'(' {
-            end = i - 1;
-        }
+    match text.iter().rposition(|b| *b == b'(') {
+        Some(i) if 0 < i => i - 1,
+        _ => text.len(),
     }
-    end
 }
 
 // Says a path, and the system's words for what failed.
@@ -43,14 +40,14 @@ pub fn say(path: &[u8], error: std::io::Error) {
     // It takes all that is written.
     let _ = write!(text, "{error}");
     let written = runs::part_of(&text.bytes, 0, text.used);
-    stderr::say(path);
-    stderr::say(b": ");
-    stderr::say(runs::part_of(written, 0, words_end(written)));
-    stderr::say(b"\n");
+    stderr::say_bytes(path);
+    stderr::say(": ");
+    stderr::say_bytes(runs::part_of(written, 0, words_end(written)));
+    stderr::say("\n");
 }
 
 // Says a path that can't be the name of a file here.
 pub fn say_unnamed(path: &[u8]) {
-    stderr::say(path);
-    stderr::say(b": the name is not UTF-8\n");
+    stderr::say_bytes(path);
+    stderr::say(": the name is not UTF-8\n");
 }

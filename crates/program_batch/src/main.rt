@@ -2,50 +2,31 @@
 #![tactic(auto)]
 
 mod header;
-mod pieces;
 mod plan;
 mod reading;
 mod replies;
 
-use header::RecordHead;
-use text_tokens::runs;
-
-// Reads the three texts of a record and answers it: whether its header is one and they were there.
-fn texts(head: RecordHead) -> bool {
-    let part = head.part;
-    if part == 0 {
-        return false;
-    }
+// Reads the three texts of a record and answers it, if its header is one and they are there.
+fn answer(line: &[u8]) -> Option<()> {
+    let head = header::head_of(line)?;
     let mut domain = [0u8; 65536];
     let mut problem = [0u8; 65536];
-    let first = reading::read(&mut domain, head.domain);
-    if !first.whole {
-        return false;
-    }
-    let second = reading::read(&mut problem, head.problem);
-    if !second.whole {
-        return false;
-    }
-    let opened = check_calls::load(
-        runs::part_of(&domain, 0, first.used),
-        runs::part_of(&problem, 0, second.used),
-    );
-    let fed = plan::feed(opened.check, head.plan, part);
-    let whole = fed.whole;
-    if whole {
-        let load = opened.answer;
-        replies::write(load, fed.check);
-    }
-    whole
+    let domain = reading::read(&mut domain, head.domain)?;
+    let problem = reading::read(&mut problem, head.problem)?;
+    let opened = check_calls::load(domain, problem);
+    let check = plan::feed(opened.check, head.plan, head.part)?;
+    replies::write(opened.answer, check);
+    Some(())
 }
 
 // Reads one record and answers it: whether to go on.
 fn record() -> bool {
     let mut line = [0u8; 96];
-    if header::read_line(&mut line) == 0 {
+    let line = header::read_line(&mut line);
+    if line.is_empty() {
         return false;
     }
-    if texts(header::head_of(&line)) {
+    if answer(line).is_some() {
         return true;
     }
     io::write_all(1, b"malformed\n");
@@ -54,8 +35,9 @@ fn record() -> bool {
 
 // A proved loop has to end, and nothing says that the input does: so many records at most.
 fn main() {
-    let mut left = 1000000000u64;
-    while left > 0 && record() {
-        left -= 1;
+    for _ in 0..1_000_000_000u64 {
+        if !record() {
+            break;
+        }
     }
 }

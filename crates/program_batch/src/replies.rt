@@ -1,56 +1,50 @@
 // What is written for a record: the line and, unless something is refused, the facts and the numbers; then `--`.
 use check_calls::{Answer, Check};
 use domain_load::LoadAnswer;
-use program_records::{listing, output};
+use program_records::listing;
+use program_records::output::Output;
 use text_tokens::runs;
 
 pub fn write(load: LoadAnswer, check: Check) {
-    let mut out = [0u8; 4096];
-    let mut at = answer(load, check, &mut out);
-    at = output::word(&mut out, at, b"--\n");
-    output::flush(&out, at);
+    let mut block = [0u8; 4096];
+    let mut out = Output::new(&mut block);
+    put_answer(&mut out, load, check);
+    out.word(b"--\n");
+    out.finish();
 }
 
-fn answer(load: LoadAnswer, check: Check, out: &mut [u8]) -> usize {
+fn put_answer(out: &mut Output, load: LoadAnswer, check: Check) {
     let mut line = [0u8; 64];
     let LoadAnswer::Loaded = load else {
         let told = check_calls::refused_line(load, &mut line);
-        return put_line(told, &line, out, 0);
+        put_line(out, told, &line);
+        return;
     };
-    let finished = check.finish();
-    let ended = finished.check;
-    let result = ended.result(&mut line);
-    let told = result.answer;
-    let mut at = put_line(told, &line, out, 0);
-    at = put_facts(ended, out, at);
-    put_numbers(ended, out, at)
+    let ended = check.finish().check;
+    let told = ended.result(&mut line).answer;
+    put_line(out, told, &line);
+    put_facts(out, ended);
+    put_numbers(out, ended);
 }
 
-fn put_line(told: Answer, line: &[u8], out: &mut [u8], used: usize) -> usize {
-    let Answer::Done(n) = told else {
-        return used;
-    };
-    output::word(out, used, runs::part_of(line, 0, n))
+fn put_line(out: &mut Output, told: Answer, line: &[u8]) {
+    if let Answer::Done(n) = told {
+        out.word(runs::part_of(line, 0, n));
+    }
 }
 
 // The facts, if there is a last state.
-fn put_facts(check: Check, out: &mut [u8], used: usize) -> usize {
+fn put_facts(out: &mut Output, check: Check) {
     let mut facts = [0u8; 16384];
-    let told = check.facts(&mut facts);
-    let answer = told.answer;
-    let Answer::Done(n) = answer else {
-        return used;
-    };
-    listing::facts(runs::part_of(&facts, 0, n), out, used)
+    if let Answer::Done(n) = check.facts(&mut facts).answer {
+        listing::put_facts(out, runs::part_of(&facts, 0, n));
+    }
 }
 
 // The numbers, if there is a last state.
-fn put_numbers(check: Check, out: &mut [u8], used: usize) -> usize {
+fn put_numbers(out: &mut Output, check: Check) {
     let mut numbers = [0i64; 1024];
-    let told = check.numbers(&mut numbers);
-    let answer = told.answer;
-    let Answer::Done(n) = answer else {
-        return used;
-    };
-    listing::numbers(&numbers, n, out, used)
+    if let Answer::Done(n) = check.numbers(&mut numbers).answer {
+        listing::put_numbers(out, &numbers, n);
+    }
 }

@@ -3,7 +3,8 @@ use check_calls::{Answer, Check};
 use domain_load::LoadAnswer;
 use program_arguments::arguments::Options;
 use program_arguments::files;
-use program_records::{listing, output};
+use program_records::listing;
+use program_records::output::Output;
 use text_tokens::runs;
 
 const STDOUT: i32 = 1;
@@ -11,84 +12,76 @@ const STDOUT: i32 = 1;
 // The script `khushelvo` opens descriptor 3 to learn the answer: the program ends with status 0 whatever it is, and standard output goes past the script.
 const SCRIPT: i32 = 3;
 
-fn write_line(options: Options, told: Answer, line: &[u8]) {
+fn write_line(options: &Options, told: Answer, line: &[u8]) {
     let Answer::Done(n) = told else {
         return;
     };
     let words = runs::part_of(line, 0, n);
     if !io::write_all(STDOUT, words) {
         files::say_unwritten();
-        return;
-    }
-    let answer_on_3 = options.answer_on_3;
-    if answer_on_3 {
+    } else if options.answer_on_3 {
         io::write_all(SCRIPT, words);
     }
 }
 
 // The line of a refused domain or problem.
-pub fn refuse(options: Options, load: LoadAnswer) {
+pub fn refuse(options: &Options, load: LoadAnswer) {
     let mut line = [0u8; 64];
     let told = check_calls::refused_line(load, &mut line);
     write_line(options, told, &line);
 }
 
 fn list_facts(values: &[u8]) {
-    let mut out = [0u8; 4096];
-    let used = listing::facts(values, &mut out, 0);
-    output::flush(&out, used);
+    let mut block = [0u8; 4096];
+    let mut out = Output::new(&mut block);
+    listing::put_facts(&mut out, values);
+    out.finish();
 }
 
 // The last facts, with names or as digits.
-fn write_facts(check: Check, named: bool) {
+fn write_facts(check: &Check, named: bool) {
     let mut facts = [0u8; 16384];
-    let told = check.facts(&mut facts);
-    let answer = told.answer;
-    let Answer::Done(n) = answer else {
+    let Answer::Done(n) = check.facts(&mut facts).answer else {
         return;
     };
     let values = runs::part_of(&facts, 0, n);
     if named {
         program_naming::write_facts(&check.model.tables, check.model.counts, values);
-        return;
+    } else {
+        list_facts(values);
     }
-    list_facts(values);
 }
 
 fn list_numbers(values: &[i64], n: usize) {
-    let mut out = [0u8; 4096];
-    let used = listing::numbers(values, n, &mut out, 0);
-    output::flush(&out, used);
+    let mut block = [0u8; 4096];
+    let mut out = Output::new(&mut block);
+    listing::put_numbers(&mut out, values, n);
+    out.finish();
 }
 
 // The last numbers, with names or by themselves.
-fn write_numbers(check: Check, named: bool) {
+fn write_numbers(check: &Check, named: bool) {
     let mut numbers = [0i64; 1024];
-    let told = check.numbers(&mut numbers);
-    let answer = told.answer;
-    let Answer::Done(n) = answer else {
+    let Answer::Done(n) = check.numbers(&mut numbers).answer else {
         return;
     };
     if named {
         program_naming::write_numbers(&check.model.tables, check.model.counts, &numbers, n);
-        return;
+    } else {
+        list_numbers(&numbers, n);
     }
-    list_numbers(&numbers, n);
 }
 
 // The line of a finished check; then, unless the plan is refused, the facts and the numbers with `--state`, and the same with names with `--names`.
-pub fn write(options: Options, check: Check) {
+pub fn write(options: &Options, check: &Check) {
     let mut line = [0u8; 64];
-    let result = check.result(&mut line);
-    let told = result.answer;
+    let told = check.result(&mut line).answer;
     write_line(options, told, &line);
-    let digits = options.state;
-    if digits {
+    if options.state {
         write_facts(check, false);
         write_numbers(check, false);
     }
-    let names = options.names;
-    if names {
+    if options.names {
         write_facts(check, true);
         write_numbers(check, true);
     }

@@ -29,53 +29,45 @@ pub enum Limit {
     Brackets,
     Facts,
     Numbers,
-    // at this place the checker never gives 12
-    Unknown,
 }
 
 // At a name or an operator that is in no expression.
-fn by_name(field: Field) -> Limit
+fn by_name(field: Field) -> Option<Limit>
     ensures { result ≡ by_name field }
 {
     match field {
-        Field::Types => Limit::Types,
-        Field::Objects => Limit::Objects,
-        Field::Predicates => Limit::Predicates,
-        Field::Functions => Limit::Functions,
-        Field::Action => Limit::Actions,
-        Field::Condition => Limit::Conditions,
-        Field::Effect => Limit::Effects,
-        Field::Goal => Limit::GoalConditions,
-        Field::Parameters => Limit::Unknown,
-        Field::Other => Limit::Unknown,
+        Field::Types => Some(Limit::Types),
+        Field::Objects => Some(Limit::Objects),
+        Field::Predicates => Some(Limit::Predicates),
+        Field::Functions => Some(Limit::Functions),
+        Field::Action => Some(Limit::Actions),
+        Field::Condition => Some(Limit::Conditions),
+        Field::Effect => Some(Limit::Effects),
+        Field::Goal => Some(Limit::GoalConditions),
+        Field::Parameters | Field::Other => None,
     }
 }
 
-fn by_variable(field: Field) -> Limit
+fn by_variable(field: Field) -> Option<Limit>
     ensures { result ≡ by_variable field }
 {
     match field {
-        Field::Predicates => Limit::PredicateArguments,
-        Field::Functions => Limit::FunctionArguments,
-        Field::Parameters => Limit::Parameters,
-        Field::Types => Limit::Unknown,
-        Field::Objects => Limit::Unknown,
-        Field::Action => Limit::Unknown,
-        Field::Condition => Limit::Unknown,
-        Field::Effect => Limit::Unknown,
-        Field::Goal => Limit::Unknown,
-        Field::Other => Limit::Unknown,
+        Field::Predicates => Some(Limit::PredicateArguments),
+        Field::Functions => Some(Limit::FunctionArguments),
+        Field::Parameters => Some(Limit::Parameters),
+        _ => None,
     }
 }
 
 // At a name or an operator, within an expression or not.
-fn by_head(field: Field, calculates: bool) -> Limit
+fn by_head(field: Field, calculates: bool) -> Option<Limit>
     ensures { result ≡ by_head field calculates }
 {
     if calculates {
-        return Limit::Expression;
+        Some(Limit::Expression)
+    } else {
+        by_name(field)
     }
-    by_name(field)
 }
 
 // At a keyword: facts and ground numbers are counted at the same one.
@@ -83,46 +75,42 @@ fn by_sum(numbers: bool) -> Limit
     ensures { result ≡ by_sum numbers }
 {
     if numbers {
-        return Limit::Numbers;
+        Limit::Numbers
+    } else {
+        Limit::Facts
     }
-    Limit::Facts
 }
 
-fn by_word(word: Word, field: Field, calculates: bool, numbers: bool) -> Limit
+fn by_word(word: Word, field: Field, calculates: bool, numbers: bool) -> Option<Limit>
     ensures { result ≡ by_word word field calculates numbers }
 {
     match word {
-        Word::Keyword => by_sum(numbers),
+        Word::Keyword => Some(by_sum(numbers)),
         Word::Variable => by_variable(field),
-        Word::Name => by_head(field, calculates),
-        Word::Operator => by_head(field, calculates),
+        Word::Name | Word::Operator => by_head(field, calculates),
     }
 }
 
-// At a token, after the last keyword `field`, within an expression if it `calculates`, with too many `numbers` or not.
-fn limit_at(t: Token, field: Field, calculates: bool, numbers: bool) -> Limit
+// At a token, after the last keyword `field`, within an expression if it `calculates`, with too many `numbers` or not; none where the checker never gives 12.
+fn limit_at(t: Token, field: Field, calculates: bool, numbers: bool) -> Option<Limit>
     ensures { result ≡ limit_at t field calculates numbers }
 {
     match t {
-        Token::Open(_, _) => Limit::Brackets,
-        Token::Number(_, _, _) => Limit::Expression,
+        Token::Open(_, _) => Some(Limit::Brackets),
+        Token::Number(_, _, _) => Some(Limit::Expression),
         Token::Word(word, _, _) => by_word(word, field, calculates, numbers),
-        Token::Close(_, _) => Limit::Unknown,
-        Token::Mark(_, _, _) => Limit::Unknown,
-        Token::Refusal(_, _) => Limit::Unknown,
-        Token::End(_) => Limit::Unknown,
+        _ => None,
     }
 }
 
 // The limit that a text passes which is refused by 12 at a place. The domain's text is given too, since the two sums are refused in the problem.
-pub fn limit_of(domain: &[u8], text: &[u8], place: usize) -> Limit {
+pub fn limit_of(domain: &[u8], text: &[u8], place: usize) -> Option<Limit> {
     let before = seen::before(text, place, 0);
-    let field = before.field;
     let whole = seen::before(domain, domain.len(), before.tally.objects);
     limit_at(
         tokens::token_at(text, place),
-        field,
-        0 < before.calculating,
+        before.field,
+        before.calculating.is_some(),
         whole.tally.is_over(),
     )
 }

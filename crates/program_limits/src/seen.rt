@@ -1,10 +1,8 @@
 // What the tokens before a place say of it: the last keyword, whether it lies within an expression, and what is declared.
-use crate::tally;
 use crate::tally::Tally;
 use text_tokens::tokens::{Token, Word};
 use text_tokens::{runs, tokens};
 use text_words::fixed::HeadWord;
-use text_words::spelling::Place;
 use text_words::{fixed, spelling};
 
 // What the last keyword begins.
@@ -26,23 +24,12 @@ pub enum Field {
 pub struct Seen {
     pub field: Field,
     // how many brackets are open
-    pub depth: usize,
-    // the depth of the outermost bracket that is a comparison, an operation or a change of a number; 0 if there is none
-    pub calculating: usize,
+    depth: usize,
+    // the depth of the outermost bracket that is a comparison, an operation or a change of a number
+    pub calculating: Option<usize>,
     // whether the last token opened a bracket
-    pub opened: bool,
+    opened: bool,
     pub tally: Tally,
-}
-
-// Before the first token, with so many objects known from the other text.
-fn begin(objects: usize) -> Seen {
-    Seen {
-        field: Field::Other,
-        depth: 0,
-        calculating: 0,
-        opened: false,
-        tally: tally::begin(objects),
-    }
 }
 
 fn field_of(w: &[u8]) -> Field {
@@ -50,7 +37,7 @@ fn field_of(w: &[u8]) -> Field {
         b":types :constants :objects :predicates :functions :action :durative-action :parameters :precondition :condition :effect :goal",
         w,
     );
-    let Place::At(i) = f else {
+    let Some(i) = f else {
         return Field::Other;
     };
     match i {
@@ -68,75 +55,70 @@ fn field_of(w: &[u8]) -> Field {
 
 // Whether everything after a head is an expression, or the number that is changed.
 fn is_calculating(w: &[u8]) -> bool {
-    match fixed::head_of(w) {
-        HeadWord::And | HeadWord::Not | HeadWord::Other => false,
-        HeadWord::Equal | HeadWord::Less | HeadWord::AtMost | HeadWord::More => true,
-        HeadWord::AtLeast | HeadWord::Plus | HeadWord::Minus => true,
-        HeadWord::Assign | HeadWord::Increase | HeadWord::Decrease => true,
-    }
+    !matches!(
+        fixed::head_of(w),
+        HeadWord::And | HeadWord::Not | HeadWord::Other
+    )
 }
 
 impl Seen {
+    // Before the first token, with so many objects known from the other text.
+    fn new(objects: usize) -> Seen {
+        Seen {
+            field: Field::Other,
+            depth: 0,
+            calculating: None,
+            opened: false,
+            tally: Tally::new(objects),
+        }
+    }
+
     // A bracket more. No place of a refusal lies deeper than 16.
-    fn with_open(mut self) -> Seen {
+    fn open(&mut self) {
         if self.depth < 16 {
             self.depth += 1;
         }
         self.opened = true;
-        self
     }
 
     // A bracket less.
-    fn with_close(mut self) -> Seen {
-        if self.depth == self.calculating {
-            self.calculating = 0;
+    fn close(&mut self) {
+        if self.calculating == Some(self.depth) {
+            self.calculating = None;
         }
-        if 0 < self.depth {
-            self.depth -= 1;
-        }
+        self.depth = self.depth.saturating_sub(1);
         self.opened = false;
-        self
     }
 
     // A word that is no keyword, or a number, more.
-    fn with_operand(mut self, w: &[u8]) -> Seen {
-        if self.opened && self.calculating == 0 {
-            if is_calculating(w) {
-                self.calculating = self.depth;
-            }
+    fn add_operand(&mut self, w: &[u8]) {
+        if self.opened && self.calculating.is_none() && is_calculating(w) {
+            self.calculating = Some(self.depth);
         }
         self.opened = false;
-        self
     }
 
-    fn with_keyword(self, w: &[u8]) -> Seen {
-        let tally = self.tally;
-        Seen {
-            field: field_of(w),
-            depth: self.depth,
-            calculating: self.calculating,
-            opened: false,
-            tally,
-        }
+    fn add_keyword(&mut self, w: &[u8]) {
+        self.field = field_of(w);
+        self.opened = false;
     }
 
-    fn with_word(mut self, kind: Word, w: &[u8]) -> Seen {
-        if let Word::Keyword = kind {
-            return self.with_keyword(w);
+    fn add_word(&mut self, kind: Word, w: &[u8]) {
+        if matches!(kind, Word::Keyword) {
+            self.add_keyword(w);
+        } else {
+            self.tally.add(kind, self.field, self.opened);
+            self.add_operand(w);
         }
-        let field = self.field;
-        let counted = self.tally.with(kind, field, self.opened);
-        self.tally = counted;
-        self.with_operand(w)
     }
 
     // A token more.
-    fn with(self, text: &[u8], t: Token) -> Seen {
+    fn add(&mut self, text: &[u8], t: Token) {
         match t {
-            Token::Open(_, _) => self.with_open(),
-            Token::Close(_, _) => self.with_close(),
-            Token::Word(kind, _, _) => self.with_word(kind, tokens::word_of(text, t)),
-            _ => self.with_operand(b""),
+            Token::Open(_, _) => self.open(),
+            Token::Close(_, _) => self.close(),
+            Token::Word(kind, _, _) => self.add_word(kind, tokens::word_of(text, t)),
+            _ => self.add_operand(b""),
         }
     }
 }
@@ -153,18 +135,15 @@ fn end_of(text: &[u8], t: Token) -> usize {
 
 // What stands before a place, with so many objects known from the other text.
 pub fn before(text: &[u8], place: usize, objects: usize) -> Seen {
-    let mut seen = begin(objects);
+    let mut seen = Seen::new(objects);
     let mut at = 0;
     while at < place {
         let t = tokens::token_at(text, at);
         let end = end_of(text, t);
-        if end <= at {
-            return seen;
+        if end <= at || place < end {
+            break;
         }
-        if place < end {
-            return seen;
-        }
-        seen = seen.with(text, t);
+        seen.add(text, t);
         at = end;
     }
     seen

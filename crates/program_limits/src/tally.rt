@@ -2,7 +2,7 @@
 use crate::seen::Field;
 use text_tokens::tokens::Word;
 
-#[derive(Clone, Copy)]
+#[derive(Clone, Copy, Default)]
 pub struct Tally {
     pub objects: usize,
     // the ground numbers of all functions but the last, and those of the last
@@ -12,92 +12,51 @@ pub struct Tally {
     typed: bool,
 }
 
-// Before the first token, with so many objects known.
-pub fn begin(objects: usize) -> Tally {
-    Tally {
-        objects,
-        numbers: 0,
-        last: 0,
-        typed: false,
-    }
-}
-
 impl Tally {
-    fn with_object(mut self) -> Tally {
-        let typed = self.typed;
-        self.typed = false;
-        if typed {
-            return self;
+    // Before the first token, with so many objects known.
+    pub fn new(objects: usize) -> Tally {
+        Tally {
+            objects,
+            ..Tally::default()
         }
-        if self.objects < 64 {
+    }
+
+    // A name that is an object, or the type of those before it.
+    fn add_object(&mut self) {
+        if self.typed {
+            self.typed = false;
+        } else if self.objects < 64 {
             self.objects += 1;
         }
-        self
     }
 
     // There are at most 16 functions, of at most 64 objects to the power 2 numbers each.
-    fn with_function(mut self) -> Tally {
-        if self.numbers <= 65536 {
-            if self.last <= 4096 {
-                self.numbers += self.last;
-            }
+    fn add_function(&mut self) {
+        if self.numbers <= 65536 && self.last <= 4096 {
+            self.numbers += self.last;
         }
         self.last = 1;
-        self
     }
 
-    fn with_argument(mut self) -> Tally {
-        let last = self.last;
-        let objects = self.objects;
-        if last <= 64 {
-            if objects <= 64 {
-                self.last = last * objects;
-            }
+    fn add_argument(&mut self) {
+        if self.last <= 64 && self.objects <= 64 {
+            self.last *= self.objects;
         }
-        self
-    }
-
-    fn with_name(self, field: Field, heads: bool) -> Tally {
-        match field {
-            Field::Objects => self.with_object(),
-            Field::Functions => {
-                if heads {
-                    return self.with_function();
-                }
-                self
-            }
-            _ => self,
-        }
-    }
-
-    fn with_variable(self, field: Field) -> Tally {
-        if let Field::Functions = field {
-            return self.with_argument();
-        }
-        self
-    }
-
-    fn with_sign(mut self) -> Tally {
-        self.typed = true;
-        self
     }
 
     // A word more, in what a keyword begins; it heads a bracket or not.
-    pub fn with(self, word: Word, field: Field, heads: bool) -> Tally {
-        match word {
-            Word::Name => self.with_name(field, heads),
-            Word::Variable => self.with_variable(field),
-            Word::Operator => self.with_sign(),
-            Word::Keyword => self,
+    pub fn add(&mut self, word: Word, field: Field, heads: bool) {
+        match (word, field) {
+            (Word::Name, Field::Objects) => self.add_object(),
+            (Word::Name, Field::Functions) if heads => self.add_function(),
+            (Word::Variable, Field::Functions) => self.add_argument(),
+            (Word::Operator, _) => self.typed = true,
+            _ => {}
         }
     }
 
     // Whether there are too many ground numbers.
     pub fn is_over(self) -> bool {
-        let numbers = self.numbers;
-        if 1024 < numbers {
-            return true;
-        }
-        1024 - numbers < self.last
+        1024 < self.numbers.saturating_add(self.last)
     }
 }

@@ -1,5 +1,6 @@
 // A number of thousandths in its shortest form: 2, 2.5, -0.001.
 use program_records::output;
+use program_records::output::Output;
 
 // The last digit of a number.
 fn digit(n: u64) -> u8 {
@@ -7,32 +8,26 @@ fn digit(n: u64) -> u8 {
 }
 
 // What stands after the point, without the zeros at its end.
-fn put_decimals(out: &mut [u8], used: usize, thousandths: u64) -> usize {
+fn put_decimals(out: &mut Output, thousandths: u64) {
     if thousandths == 0 {
-        return used;
+        return;
     }
-    let mut at = output::put(out, used, b'.');
-    at = output::put(out, at, digit(thousandths / 100));
+    out.put(b'.');
+    out.put(digit(thousandths / 100));
     if thousandths % 100 == 0 {
-        return at;
+        return;
     }
-    at = output::put(out, at, digit(thousandths / 10));
-    if thousandths % 10 == 0 {
-        return at;
+    out.put(digit(thousandths / 10));
+    if thousandths % 10 != 0 {
+        out.put(digit(thousandths));
     }
-    output::put(out, at, digit(thousandths))
 }
 
-fn put_sign(out: &mut [u8], used: usize, z: i64) -> usize {
-    if output::is_negative(z) {
-        return output::put(out, used, b'-');
+pub fn put_amount(out: &mut Output, z: i64) {
+    if z < 0 {
+        out.put(b'-');
     }
-    used
-}
-
-pub fn put_amount(out: &mut [u8], used: usize, z: i64) -> usize {
     let m = output::magnitude(z);
-    let mut at = put_sign(out, used, z);
-    at = output::digits(out, at, m / 1000);
-    put_decimals(out, at, m % 1000)
+    out.digits(m / 1000);
+    put_decimals(out, m % 1000);
 }

@@ -7,18 +7,20 @@ mod rows;
 mod state;
 
 use domain_terms::scope::Counts;
-use program_records::output;
+use program_records::output::Output;
 
 // The true ones of these facts, by the names in the tables.
-pub fn write_facts<'a>(tables: &'a [u8], counts: Counts, values: &'a [u8]) {
-    let mut out = [0u8; 4096];
-    let used = state::put_facts(tables, counts, values, &mut out);
-    output::flush(&out, used);
+pub fn write_facts(tables: &[u8], counts: Counts, values: &[u8]) {
+    let mut block = [0u8; 4096];
+    let mut out = Output::new(&mut block);
+    state::put_facts(&mut out, tables, counts, values);
+    out.finish();
 }
 
 // The defined ones of the first n numbers.
-pub fn write_numbers<'a>(tables: &'a [u8], counts: Counts, values: &'a [i64], n: usize) {
-    let mut out = [0u8; 4096];
-    let used = state::put_numbers(tables, counts, values, n, &mut out);
-    output::flush(&out, used);
+pub fn write_numbers(tables: &[u8], counts: Counts, values: &[i64], n: usize) {
+    let mut block = [0u8; 4096];
+    let mut out = Output::new(&mut block);
+    state::put_numbers(&mut out, tables, counts, values, n);
+    out.finish();
 }

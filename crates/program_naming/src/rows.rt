@@ -3,20 +3,20 @@ ghost use Rattle.std.specs.Prelude.{◌≡◌, ◌≤◌};
 ghost use Rattle.program_naming.specs.Grounds.{row_at, arity_in};
 
 use domain_rows::layout;
-use program_records::output;
+use program_records::output::Output;
 use text_tokens::runs;
 use text_words::names::{NAME_AT, ROW};
 
 // Where row i of the table from `off` on begins. No table has more than 64 rows.
+#[tactic(auto, unfolding(crate::specs::Grounds::row_at))]
 fn row_at(off: usize, i: usize) -> usize
     ensures { (result ≡ row_at off i) × (result ≤ 10000) }
 {
-    if off < layout::TABLES_LENGTH {
-        if i < 64 {
-            return off + ROW * i;
-        }
+    if off < layout::TABLES_LENGTH && i < 64 {
+        off + ROW * i
+    } else {
+        layout::TABLES_LENGTH
     }
-    layout::TABLES_LENGTH
 }
 
 // How many arguments a predicate or function has.
@@ -27,9 +27,9 @@ pub fn arity(tables: &[u8], off: usize, i: usize) -> usize
 }
 
 // A name, as it was declared.
-pub fn put_name(tables: &[u8], off: usize, i: usize, out: &mut [u8], used: usize) -> usize {
+pub fn put_name(out: &mut Output, tables: &[u8], off: usize, i: usize) {
     let row = row_at(off, i);
     let from = row + NAME_AT;
     let size = domain_rows::byte(tables, row) as usize;
-    output::word(out, used, runs::part_of(tables, from, from + size))
+    out.word(runs::part_of(tables, from, from + size));
 }

@@ -3,145 +3,86 @@
 use crate::report;
 use check_calls::{Answer, Check, Reply};
 use domain_load::LoadAnswer;
-use program_script::compare;
+use program_script::marks;
 use text_tokens::runs;
 
+const BYTE_MARK: u8 = 170;
+
+const NUMBER_MARK: i64 = -7;
+
 // A part as a script writes it: `|` stands for LF.
-fn unescape(part: &[u8], out: &mut [u8]) {
-    let mut i = 0;
-    while i < part.len() && i < out.len() {
-        out[i] = plain(part[i]);
-        i += 1;
+fn unescape<'a>(part: &[u8], out: &'a mut [u8]) -> &'a [u8] {
+    for (to, from) in out.iter_mut().zip(part) {
+        *to = if *from == b'|' { b'\n' } else { *from };
     }
+    runs::part_of(out, 0, part.len())
 }
 
-fn plain(b: u8) -> u8 {
-    if b == b'|' {
-        return b'\n';
-    }
-    b
-}
-
-pub fn feed(check: Check, part: &[u8]) -> Check {
+pub fn feed(check: &mut Check, part: &[u8]) {
     let mut bytes = [0u8; 256];
-    unescape(part, &mut bytes);
-    let fed = check.feed(runs::part_of(&bytes, 0, part.len()));
-    let after = fed.check;
-    let answer = fed.answer;
-    report::say(check, after, answer);
-    after
+    let reply = check.feed(unescape(part, &mut bytes));
+    report::say(check, &reply);
+    *check = reply.check;
 }
 
 // A part in parts of one byte each: the last one's answer.
-fn feed_each(check: Check, part: &[u8]) -> Reply {
-    let mut after = check;
-    let mut answer = Answer::Done(0);
-    let mut i = 0;
-    while i < part.len() {
-        let fed = after.feed(runs::part_of(part, i, i + 1));
-        after = fed.check;
-        answer = fed.answer;
-        i += 1;
-    }
-    Reply {
-        check: after,
-        answer,
-    }
-}
-
-pub fn feed_bytes(check: Check, part: &[u8]) -> Check {
+pub fn feed_bytes(check: &mut Check, part: &[u8]) {
     let mut bytes = [0u8; 256];
-    unescape(part, &mut bytes);
-    let fed = feed_each(check, runs::part_of(&bytes, 0, part.len()));
-    let after = fed.check;
-    let answer = fed.answer;
-    report::say(check, after, answer);
-    after
-}
-
-pub fn finish(check: Check) -> Check {
-    let fed = check.finish();
-    let after = fed.check;
-    let answer = fed.answer;
-    report::say(check, after, answer);
-    after
-}
-
-// Each call on the first n places of a block, or on all of it if it has no more.
-fn ask_line(check: Check, out: &mut [u8], n: usize) -> Reply {
-    if n <= out.len() {
-        return check.result(&mut out[..n]);
+    let mut reply = Reply {
+        check: *check,
+        answer: Answer::Done(0),
+    };
+    for byte in unescape(part, &mut bytes).chunks(1) {
+        reply = reply.check.feed(byte);
     }
-    check.result(out)
+    report::say(check, &reply);
+    *check = reply.check;
 }
 
-fn ask_facts(check: Check, out: &mut [u8], n: usize) -> Reply {
-    if n <= out.len() {
-        return check.facts(&mut out[..n]);
-    }
-    check.facts(out)
+pub fn finish(check: &mut Check) {
+    let reply = check.finish();
+    report::say(check, &reply);
+    *check = reply.check;
 }
 
-fn ask_numbers(check: Check, out: &mut [i64], n: usize) -> Reply {
-    if n <= out.len() {
-        return check.numbers(&mut out[..n]);
-    }
-    check.numbers(out)
-}
-
-fn ask_refused(load: LoadAnswer, out: &mut [u8], n: usize) -> Answer {
-    if n <= out.len() {
-        return check_calls::refused_line(load, &mut out[..n]);
-    }
-    check_calls::refused_line(load, out)
-}
-
-pub fn result(check: Check, places: usize) -> Check {
-    let mut out = [170u8; 80];
-    let fed = ask_line(check, &mut out, places);
-    let after = fed.check;
-    let answer = fed.answer;
-    report::say_asked(
-        check,
-        after,
-        answer,
-        compare::is_marked(&out, report::written(answer)),
-    );
-    report::say_line(answer, &out);
-    after
+// Each call on the first places of a block, or on all of it if it has no more.
+pub fn result(check: &mut Check, places: usize) {
+    let mut out = [BYTE_MARK; 80];
+    let reply = check.result(&mut out[..places.min(80)]);
+    let same = marks::is_filled(&out, report::written(reply.answer), BYTE_MARK);
+    report::say_asked(check, &reply, same);
+    report::say_line(reply.answer, &out);
+    *check = reply.check;
 }
 
 // The line of a refused load.
 pub fn refused(load: LoadAnswer, places: usize) {
-    let mut out = [170u8; 80];
-    let answer = ask_refused(load, &mut out, places);
+    let mut out = [BYTE_MARK; 80];
+    let answer = check_calls::refused_line(load, &mut out[..places.min(80)]);
+    let same = marks::is_filled(&out, report::written(answer), BYTE_MARK);
     report::say_answer(answer);
-    report::say_output(answer, compare::is_marked(&out, report::written(answer)));
+    report::say_output(answer, same);
     report::say_line(answer, &out);
 }
 
-pub fn facts(check: Check, places: usize) -> Check {
-    let mut out = [170u8; 8];
-    let fed = ask_facts(check, &mut out, places);
-    let after = fed.check;
-    let answer = fed.answer;
-    report::say_asked(
-        check,
-        after,
-        answer,
-        compare::is_marked(&out, report::written(answer)),
+pub fn facts(check: &mut Check, places: usize) {
+    let mut out = [BYTE_MARK; 8];
+    let reply = check.facts(&mut out[..places.min(8)]);
+    let same = marks::is_filled(&out, report::written(reply.answer), BYTE_MARK);
+    report::say_asked(check, &reply, same);
+    report::say_written(
+        reply.answer,
+        &out,
+        |fact| report::say_number(*fact as usize),
     );
-    report::say_facts(answer, &out);
-    after
+    *check = reply.check;
 }
 
-pub fn numbers(check: Check, places: usize) -> Check {
-    let mut out = [-7i64; 8];
-    let fed = ask_numbers(check, &mut out, places);
-    let after = fed.check;
-    let answer = fed.answer;
-    let same = compare::are_marked(&out, report::written(answer));
-    report::say_asked(check, after, answer, same);
-    report::say_numbers(answer, &out);
-    after
+pub fn numbers(check: &mut Check, places: usize) {
+    let mut out = [NUMBER_MARK; 8];
+    let reply = check.numbers(&mut out[..places.min(8)]);
+    let same = marks::is_filled(&out, report::written(reply.answer), NUMBER_MARK);
+    report::say_asked(check, &reply, same);
+    report::say_written(reply.answer, &out, |number| report::say_value(*number));
+    *check = reply.check;
 }

@@ -2,24 +2,24 @@
 ghost use Rattle.std.specs.Prelude.{◌≡◌};
 ghost use Rattle.check_calls.specs.Numbers.{number_of};
 
-use crate::checks;
-use check_calls::{Answer, Check};
+use check_calls::{Answer, Check, Reply};
 use domain_load::LoadAnswer;
-use program_records::output;
+use program_records::output::Output;
 use text_tokens::runs;
 
 // A space and a number.
 pub fn say_number(n: usize) {
-    let mut out = [0u8; 32];
-    let used = output::number(&mut out, 0, n as u64);
-    output::flush(&out, used);
+    io::write_all(1, b" ");
+    io::print_decimal(1, n as u64);
 }
 
 // A space and a number of thousandths.
 pub fn say_value(z: i64) {
-    let mut out = [0u8; 32];
-    let used = output::signed(&mut out, 0, z);
-    output::flush(&out, used);
+    let mut block = [0u8; 32];
+    let mut out = Output::new(&mut block);
+    out.put(b' ');
+    out.signed(z);
+    out.finish();
 }
 
 // The number of an answer (RULES 7, RULES 13), 0 for none.
@@ -54,12 +54,12 @@ pub fn say_answer(answer: Answer) {
     }
 }
 
-pub fn say_check(same: bool) {
+fn say_check(same: bool) {
     if same {
         io::write_all(1, b", check same");
-        return;
+    } else {
+        io::write_all(1, b", check changed");
     }
-    io::write_all(1, b", check changed");
 }
 
 // How many places a call wrote.
@@ -79,9 +79,9 @@ pub fn say_output(answer: Answer, same: bool) {
     }
     if same {
         io::write_all(1, b" same");
-        return;
+    } else {
+        io::write_all(1, b" changed");
     }
-    io::write_all(1, b" changed");
 }
 
 // What a load answers.
@@ -105,23 +105,23 @@ fn say_refused(words: &[u8], k: u8, p: usize) {
 pub fn say_same(same: bool) {
     if same {
         io::write_all(1, b" -> same\n");
-        return;
+    } else {
+        io::write_all(1, b" -> different\n");
     }
-    io::write_all(1, b" -> different\n");
 }
 
 // How a call left the check.
-pub fn say(before: Check, after: Check, answer: Answer) {
-    say_answer(answer);
-    say_check(checks::same_check(before, after));
+pub fn say(before: &Check, reply: &Reply) {
+    say_answer(reply.answer);
+    say_check(*before == reply.check);
     io::write_all(1, b"\n");
 }
 
 // A call that writes: its answer, and how it left the output and the check.
-pub fn say_asked(before: Check, after: Check, answer: Answer, same: bool) {
-    say_answer(answer);
-    say_output(answer, same);
-    say_check(checks::same_check(before, after));
+pub fn say_asked(before: &Check, reply: &Reply, same: bool) {
+    say_answer(reply.answer);
+    say_output(reply.answer, same);
+    say_check(*before == reply.check);
 }
 
 // The line that a call wrote, which ends in LF; or only the end of what is said.
@@ -129,34 +129,19 @@ pub fn say_line(answer: Answer, out: &[u8]) {
     if let Answer::Done(n) = answer {
         io::write_all(1, b", written: ");
         io::write_all(1, runs::part_of(out, 0, n));
-        return;
+    } else {
+        io::write_all(1, b"\n");
     }
-    io::write_all(1, b"\n");
 }
 
-fn say_fact(b: u8) {
-    say_number(b as usize);
-}
-
-pub fn say_facts(answer: Answer, out: &[u8]) {
+// What a call wrote: facts or numbers.
+pub fn say_written<T, F: Fn(&T)>(answer: Answer, out: &[T], say: F)
+    requires { F.IsAlwaysCallable say }
+{
     if let Answer::Done(n) = answer {
         io::write_all(1, b", written:");
-        let mut i = 0;
-        while i < n && i < out.len() {
-            say_fact(out[i]);
-            i += 1;
-        }
-    }
-    io::write_all(1, b"\n");
-}
-
-pub fn say_numbers(answer: Answer, out: &[i64]) {
-    if let Answer::Done(n) = answer {
-        io::write_all(1, b", written:");
-        let mut i = 0;
-        while i < n && i < out.len() {
-            say_value(out[i]);
-            i += 1;
+        for x in out.iter().take(n) {
+            say(x);
         }
     }
     io::write_all(1, b"\n");

@@ -1,52 +1,41 @@
 -- Definitions over a text, a step at a place of it: counting up to an LF; and the bytes on both sides of a place. Assumes nothing.
-use mathlib.Core.Path.{◌≡◌, ap, ◌∙◌}
-use mathlib.Core.List.{List}
-use Prim.Native.Nat.{ℕ, suc, ◌+◌, ◌-◌, ◌≤◌, ◌<◌}
+use mathlib.Core.Path.{◌≡◌, refl, sym, ap, ◌∙◌}
+use mathlib.Core.Bool.{cond}
+use mathlib.Core.List.{List, [], ◌∷◌}
+use Prim.Native.Nat.{ℕ, suc, ◌+◌, ◌-◌, ◌≤◌}
 use native.Mathlib.Nat.{sub-zero}
 use native.Mathlib.Omega.{arith}
-use native.Mathlib.Numerals.{add-one}
-use lib.ListN.{length, get_or, take, drop, length-take, length-drop, drop_of_length-le}
+use lib.ListN.{length, take, drop, length-take, length-drop}
 use lib.Seq.{take_all}
-use borrow.Author.Tests.{eq-eqb, ne_eqb}
-use Rattle.base_laws.proofs.Lists.{at_cons}
+use Rattle.std.specs.Prelude.{eqb, not}
+use native.Mathlib.Numerals.{one-add}
+use Rattle.std.specs.List.{count_by, prefix_len, suffix_len}
+use Rattle.std.proofs.lemmas.List.Recursion.{is_count_by, is_position_or_len}
+use Rattle.std.proofs.lemmas.List.{reverse-append, length-reverse}
+use Rattle.std.proofs.lemmas.List.Folds.{position_or_len_push}
+use Rattle.std.proofs.lemmas.List.Sums.{suffix_len-le-length}
+use Rattle.std.proofs.lemmas.Bool.Decides.{nat_tests}
 use Rattle.text_tokens.specs.Runs.{part}
 use Rattle.program_quotes.specs.Location.{line_ends, behind, ahead}
 
-pub ends_here : (s : List ℕ) (p : ℕ) → p < length s → get_or s p 0 ≡ 10 → line_ends (drop p s) ≡ suc (line_ends (drop (p + 1) s))
+-- ---- counting LFs, and up to one
+
+pub ends_counted : (s : List ℕ) → line_ends s ≡ count_by (λ b. eqb b 10) s
 unfolding line_ends
-ends_here s p h e = rw (at_cons s p h, eq-eqb (get_or s p 0) 10 e)
+ends_counted s = is_count_by line_ends (λ b. eqb b 10) refl (λ b t. rw one-add) s
 
-pub ends_later : (s : List ℕ) (p : ℕ) → p < length s → (get_or s p 0 ≡ 10 → ⊥) → line_ends (drop p s) ≡ line_ends (drop (p + 1) s)
-unfolding line_ends
-ends_later s p h e = rw (at_cons s p h, ne_eqb (get_or s p 0) 10 e)
-
-pub ends_end : (s : List ℕ) (p : ℕ) → length s ≤ p → line_ends (drop p s) ≡ 0
-unfolding line_ends
-ends_end s p h = rw (drop_of_length-le s h)
-
-pub behind_here : (k : ℕ) (s : List ℕ) (p : ℕ) → p < length s → get_or s p 0 ≡ 10 → behind k (drop p s) ≡ behind 0 (drop (p + 1) s)
-unfolding behind
-behind_here k s p h e = rw (at_cons s p h, eq-eqb (get_or s p 0) 10 e)
-
-pub behind_later : (k : ℕ) (s : List ℕ) (p : ℕ) → p < length s → (get_or s p 0 ≡ 10 → ⊥) → behind k (drop p s) ≡ behind (k + 1) (drop (p + 1) s)
-unfolding behind
-behind_later k s p h e = rw (at_cons s p h, ne_eqb (get_or s p 0) 10 e, add-one k)
-
-pub behind_end : (k : ℕ) (s : List ℕ) (p : ℕ) → length s ≤ p → behind k (drop p s) ≡ k
-unfolding behind
-behind_end k s p h = rw (drop_of_length-le s h)
-
-pub ahead_here : (s : List ℕ) (p : ℕ) → p < length s → get_or s p 0 ≡ 10 → ahead (drop p s) ≡ 0
+ahead_first : (s : List ℕ) → ahead s ≡ prefix_len (λ b. not (eqb b 10)) s
 unfolding ahead
-ahead_here s p h e = rw (at_cons s p h, eq-eqb (get_or s p 0) 10 e)
+ahead_first s = is_position_or_len ahead (λ b. eqb b 10) refl (λ b t. rw one-add) s
 
-pub ahead_later : (s : List ℕ) (p : ℕ) → p < length s → (get_or s p 0 ≡ 10 → ⊥) → ahead (drop p s) ≡ suc (ahead (drop (p + 1) s))
-unfolding ahead
-ahead_later s p h e = rw (at_cons s p h, ne_eqb (get_or s p 0) 10 e)
+behind_at : (s : List ℕ) (k : ℕ) → behind k s ≡ cond (eqb (suffix_len (λ b. not (eqb b 10)) s) (length s)) (k + length s) (suffix_len (λ b. not (eqb b 10)) s)
+unfolding behind
+behind_at [] k = omega arith
+behind_at (b ∷ s) k = rw (reverse-append (b ∷ []) s, position_or_len_push (λ b. eqb b 10), length-reverse)
+    (grind (arith, nat_tests, behind_at s 0, behind_at s (suc k), suffix_len-le-length (λ b. not (eqb b 10)) s, length-reverse s))
 
-pub ahead_end : (s : List ℕ) (p : ℕ) → length s ≤ p → ahead (drop p s) ≡ 0
-unfolding ahead
-ahead_end s p h = rw (drop_of_length-le s h)
+behind_last : (s : List ℕ) → behind 0 s ≡ suffix_len (λ b. not (eqb b 10)) s
+behind_last s = grind (arith, nat_tests, behind_at s 0)
 
 -- ---- the bytes before a place, and those from it on
 
@@ -64,8 +53,8 @@ pub rest_length : (t : List ℕ) (p : ℕ) {s : List ℕ} → s ≡ part t p (le
 rest_length t p e = ap (λ (l : List ℕ). length l) (e ∙ rest t p) ∙ length-drop p t
 
 -- how many of them are of the place's line
-pub before_place : (t : List ℕ) (p : ℕ) {s : List ℕ} {n : ℕ} → s ≡ part t 0 p → n ≡ behind 0 s → n ≡ behind 0 (take p t)
-before_place t p e h = h ∙ ap (λ (l : List ℕ). behind 0 l) (e ∙ front t p)
+pub before_place : (t : List ℕ) (p : ℕ) {s : List ℕ} {n : ℕ} → s ≡ part t 0 p → n ≡ suffix_len (λ b. not (eqb b 10)) s → n ≡ behind 0 (take p t)
+before_place t p {s} e h = h ∙ sym (behind_last s) ∙ ap (λ (l : List ℕ). behind 0 l) (e ∙ front t p)
 
-pub from_place : (t : List ℕ) (p : ℕ) {s : List ℕ} {m : ℕ} → s ≡ part t p (length t) → m ≡ ahead s → m ≡ ahead (drop p t)
-from_place t p e h = h ∙ ap (λ (l : List ℕ). ahead l) (e ∙ rest t p)
+pub from_place : (t : List ℕ) (p : ℕ) {s : List ℕ} {m : ℕ} → s ≡ part t p (length t) → m ≡ prefix_len (λ b. not (eqb b 10)) s → m ≡ ahead (drop p t)
+from_place t p {s} e h = h ∙ sym (ahead_first s) ∙ ap (λ (l : List ℕ). ahead l) (e ∙ rest t p)

@@ -1,51 +1,28 @@
 // Where a place of a text lies for a person: its line and column, and what is quoted of the line.
-ghost use Rattle.std.specs.Prelude.{◌≡◌, ◌+◌, ◌≤◌, min, length, leb};
-ghost use Rattle.program_quotes.specs.Location.{line_ends, behind, ahead, line_at, column_at, before_of, after_of, from_at, to_at, shown_byte};
+ghost use Rattle.std.specs.Prelude.{◌≡◌, ◌+◌, ◌≤◌, ◌==◌, not, length, leb};
+ghost use Rattle.std.specs.List.{prefix_len, suffix_len};
+ghost use Rattle.program_quotes.specs.Location.{line_ends, line_at, column_at, before_of, after_of, from_at, to_at, shown_byte};
 
 use text_tokens::runs;
 use text_words::bytes;
 
+#[tactic(auto, using(crate::proofs::Steps::ends_counted))]
 fn line_ends(s: &[u8]) -> usize
     ensures { (result ≡ line_ends s.now) × (result ≤ length s.now) }
 {
-    let mut n = 0;
-    let mut i = 0;
-    while i < s.len() {
-        if s[i] == b'\n' {
-            n += 1;
-        }
-        i += 1;
-    }
-    n
+    s.iter().filter(|b| **b == b'\n').count()
 }
 
 fn bytes_behind(s: &[u8]) -> usize
-    ensures { (result ≡ behind 0 s.now) × (result ≤ length s.now) }
+    ensures { (result ≡ suffix_len (λ b. not (b == 10)) s.now) × (result ≤ length s.now) }
 {
-    let mut n = 0;
-    let mut i = 0;
-    while i < s.len() {
-        if s[i] == b'\n' {
-            n = 0;
-        } else {
-            n += 1;
-        }
-        i += 1;
-    }
-    n
+    s.iter().rev().take_while(|b| **b != b'\n').count()
 }
 
 fn bytes_ahead(s: &[u8]) -> usize
-    ensures { (result ≡ ahead s.now) × (result ≤ length s.now) }
+    ensures { (result ≡ prefix_len (λ b. not (b == 10)) s.now) × (result ≤ length s.now) }
 {
-    let mut i = 0;
-    while i < s.len() {
-        if s[i] == b'\n' {
-            return i;
-        }
-        i += 1;
-    }
-    i
+    s.iter().take_while(|b| **b != b'\n').count()
 }
 
 pub fn line_at(text: &[u8], place: usize) -> usize
@@ -64,42 +41,27 @@ pub fn column_at(text: &[u8], place: usize) -> usize
 fn is_short(n: usize, m: usize) -> bool
     ensures { result ≡ leb (n + m) 80 }
 {
-    if 80 < n {
-        return false;
-    }
-    if 80 - n < m {
-        return false;
-    }
-    true
-}
-
-fn least(a: usize, b: usize) -> usize
-    ensures { result ≡ min a b }
-{
-    if a < b {
-        return a;
-    }
-    b
+    n <= 80 && m <= 80 - n
 }
 
 // How many of the n bytes before the place are quoted.
+#[tactic(auto, unfolding(crate::specs::Location::before_of))]
 fn quoted_before(n: usize, m: usize) -> usize
     ensures { (result ≡ before_of n m) × (result ≤ n) }
 {
-    if is_short(n, m) {
-        return n;
-    }
-    least(n, 37)
+    if is_short(n, m) { n } else { n.min(37) }
 }
 
 // How many of the m bytes from the place on.
+#[tactic(auto, unfolding(crate::specs::Location::after_of))]
 fn quoted_after(n: usize, m: usize) -> usize
     ensures { (result ≡ after_of n m) × (result ≤ m) }
 {
     if is_short(n, m) {
-        return m;
+        m
+    } else {
+        m.min(74 - n.min(37))
     }
-    least(m, 74 - least(n, 37))
 }
 
 // Where what is quoted of the place's line begins.
@@ -121,14 +83,15 @@ pub fn quoted_to(text: &[u8], place: usize) -> usize
 }
 
 // A byte as it is quoted: white is a space, so that the caret stands right, and a byte not allowed a point.
+#[tactic(auto, unfolding(crate::specs::Location::shown_byte))]
 pub fn shown(b: u8) -> u8
     ensures { result ≡ shown_byte b }
 {
     if bytes::is_refused(b) {
-        return b'.';
+        b'.'
+    } else if bytes::is_white(b) {
+        b' '
+    } else {
+        b
     }
-    if bytes::is_white(b) {
-        return b' ';
-    }
-    b
 }

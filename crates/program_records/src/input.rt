@@ -6,7 +6,7 @@ fn digit(b: u8) -> usize
     ensures { result ≤ 9 }
 {
     match b {
-        48..=57 => (b - 48) as usize,
+        b'0'..=b'9' => (b - b'0') as usize,
         _ => 0,
     }
 }
@@ -19,24 +19,16 @@ fn shifted(acc: usize, b: u8) -> usize {
     acc
 }
 
-// The number that the bytes from one place to another write.
-pub fn decimal(bytes: &[u8], from: usize, to: usize) -> usize {
-    let mut acc = 0;
-    let mut i = from;
-    while i < to {
-        if i < bytes.len() {
-            acc = shifted(acc, bytes[i]);
-        }
-        i += 1;
-    }
-    acc
+// The number that bytes write.
+pub fn decimal(digits: &[u8]) -> usize {
+    digits.iter().fold(0, |acc, b| shifted(acc, *b))
 }
 
-// Reads n bytes into the lent ones: whether there are so many of both.
-pub fn read_text(text: &mut [u8], n: usize) -> bool {
-    if n <= text.len() {
-        let got = io::read_full(0, &mut text[..n]);
-        return got == n;
+// Reads n bytes into the lent ones, if there are so many of both: what was read.
+pub fn read_text(text: &mut [u8], n: usize) -> Option<&[u8]> {
+    let part = text.get_mut(..n)?;
+    if io::read_full(0, part) == n {
+        return Some(part);
     }
-    false
+    None
 }

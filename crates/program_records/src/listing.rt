@@ -1,50 +1,37 @@
 // The last state as `second --state` writes it: a line of facts and a line of numbers.
-use crate::output;
-use text_tokens::runs;
+ghost use Rattle.std.specs.Prelude.{◌≡◌, ◌-◌, ◌<◌, length, slice_index};
 
-fn bit(fact: u8) -> u8 {
-    if fact == 0 {
-        return 48;
-    }
-    49
-}
+use crate::output;
+use crate::output::Output;
 
 // Facts: a line of digits.
-pub fn facts(values: &[u8], out: &mut [u8], used: usize) -> usize {
-    let mut at = used;
-    let mut i = 0;
-    while i < values.len() {
-        at = output::put(out, at, bit(values[i]));
-        i += 1;
+pub fn put_facts(out: &mut Output, values: &[u8])
+    ensures { 0 < length out.new.block.now → slice_index out.new.block.now (out.new.used - 1) ≡ 10 }
+{
+    for value in values {
+        out.put(if *value == 0 { b'0' } else { b'1' });
     }
-    output::put(out, at, 10)
+    out.put(b'\n');
 }
 
 // The first n numbers: a line of numbers separated by spaces.
-pub fn numbers(values: &[i64], n: usize, out: &mut [u8], used: usize) -> usize {
-    let mut at = used;
-    let mut i = 0;
-    while i < n && i < values.len() {
-        at = number(i, values[i], out, at);
-        i += 1;
+pub fn put_numbers(out: &mut Output, values: &[i64], n: usize)
+    ensures { 0 < length out.new.block.now → slice_index out.new.block.now (out.new.used - 1) ≡ 10 }
+{
+    for (i, value) in values.iter().take(n).enumerate() {
+        if i != 0 {
+            out.put(b' ');
+        }
+        put_number(out, *value);
     }
-    output::put(out, at, 10)
+    out.put(b'\n');
 }
 
-// A number, with a space before it unless it is the first.
-fn number(i: usize, value: i64, out: &mut [u8], used: usize) -> usize {
-    let mut text = [0u8; 24];
-    let n = spaced(value, &mut text);
-    if i == 0 {
-        return output::word(out, used, runs::part_of(&text, 1, n));
-    }
-    output::word(out, used, runs::part_of(&text, 0, n))
-}
-
-// A space and a number, or the one that stands for none.
-fn spaced(value: i64, text: &mut [u8]) -> usize {
+// A number, or the one that stands for none.
+fn put_number(out: &mut Output, value: i64) {
     if output::is_defined(value) {
-        return output::signed(text, 0, value);
+        out.signed(value);
+    } else {
+        out.word(b"-1000000000001");
     }
-    output::word(text, 0, b" -1000000000001")
 }

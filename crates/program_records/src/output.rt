@@ -1,58 +1,84 @@
 // A line is put together byte by byte in a lent block, which is written out whenever it is full.
-ghost use Rattle.std.specs.Prelude.{◌≡◌, pos, negsuc};
+ghost use Rattle.std.specs.Prelude.{◌≡◌, ◌-◌, ◌<◌, ◌≤◌, cond, length, negsuc, slice_index, unsigned_abs};
 ghost use Rattle.std.specs.Int.Signed.{lt_z};
 
-use text_tokens::runs;
+// Standard output, by way of a lent block of which the first `used` bytes wait to be written.
+pub struct Output<'a> {
+    pub block: &'a mut [u8],
+    pub used: usize,
+    pub ghost in_block: { used ≤ length block.now },
+}
 
-// One more byte: how many bytes of the block are in use.
-pub fn put(out: &mut [u8], used: usize, byte: u8) -> usize {
-    if used < out.len() {
-        out[used] = byte;
-        return used + 1;
+impl<'a> Output<'a> {
+    pub fn new(block: &'a mut [u8]) -> Output<'a>
+        ensures { result.used ≡ 0 }
+    {
+        Output { block, used: 0 }
     }
-    io::write_all(1, out);
-    if 0 < out.len() {
-        out[0] = byte;
-        return 1;
+
+    // One more byte. A block of no bytes takes none.
+    pub fn put(&mut self, byte: u8)
+        ensures size { length self.new.block.now ≡ length self.old.block.now }
+        ensures last { 0 < length self.new.block.now → slice_index self.new.block.now (self.new.used - 1) ≡ byte }
+    {
+        if self.used == self.block.len() {
+            self.flush();
+        }
+        if self.used < self.block.len() {
+            self.block[self.used] = byte;
+            self.used += 1;
+        }
     }
-    0
-}
 
-// What is in use goes out.
-pub fn flush(out: &[u8], used: usize) {
-    io::write_all(1, runs::part_of(out, 0, used));
-}
-
-pub fn word(out: &mut [u8], used: usize, w: &[u8]) -> usize {
-    let mut at = used;
-    let mut i = 0;
-    while i < w.len() {
-        at = put(out, at, w[i]);
-        i += 1;
+    // What waits is written.
+    fn flush(&mut self)
+        ensures nothing_waits { self.new.used ≡ 0 }
+        ensures size { length self.new.block.now ≡ length self.old.block.now }
+    {
+        io::write_all(1, &self.block[..self.used]);
+        self.used = 0;
     }
-    at
-}
 
-// A number.
-pub fn digits(out: &mut [u8], used: usize, n: u64) -> usize {
-    let mut text = [0u8; 20];
-    let k = io::decimal(n, &mut text);
-    word(out, used, &text[..k])
-}
-
-// A space and a number.
-pub fn number(out: &mut [u8], used: usize, n: u64) -> usize {
-    let at = put(out, used, 32);
-    digits(out, at, n)
-}
-
-// A space and a number of thousandths, which lies within ±1,000,000,000,000.
-pub fn signed(out: &mut [u8], used: usize, z: i64) -> usize {
-    if is_negative(z) {
-        let at = word(out, used, b" -");
-        return digits(out, at, turned(z));
+    // What waits is written, and the block is free again. An `Output` isn't `Drop`, so that this can't be forgotten.
+    pub fn finish(self) {
+        let Output { block, used } = self;
+        io::write_all(1, &block[..used]);
     }
-    number(out, used, plain(z))
+
+    pub fn word(&mut self, w: &[u8])
+        ensures { length self.new.block.now ≡ length self.old.block.now }
+    {
+        for byte in w {
+            self.put(*byte);
+        }
+    }
+
+    // A number.
+    pub fn digits(&mut self, n: u64)
+        ensures { length self.new.block.now ≡ length self.old.block.now }
+    {
+        let mut text = [0u8; 20];
+        let k = io::decimal(n, &mut text);
+        self.word(&text[..k]);
+    }
+
+    // A space and a number.
+    pub fn number(&mut self, n: u64)
+        ensures { length self.new.block.now ≡ length self.old.block.now }
+    {
+        self.put(b' ');
+        self.digits(n);
+    }
+
+    // A number of thousandths, which lies within ±1,000,000,000,000.
+    pub fn signed(&mut self, z: i64)
+        ensures { length self.new.block.now ≡ length self.old.block.now }
+    {
+        if z < 0 {
+            self.put(b'-');
+        }
+        self.digits(magnitude(z));
+    }
 }
 
 // Whether a number is defined: one that is not is -1,000,000,000,001.
@@ -62,34 +88,9 @@ pub fn is_defined(z: i64) -> bool
     -1000000000001 < z
 }
 
-pub fn is_negative(z: i64) -> bool
-    ensures { result ≡ lt_z z (pos 0) }
+// A number without its sign; 0 where it is below those that are defined.
+pub fn magnitude(z: i64) -> u64
+    ensures { result ≡ cond (lt_z (negsuc 1000000000000) z) (unsigned_abs z) 0 }
 {
-    z < 0
-}
-
-// A number that is not negative.
-fn plain(z: i64) -> u64 {
-    if is_negative(z) {
-        return 0;
-    }
-    z as u64
-}
-
-// A negative number without its sign.
-fn turned(z: i64) -> u64 {
-    if is_defined(z) {
-        if is_negative(z) {
-            return (0 - z) as u64;
-        }
-    }
-    0
-}
-
-// A defined number without its sign.
-pub fn magnitude(z: i64) -> u64 {
-    if is_negative(z) {
-        return turned(z);
-    }
-    plain(z)
+    if is_defined(z) { z.unsigned_abs() } else { 0 }
 }

@@ -1,52 +1,21 @@
 // The lines of a script, their words and their numbers.
-ghost use Rattle.std.specs.Prelude.{◌≤◌, ◌<◌, length};
+ghost use Rattle.std.specs.Prelude.{◌≡◌, ◌+◌, ◌==◌, MatchOption, take, drop, length, position};
 
 use program_records::input;
-use text_tokens::runs;
 
-// Where a byte stands from a place on, else the end.
-pub fn find(text: &[u8], byte: u8, from: usize) -> usize
-    requires { from ≤ length text.now }
-    ensures { (from ≤ result) × (result ≤ length text.now) }
+// A line's first word, and what stands after its first space.
+pub fn split(line: &[u8]) -> (&[u8], &[u8])
+    ensures word { MatchOption (position (λ b. b == 32) line.now) (result.0.now ≡ line.now) (λ i. result.0.now ≡ take i line.now) }
+    ensures rest { result.1.now ≡ drop (length result.0.now + 1) line.now }
 {
-    let mut i = from;
-    while i < text.len() {
-        if text[i] == byte {
-            return i;
-        }
-        i += 1;
+    match line.iter().position(|b| *b == b' ') {
+        Some(end) => (&line[..end], &line[end + 1..]),
+        None => (line, b""),
     }
-    i
-}
-
-// Where the line after the one at a place begins.
-pub fn behind(text: &[u8], at: usize) -> usize
-    requires { at < length text.now }
-    ensures { at < result }
-{
-    let end = find(text, b'\n', at);
-    if end < text.len() {
-        return end + 1;
-    }
-    end
-}
-
-// A line's first word.
-pub fn first(line: &[u8]) -> &[u8] {
-    runs::part_of(line, 0, find(line, b' ', 0))
-}
-
-// What stands after a line's first space.
-pub fn rest(line: &[u8]) -> &[u8] {
-    let end = find(line, b' ', 0);
-    let n = line.len();
-    if end < n {
-        return runs::part_of(line, end + 1, n);
-    }
-    runs::part_of(line, n, n)
 }
 
 // The number that a line begins with.
 pub fn number(line: &[u8]) -> usize {
-    input::decimal(line, 0, find(line, b' ', 0))
+    let (digits, _) = split(line);
+    input::decimal(digits)
 }

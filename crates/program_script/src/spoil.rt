@@ -1,133 +1,100 @@
 // The parts of a check, each with one of its numbers set to another.
-use domain_load::{Model, Sizes};
-use domain_terms::scope::Counts;
+use domain_load::Model;
 use happening_meaning::Outcome;
 use plan_feeding::PlanProgress;
-use plan_meaning::{Slot, Step};
-use plan_running::Past;
 use plan_waiting::Queue;
 
-// What came of the plan so far: its time, or a failure in a line or in two.
-fn spoil_past(before: Past, i: usize, v: usize) -> Past {
-    let outcome = before.outcome;
-    let time = before.time;
-    match i {
-        17 => Past { outcome, time: v },
-        18 => Past {
-            outcome: Outcome::Condition(v),
-            time,
-        },
-        19 => Past {
-            outcome: Outcome::Undefined(v),
-            time,
-        },
-        20 => Past {
-            outcome: Outcome::Conflict(v, 2),
-            time,
-        },
-        21 => Past {
-            outcome: Outcome::Conflict(1, v),
-            time,
-        },
-        _ => before,
+// What is set: a number, or the outcome to a failure in a line or in two.
+#[derive(Clone, Copy)]
+pub enum Part {
+    Number,
+    Used,
+    Start,
+    Actions,
+    Types,
+    Objects,
+    Facts,
+    Numbers,
+    Waiting,
+    Action,
+    Begin,
+    Duration,
+    Line,
+    Width,
+    Refusal,
+    At,
+    Column,
+    Time,
+    Condition,
+    Undefined,
+    First,
+    Second,
+}
+
+// The word of each part.
+pub const PARTS: [(&[u8], Part); 22] = [
+    (b"number", Part::Number),
+    (b"used", Part::Used),
+    (b"start", Part::Start),
+    (b"actions", Part::Actions),
+    (b"types", Part::Types),
+    (b"objects", Part::Objects),
+    (b"facts", Part::Facts),
+    (b"numbers", Part::Numbers),
+    (b"waiting", Part::Waiting),
+    (b"action", Part::Action),
+    (b"begin", Part::Begin),
+    (b"duration", Part::Duration),
+    (b"line", Part::Line),
+    (b"width", Part::Width),
+    (b"refusal", Part::Refusal),
+    (b"at", Part::At),
+    (b"column", Part::Column),
+    (b"time", Part::Time),
+    (b"condition", Part::Condition),
+    (b"undefined", Part::Undefined),
+    (b"first", Part::First),
+    (b"second", Part::Second),
+];
+
+pub fn spoil_progress(p: &mut PlanProgress, part: Part, v: usize) {
+    match part {
+        Part::Number => p.number = v,
+        Part::Used => p.used = v,
+        Part::Start => p.start = v,
+        Part::Refusal => p.refusal = u8::try_from(v).unwrap_or(p.refusal),
+        Part::At => p.at = v,
+        Part::Column => p.column = v,
+        Part::Time => p.past.time = v,
+        Part::Condition => p.past.outcome = Outcome::Condition(v),
+        Part::Undefined => p.past.outcome = Outcome::Undefined(v),
+        Part::First => p.past.outcome = Outcome::Conflict(v, 2),
+        Part::Second => p.past.outcome = Outcome::Conflict(1, v),
+        _ => {}
     }
 }
 
-// The plan refusal that stands.
-fn spoil_refusal(before: PlanProgress, i: usize, v: usize) -> PlanProgress {
-    let mut p = before;
-    if i == 14 {
-        if v < 256 {
-            p.refusal = v as u8;
-        }
+pub fn spoil_model(m: &mut Model, part: Part, v: usize) {
+    match part {
+        Part::Actions => m.acting = v,
+        Part::Types => m.counts.types = v,
+        Part::Objects => m.counts.objects = v,
+        Part::Facts => m.sizes.facts = v,
+        Part::Numbers => m.sizes.numbers = v,
+        _ => {}
     }
-    if i == 15 {
-        p.at = v;
-    }
-    if i == 16 {
-        p.column = v;
-    }
-    p
-}
-
-pub fn spoil_progress(before: PlanProgress, i: usize, v: usize) -> PlanProgress {
-    let mut p = spoil_refusal(before, i, v);
-    if i == 0 {
-        p.number = v;
-    }
-    if i == 1 {
-        p.used = v;
-    }
-    if i == 2 {
-        p.start = v;
-    }
-    let past = spoil_past(p.past, i, v);
-    p.past = past;
-    p
-}
-
-fn spoil_counts(before: Counts, i: usize, v: usize) -> Counts {
-    let mut c = before;
-    if i == 4 {
-        c.types = v;
-    }
-    if i == 5 {
-        c.objects = v;
-    }
-    c
-}
-
-fn spoil_sizes(before: Sizes, i: usize, v: usize) -> Sizes {
-    let mut s = before;
-    if i == 6 {
-        s.facts = v;
-    }
-    if i == 7 {
-        s.numbers = v;
-    }
-    s
-}
-
-pub fn spoil_model(before: Model, i: usize, v: usize) -> Model {
-    let mut m = before;
-    if i == 3 {
-        m.acting = v;
-    }
-    let sizes = spoil_sizes(m.sizes, i, v);
-    m.sizes = sizes;
-    let counts = spoil_counts(m.counts, i, v);
-    m.counts = counts;
-    m
-}
-
-fn spoil_step(before: Step, i: usize, v: usize) -> Step {
-    let mut x = before;
-    if i == 9 {
-        x.action = v;
-    }
-    if i == 10 {
-        x.start = v;
-    }
-    if i == 11 {
-        x.duration = v;
-    }
-    if i == 12 {
-        x.line = v;
-    }
-    if i == 13 {
-        x.width = v;
-    }
-    x
 }
 
 // How many points wait, or the first one's step.
-pub fn spoil_queue(before: Queue, i: usize, v: usize) -> Queue {
-    let mut q = before;
-    if i == 8 {
-        q.count = v;
+pub fn spoil_queue(q: &mut Queue, part: Part, v: usize) {
+    let step = &mut q.slots[0].step;
+    match part {
+        Part::Waiting => q.count = v,
+        Part::Action => step.action = v,
+        Part::Begin => step.start = v,
+        Part::Duration => step.duration = v,
+        Part::Line => step.line = v,
+        Part::Width => step.width = v,
+        _ => {}
     }
-    let s = q.slots[0];
-    let step = spoil_step(s.step, i, v);
-    q.slots[0] = Slot { step, ends: s.ends };
-    q
 }

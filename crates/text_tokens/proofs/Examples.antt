@@ -1,4 +1,5 @@
 -- Worked examples: what the definitions say of short texts, each by computation. A row is a text, a place and the token there.
+use Rattle.std.specs.Prelude.{None, Some}
 use mathlib.Core.Path.{◌≡◌, refl}
 use mathlib.Core.List.{List, [], ◌∷◌, ◌++◌}
 use Prim.Native.Nat.{ℕ}
@@ -17,7 +18,6 @@ use Rattle.text_tokens.specs.Tokens.{square_of, plan_token_at}
 use Rattle.text_tokens.specs.declared.tokens.Token.{Token}
 use Rattle.text_tokens.specs.declared.tokens.Token.TheVariants as T
 use Rattle.text_tokens.specs.declared.tokens.Word.TheVariants as W
-use Rattle.text_tokens.specs.declared.tokens.Spot.TheVariants as P
 
 -- on an `unfolding` line this opens all that reading a token goes through
 unfoldable pub open_tokens : Unit {0}
@@ -181,7 +181,7 @@ unfolding open_tokens
 long_texts = (refl, refl, refl, refl)
 
 -- `either` after a bracket, and `?duration` in its rule
-spots : (spot_at (bytes "( Either a b)") 1 (bytes "either") ≡ P.At 2 8) × (spot_at (bytes "(or a)") 1 (bytes "either") ≡ P.Other)
-    × (spot_at (bytes "?Duration 5") 0 (bytes "?duration") ≡ P.At 0 9) × (spot_at (bytes "either") 6 (bytes "either") ≡ P.Other)
+spots : (spot_at (bytes "( Either a b)") 1 (bytes "either") ≡ Some (2, 8)) × (spot_at (bytes "(or a)") 1 (bytes "either") ≡ None)
+    × (spot_at (bytes "?Duration 5") 0 (bytes "?duration") ≡ Some (0, 9)) × (spot_at (bytes "either") 6 (bytes "either") ≡ None)
 unfolding open_tokens
 spots = (refl, refl, refl, refl)

@@ -1,4 +1,5 @@
 -- Numbers read in a text, once: digits summed as they come, and a number to the end of its run. Assumes nothing.
+use Rattle.std.specs.Prelude.{None, Option, Some}
 use mathlib.Core.Path.{◌≡◌, refl, sym, ap, ◌∙◌}
 use mathlib.Core.List.{List, [], ◌∷◌}
 use mathlib.Core.Bool.{Bool, true, false, cond}
@@ -11,6 +12,7 @@ use borrow.Author.Tests.{eq-eqb, ne_eqb, eqb-true, le-leb}
 use lib.Dec.{eqb}
 use Rattle.base_laws.proofs.Lists.{at_cons}
 use Rattle.base_laws.proofs.Numerals.{ten_to}
+use Rattle.base_laws.proofs.Pairs.{some_pair}
 use Rattle.text_words.specs.Bytes.{bytes, kind_of, is_digit, is_wordly, in_run}
 use Rattle.text_words.specs.declared.bytes.Kind.{Kind}
 use Rattle.text_words.specs.declared.bytes.Kind.TheVariants as K
@@ -18,10 +20,6 @@ use Rattle.text_tokens.specs.Runs.{part, run, run_end}
 use Rattle.text_tokens.specs.Figures.{is_over}
 use Rattle.text_tokens.specs.Numbers.{leading, digits_end, decimal, scale_of, fraction_of, rest_of, number_from}
 use Rattle.text_tokens.specs.Figures.{with_end, decimals_at, figure_at}
-use Rattle.text_tokens.specs.declared.numbers.Numeral.{Numeral}
-use Rattle.text_tokens.specs.declared.numbers.Numeral.TheVariants as N
-use Rattle.text_tokens.specs.declared.numbers.Figure.{Figure}
-use Rattle.text_tokens.specs.declared.numbers.Figure.TheVariants as F
 use Rattle.text_tokens.proofs.Steps.{digits_over, digits_more, digits_end_lem, digits_bounds, leading_most, run_more, run_from, run_within}
 use Rattle.text_tokens.proofs.Steps.{over_is, over_not, part_short, part_rest}
 use Rattle.text_tokens.proofs.Values.{decimal_next, decimal_end, grows, digit_most, fraction_none, fraction_fine, fraction_other, fraction_read}
@@ -163,13 +161,13 @@ module _ (stop : ℕ) (h : 58 ≤ stop) where
 -- ---- the decimals of a number, to the end of their run
 
 module _ (whole : ℕ) (ds : List ℕ) where
-  fraction_lack : leading ds < length ds → N.Malformed ≡ fraction_of whole ds
+  fraction_lack : leading ds < length ds → None ≡ fraction_of whole ds
   fraction_lack h = elim (dec_le (length ds) 3) [
     | yes k ↦ fraction_other whole ds (omega arith) k h
     | no k ↦ fraction_fine whole ds (omega arith)
   ]
 
-  fraction_zero : leading ds ≡ 0 → N.Malformed ≡ fraction_of whole ds
+  fraction_zero : leading ds ≡ 0 → None ≡ fraction_of whole ds
   fraction_zero h = elim (dec_le (length ds) 0) [
     | yes k ↦ fraction_none whole ds (omega arith)
     | no k ↦ fraction_lack (omega arith)
@@ -183,18 +181,18 @@ module _ (s : List ℕ) (stop whole from : ℕ) (h : 58 ≤ stop) (i : from ≤ 
   unfolding digits_end
   digits = rw (leading_part stop h s from)
 
-  ends : N.Malformed ≡ fraction_of whole (part s from (run_end s stop from)) → F.Malformed ≡ decimals_at s stop whole from
+  ends : None ≡ fraction_of whole (part s from (run_end s stop from)) → None ≡ decimals_at s stop whole from
   unfolding decimals_at
-  ends e = ap (λ (n : Numeral). with_end n (run_end s stop from)) e
+  ends e = ap (λ (n : Option ℕ). with_end n (run_end s stop from)) e
 
-  pub decimals_none : digits_end s from ≡ from → F.Malformed ≡ decimals_at s stop whole from
+  pub decimals_none : digits_end s from ≡ from → None ≡ decimals_at s stop whole from
   decimals_none e = ends (fraction_zero whole _ (omega (arith, digits)))
 
-  pub decimals_fine : from + 3 < digits_end s from → F.Malformed ≡ decimals_at s stop whole from
+  pub decimals_fine : from + 3 < digits_end s from → None ≡ decimals_at s stop whole from
   decimals_fine e = ends (fraction_fine whole _ (omega (arith, digits, leading_most (part s from (run_end s stop from)))))
 
   module _ (end : ℕ) (e : end ≡ digits_end s from) where
-    pub decimals_on : is_over s stop end ≡ false → F.Malformed ≡ decimals_at s stop whole from
+    pub decimals_on : is_over s stop end ≡ false → None ≡ decimals_at s stop whole from
     decimals_on o =
         let n = over_not s stop end o in
         let m = run_more s stop end n.0 n.1 in
@@ -203,14 +201,14 @@ module _ (s : List ℕ) (stop whole from : ℕ) (h : 58 ≤ stop) (i : from ≤ 
         ends (fraction_lack whole _ (rw long (omega (arith, digits, m, b.0))))
 
     pub decimals_read : (v c : ℕ) → 1 ≤ end - from → end - from ≤ 3 → is_over s stop end ≡ true → v ≡ decimal 0 (part s from end) → c ≡ scale_of (end - from)
-        → F.Thousandths (whole * 1000 + v * c) end ≡ decimals_at s stop whole from
+        → Some ((whole * 1000 + v * c), end) ≡ decimals_at s stop whole from
     unfolding decimals_at
     decimals_read v c lo hi o x y =
         let q : run_end s stop from ≡ end = rw e (runs_behind stop h s from) ∙ over_is s stop end o in
         let n : length (part s from end) ≡ end - from = rw q at long in
         let l : leading (part s from end) ≡ end - from = omega (arith, (rw q at digits)) in
         let z : c ≡ scale_of (length (part s from end)) = y ∙ ap scale_of (sym n) in
-        rw (q, x, z) (ap (λ (f : Numeral). with_end f end) (fraction_read whole (part s from end) (omega arith) (omega arith) (omega arith)))
+        rw (q, x, z) (ap (λ (f : Option ℕ). with_end f end) (fraction_read whole (part s from end) (omega arith) (omega arith) (omega arith)))
 
 -- ---- a number, to the end of its run
 
@@ -219,14 +217,14 @@ module _ (s : List ℕ) (stop from : ℕ) (h : 58 ≤ stop) where
   unfolding digits_end
   first = leading_part stop h s from ∙ (let e : from + leading (drop from s) - from ≡ leading (drop from s) = omega arith in sym e)
 
-  fails : N.Malformed ≡ number_from (part s from (run_end s stop from)) → F.Malformed ≡ figure_at s stop from
+  fails : None ≡ number_from (part s from (run_end s stop from)) → None ≡ figure_at s stop from
   unfolding figure_at
-  fails e = ap (λ (n : Numeral). with_end n (run_end s stop from)) e
+  fails e = ap (λ (n : Option ℕ). with_end n (run_end s stop from)) e
 
-  pub figure_none : digits_end s from ≡ from → F.Malformed ≡ figure_at s stop from
+  pub figure_none : digits_end s from ≡ from → None ≡ figure_at s stop from
   figure_none e = fails (number_none _ (omega (arith, first)))
 
-  pub figure_large : from + 9 < digits_end s from → F.Malformed ≡ figure_at s stop from
+  pub figure_large : from + 9 < digits_end s from → None ≡ figure_at s stop from
   figure_large e = fails (number_large _ (omega (arith, first)))
 
   module _ (end v : ℕ) (e : end ≡ digits_end s from) (lo : 1 ≤ end - from) (hi : end - from ≤ 9) (x : v ≡ decimal 0 (part s from end)) where
@@ -248,7 +246,7 @@ module _ (s : List ℕ) (stop from : ℕ) (h : 58 ≤ stop) where
           ← x,
         )
 
-    pub figure_whole : is_over s stop end ≡ true → F.Thousandths (v * 1000) end ≡ figure_at s stop from
+    pub figure_whole : is_over s stop end ≡ true → Some ((v * 1000), end) ≡ figure_at s stop from
     unfolding figure_at
     figure_whole o =
         let q = over_is s stop end o in
@@ -261,7 +259,7 @@ module _ (s : List ℕ) (stop from : ℕ) (h : 58 ≤ stop) where
           let m = run_more s stop end n.0 n.1 in
           rw m (part_cons s end (run_end s stop (end + 1)) n.0 (omega (arith, run_from s stop (end + 1))))
 
-      pub figure_other : (get_or s end 0 ≡ 46 → ⊥) → F.Malformed ≡ figure_at s stop from
+      pub figure_other : (get_or s end 0 ≡ 46 → ⊥) → None ≡ figure_at s stop from
       figure_other d = fails (sym (read ∙ rw (on, ne_eqb (get_or s end 0) 46 d)))
 
       pub figure_point : get_or s end 0 ≡ 46 → decimals_at s stop v (end + 1) ≡ figure_at s stop from
@@ -278,7 +276,7 @@ unfolding in_run kind_of bytes
 point_runs stop h = rw (ne_eqb 46 stop (λ (q : 46 ≡ stop). let y : ⊥ = omega arith in y))
 
 module _ (s : List ℕ) (stop from : ℕ) (h : 58 ≤ stop) (cut : run_end s stop from < length s) where
-  point_cut : (whole : ℕ) → get_or s (digits_end s from) 0 ≡ 46 → N.Malformed ≡ fraction_of whole (drop (digits_end s from + 1) s)
+  point_cut : (whole : ℕ) → get_or s (digits_end s from) 0 ≡ 46 → None ≡ fraction_of whole (drop (digits_end s from + 1) s)
   point_cut whole d =
       let e = digits_end s from in
       let b = runs_behind stop h s from in
@@ -287,17 +285,17 @@ module _ (s : List ℕ) (stop from : ℕ) (h : 58 ≤ stop) (cut : run_end s sto
       let l : leading (drop (e + 1) s) < length s - (e + 1) = omega (arith, b, m, n, run_from s stop (digits_end s (e + 1)), ends_at s (e + 1)) in
       fraction_lack whole _ (rw (length-drop (e + 1) s) l)
 
-  rest_cut : (whole : ℕ) → N.Malformed ≡ rest_of whole (drop (digits_end s from) s)
+  rest_cut : (whole : ℕ) → None ≡ rest_of whole (drop (digits_end s from) s)
   rest_cut whole =
       let e = digits_end s from in
       let b = runs_behind stop h s from in
       rw (at_cons s e (omega (arith, b, run_from s stop e))) (go (eqb (get_or s e 0) 46) refl)
     where
-      go : (t : Bool) → eqb (get_or s (digits_end s from) 0) 46 ≡ t → N.Malformed ≡ cond t (fraction_of whole (drop (digits_end s from + 1) s)) N.Malformed
+      go : (t : Bool) → eqb (get_or s (digits_end s from) 0) 46 ≡ t → None ≡ cond t (fraction_of whole (drop (digits_end s from + 1) s)) None
       go true k = point_cut whole (eqb-true (get_or s (digits_end s from) 0) 46 k)
       go false k = refl
 
-  pub number_cut : N.Malformed ≡ number_from (drop from s)
+  pub number_cut : None ≡ number_from (drop from s)
   number_cut = elim (dec_le (digits_end s from) from) [
     | yes k ↦ number_none _ (omega (arith, ends_at s from))
     | no k ↦ elim (dec_le (digits_end s from - from) 9) [
@@ -307,35 +305,35 @@ module _ (s : List ℕ) (stop from : ℕ) (h : 58 ≤ stop) (cut : run_end s sto
   ]
 
 -- what a number read in a word says of the word
-pub with_end_lem : (n : Numeral) (r m e : ℕ) → F.Thousandths m e ≡ with_end n r → (N.Thousandths m ≡ n) × (r ≡ e)
-with_end_lem (N.Thousandths x) r m e q = (cc, cc)
-with_end_lem N.Malformed r m e q = absurd (let z : ◌≡◌ {A = ℕ} 0 1 = cc in let y : ⊥ = omega arith in y)
+pub with_end_lem : (n : Option ℕ) (r m e : ℕ) → Some (m, e) ≡ with_end n r → (Some m ≡ n) × (r ≡ e)
+with_end_lem (Some x) r m e q = let w = some_pair m x e r q in (ap Some w.0, sym w.1)
+with_end_lem None r m e q = absurd (let z : ◌≡◌ {A = ℕ} 0 1 = cc in let y : ⊥ = omega arith in y)
 
-pub with_none : (n : Numeral) (r : ℕ) → F.Malformed ≡ with_end n r → N.Malformed ≡ n
-with_none (N.Thousandths x) r q = absurd (let z : ◌≡◌ {A = ℕ} 0 1 = cc in let y : ⊥ = omega arith in y)
-with_none N.Malformed r q = refl
+pub with_none : (n : Option ℕ) (r : ℕ) → None ≡ with_end n r → None ≡ n
+with_none (Some x) r q = absurd (let z : ◌≡◌ {A = ℕ} 0 1 = cc in let y : ⊥ = omega arith in y)
+with_none None r q = refl
 
-module _ (s : List ℕ) (stop from : ℕ) (h : 58 ≤ stop) (f : Figure) (g : f ≡ figure_at s stop from) where
+module _ (s : List ℕ) (stop from : ℕ) (h : 58 ≤ stop) (f : Option (ℕ × ℕ)) (g : f ≡ figure_at s stop from) where
   whole_run : length s ≤ run_end s stop from → part s from (run_end s stop from) ≡ drop from s
   whole_run k = part_rest s from (run_end s stop from) k
 
-  pub word_malformed : f ≡ F.Malformed → N.Malformed ≡ number_from (drop from s)
+  pub word_malformed : f ≡ None → None ≡ number_from (drop from s)
   unfolding figure_at
   word_malformed t = elim (dec_le (length s) (run_end s stop from)) [
     | yes k ↦ rw (whole_run k) at (with_none (number_from (part s from (run_end s stop from))) (run_end s stop from) (sym t ∙ g))
     | no k ↦ number_cut s stop from h (omega arith)
   ]
 
-  module _ (m end : ℕ) (e : f ≡ F.Thousandths m end) where
-    both : (N.Thousandths m ≡ number_from (part s from (run_end s stop from))) × (run_end s stop from ≡ end)
+  module _ (m end : ℕ) (e : f ≡ Some (m, end)) where
+    both : (Some m ≡ number_from (part s from (run_end s stop from))) × (run_end s stop from ≡ end)
     unfolding figure_at
     both = with_end_lem _ _ m end (sym e ∙ g)
 
     pub figure_small : m < 1000000000000
     figure_small = rw (← both.0) at (number_small (part s from (run_end s stop from)))
 
-    pub word_longer : end < length s → N.Malformed ≡ number_from (drop from s)
+    pub word_longer : end < length s → None ≡ number_from (drop from s)
     word_longer k = number_cut s stop from h (omega (arith, both.1))
 
-    pub word_number : length s ≤ end → N.Thousandths m ≡ number_from (drop from s)
+    pub word_number : length s ≤ end → Some m ≡ number_from (drop from s)
     word_number k = both.0 ∙ rw (whole_run (omega (arith, both.1)))

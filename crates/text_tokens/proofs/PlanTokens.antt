@@ -1,4 +1,5 @@
 -- The tokens of a plan line: where they lie, which refusals they can be, and that a number has no sign and few digits. Assumes nothing.
+use Rattle.std.specs.Prelude.{None, Option, Some}
 use mathlib.Core.Path.{◌≡◌, refl}
 use mathlib.Core.List.{List, [], ◌∷◌}
 use mathlib.Core.Bool.{Bool, true, false, cond}
@@ -19,8 +20,6 @@ use Rattle.text_tokens.specs.Numbers.{Small, number_from, with_sign, number_of}
 use Rattle.text_tokens.specs.Classes.{begun_by, class_of}
 use Rattle.text_tokens.specs.Tokens.{sized_of, as_token, number_token, judged_of, strange_of, plan_number, plan_class, plan_word, square_of, plan_run, end_of}
 use Rattle.text_tokens.specs.Tokens.{plan_from, plan_token_at}
-use Rattle.text_tokens.specs.declared.numbers.Numeral.{Numeral}
-use Rattle.text_tokens.specs.declared.numbers.Numeral.TheVariants as N
 use Rattle.text_tokens.specs.declared.classes.Class.{Class}
 use Rattle.text_tokens.specs.declared.classes.Class.TheVariants as C
 use Rattle.text_tokens.specs.declared.tokens.Word.TheVariants as W
@@ -69,9 +68,9 @@ module _ (m p e : ℕ) (lo : p ≤ m) (hi : e ≤ m) where
       go true = (lo, inl (hit token_rows 5 tt))
       go false = (lo, inl (hit token_rows 3 tt))
 
-  unsigned_in : (n : Numeral) → Small n → InPlan m (as_token (with_sign false n) p e)
-  unsigned_in (N.Thousandths z) h = (lo, hi, (refl, h))
-  unsigned_in N.Malformed h = (lo, inl (hit token_rows 6 tt))
+  unsigned_in : (n : Option ℕ) → Small n → InPlan m (as_token (with_sign false n) p e)
+  unsigned_in (Some z) h = (lo, hi, (refl, h))
+  unsigned_in None h = (lo, inl (hit token_rows 6 tt))
 
   number_in_lem : (w : List ℕ) → InPlan m (plan_number w p e)
   unfolding plan_number number_token number_of

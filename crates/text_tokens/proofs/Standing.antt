@@ -1,13 +1,12 @@
 -- Signs and spaces at a place of a plan line. Assumes nothing.
 use mathlib.Core.Path.{◌≡◌, refl, sym, ap, ◌∙◌}
-use mathlib.Core.List.{List, [], ◌∷◌}
+use mathlib.Core.List.{List}
 use mathlib.Core.Bool.{Bool, true, false, cond}
 use Prim.Native.Nat.{ℕ, ◌+◌, ◌≤◌, ◌<◌}
 use native.Mathlib.Omega.{arith}
 use lib.Dec.{eqb}
 use lib.ListN.{length, get_or}
-use types.Run.{OneOf, miss}
-use denote.Enum.Declared.{tag_of}
+use denote.Enum.Bare.{sameb}
 use borrow.Author.Tests.{ne_eqb, eqb-true, eqb-false, le-ltb}
 use Rattle.text_words.specs.Bytes.{bytes, kind_of, is_wordly, on_start}
 use Rattle.text_words.specs.declared.bytes.Kind.{Kind}
@@ -27,13 +26,13 @@ never e = absurd (let z : ◌≡◌ {A = ℕ} 0 1 = cc in let y : ⊥ = omega ar
 
 -- ---- which bytes are signs
 
-pub no_bracket : (k : Kind) → OneOf (0 ∷ 1 ∷ 3 ∷ 4 ∷ 5 ∷ []) (tag_of kind-type.the_type k) → on_start k false true false ≡ false
-no_bracket K.Digit h = refl
-no_bracket K.Letter h = refl
-no_bracket K.Bracket h = absurd (miss (0 ∷ 1 ∷ 3 ∷ 4 ∷ 5 ∷ []) 2 tt h)
-no_bracket K.White h = refl
-no_bracket K.Mark h = refl
-no_bracket K.Refused h = refl
+pub bracket_same : (k : Kind) → sameb kind-type.the_type k K.Bracket ≡ on_start k false true false
+bracket_same K.Digit = refl
+bracket_same K.Letter = refl
+bracket_same K.Bracket = refl
+bracket_same K.White = refl
+bracket_same K.Mark = refl
+bracket_same K.Refused = refl
 
 bracket_is : (k : Kind) → on_start k false true false ≡ true → k ≡ K.Bracket
 bracket_is K.Digit h = never h

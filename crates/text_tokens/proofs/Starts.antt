@@ -1,4 +1,5 @@
 -- What begins with a digit or a letter in a plan line, read once. Assumes nothing.
+use Rattle.std.specs.Prelude.{None, Some, Option}
 use mathlib.Core.Path.{◌≡◌, refl, sym, ◌∙◌}
 use mathlib.Core.List.{List, [], ◌∷◌}
 use mathlib.Core.Bool.{Bool, true, false, cond}
@@ -19,9 +20,6 @@ use Rattle.text_tokens.specs.Classes.{begins_number, class_of}
 use Rattle.text_tokens.specs.Numbers.{number_from, with_sign, number_of}
 use Rattle.text_tokens.specs.Figures.{figure_at}
 use Rattle.text_tokens.specs.Tokens.{sized_of, as_token, number_token, judged_of, plan_number, plan_word, plan_run, end_of}
-use Rattle.text_tokens.specs.declared.numbers.Numeral.{Numeral}
-use Rattle.text_tokens.specs.declared.numbers.Numeral.TheVariants as N
-use Rattle.text_tokens.specs.declared.numbers.Figure.TheVariants as F
 use Rattle.text_tokens.specs.declared.tokens.Word.TheVariants as W
 use Rattle.text_tokens.specs.declared.tokens.Token.{Token}
 use Rattle.text_tokens.specs.declared.tokens.Token.TheVariants as T
@@ -58,19 +56,19 @@ module _ (s : List ℕ) (p : ℕ) (i : p < length s) (d : is_digit (kind_of (get
       let k : p < run_end s 58 p = omega (arith, same_end, run_from s 58 (p + 1)) in
       rw (part_cons s p (run_end s 58 p) i k) (digit_word (get_or s p 0) (part s (p + 1) (run_end s 58 p)) p (run_end s 58 p) d)
 
-  digits_run : (n : Numeral) → n ≡ number_from (part s p (run_end s 58 p))
+  digits_run : (n : Option ℕ) → n ≡ number_from (part s p (run_end s 58 p))
       → judged_of (run_end s 58 p) (as_token (with_sign false n) p (run_end s 58 p)) ≡ plan_run s p (end_of s 58 p)
   digits_run n e = rw (← same_end, e, digit_run)
 
-  pub plan_malformed : (t : Token) (e : ℕ) → F.Malformed ≡ figure_at s 58 p → e ≡ run_end s 58 (p + 1) → t ≡ judged_of e (T.Refusal 6 p)
+  pub plan_malformed : (t : Token) (e : ℕ) → None ≡ figure_at s 58 p → e ≡ run_end s 58 (p + 1) → t ≡ judged_of e (T.Refusal 6 p)
       → t ≡ plan_run s p (end_of s 58 p)
   unfolding figure_at
-  plan_malformed t e f q j = j ∙ rw q (rw same_end at (digits_run N.Malformed (with_none _ _ f)))
+  plan_malformed t e f q j = j ∙ rw q (rw same_end at (digits_run None (with_none _ _ f)))
 
-  pub plan_number_lem : (t : Token) (m e : ℕ) (z : ℤ) → F.Thousandths m e ≡ figure_at s 58 p → z ≡ pos m → t ≡ judged_of e (T.Number z p e)
+  pub plan_number_lem : (t : Token) (m e : ℕ) (z : ℤ) → Some (m, e) ≡ figure_at s 58 p → z ≡ pos m → t ≡ judged_of e (T.Number z p e)
       → t ≡ plan_run s p (end_of s 58 p)
   unfolding figure_at
-  plan_number_lem t m e z f y j = let b = with_end_lem _ _ m e f in j ∙ rw (y, ← b.1) (digits_run (N.Thousandths m) b.0)
+  plan_number_lem t m e z f y j = let b = with_end_lem _ _ m e f in j ∙ rw (y, ← b.1) (digits_run (Some m) b.0)
 
 -- ---- a name that is its whole run
 

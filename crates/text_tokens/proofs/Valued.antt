@@ -1,4 +1,5 @@
 -- What the token of a number says of its bytes, and how large a number of so many bytes is. Assumes nothing.
+use Rattle.std.specs.Prelude.{None, Option, Some}
 use mathlib.Core.Path.{◌≡◌, refl, sym}
 use mathlib.Core.List.{List, [], ◌∷◌}
 use mathlib.Core.Bool.{Bool, true, false, cond, ◌&&◌}
@@ -19,10 +20,6 @@ use Rattle.text_tokens.specs.Runs.{part, gap_end}
 use Rattle.text_tokens.specs.Numbers.{leading, decimal, scale_of, fraction_of, rest_of, number_from, signed, with_sign, number_of}
 use Rattle.text_tokens.specs.Classes.{begun_by, class_of}
 use Rattle.text_tokens.specs.Tokens.{sized_of, as_token, number_token, by_class, domain_word, is_past, bracket_of, domain_run, end_of, token_from, token_at}
-use Rattle.text_tokens.specs.declared.numbers.Numeral.{Numeral}
-use Rattle.text_tokens.specs.declared.numbers.Numeral.TheVariants as N
-use Rattle.text_tokens.specs.declared.numbers.Number.{Number}
-use Rattle.text_tokens.specs.declared.numbers.Number.TheVariants.{Thousandths, Malformed}
 use Rattle.text_tokens.specs.declared.classes.Class.{Class}
 use Rattle.text_tokens.specs.declared.classes.Class.TheVariants as C
 use Rattle.text_tokens.specs.declared.tokens.Word.{Word}
@@ -36,7 +33,7 @@ use Rattle.text_tokens.proofs.Values.{decimal_most, leading_front, scaled, numbe
 
 unfoldable pub Valued : List ℕ → Token → Type 0
 Valued s (T.Word k p e) = Unit {0}
-Valued s (T.Number z p e) = number_of (part s p e) ≡ Thousandths z
+Valued s (T.Number z p e) = number_of (part s p e) ≡ Some z
 Valued s (T.Open p n) = Unit {0}
 Valued s (T.Close p n) = Unit {0}
 Valued s (T.Mark b p n) = Unit {0}
@@ -52,10 +49,10 @@ module _ (s : List ℕ) (p e : ℕ) where
       go true = tt
       go false = tt
 
-  as_valued : (n : Number) → number_of (part s p e) ≡ n → Valued s (as_token n p e)
+  as_valued : (n : Option ℤ) → number_of (part s p e) ≡ n → Valued s (as_token n p e)
   unfolding Valued
-  as_valued (Thousandths z) q = q
-  as_valued Malformed q = tt
+  as_valued (Some z) q = q
+  as_valued None q = tt
 
   class_valued : (k : Class) → Valued s (by_class k (part s p e) p e)
   unfolding Valued number_token
@@ -103,7 +100,7 @@ from_valued s p = go (is_past (length s) p) (leb (length s) p)
     go false true = tt
     go false false = start_valued s p (kind_of (get_or s p 0))
 
-pub number_value : (s : List ℕ) (at : ℕ) (z : ℤ) (p e : ℕ) → token_at s at ≡ T.Number z p e → number_of (part s p e) ≡ Thousandths z
+pub number_value : (s : List ℕ) (at : ℕ) (z : ℤ) (p e : ℕ) → token_at s at ≡ T.Number z p e → number_of (part s p e) ≡ Some z
 unfolding token_at Valued
 number_value s at z p e q = rw q at (from_valued s (gap_end s at))
 
@@ -113,16 +110,16 @@ pub data Extent (n m : ℕ) : Type 0 where
   wholes : (v : ℕ) → m ≡ v * 1000 → v + 1 ≤ 10 ^ n → 1 ≤ n → Extent n m
   parts : 3 ≤ n → m + 1 ≤ 10 * 10 ^ n → Extent n m
 
-never : {A : Type 0} (m : ℕ) → N.Malformed ≡ N.Thousandths m → A
+never : {A : Type 0} (m : ℕ) → None ≡ Some m → A
 never m h = absurd (let z : ◌≡◌ {A = ℕ} 0 1 = cc in let y : ⊥ = omega arith in y)
 
 fraction_extent : (n k whole : ℕ) (ds : List ℕ) (m : ℕ) → 1 ≤ k → n ≡ k + suc (length ds) → whole + 1 ≤ 10 ^ k
-    → fraction_of whole ds ≡ N.Thousandths m → Extent n m
+    → fraction_of whole ds ≡ Some m → Extent n m
 unfolding fraction_of
 fraction_extent n k whole ds m one long w h = go (between 1 (length ds) 3 && leb (length ds) (leading ds)) refl h
   where
     go : (t : Bool) → (between 1 (length ds) 3 && leb (length ds) (leading ds)) ≡ t
-        → cond t (N.Thousandths (whole * 1000 + decimal 0 ds * scale_of (length ds))) N.Malformed ≡ N.Thousandths m → Extent n m
+        → cond t (Some (whole * 1000 + decimal 0 ds * scale_of (length ds))) None ≡ Some m → Extent n m
     go false e q = never m q
     go true e q =
         let t = and_three (leb 1 (length ds)) (leb (length ds) 3) (leb (length ds) (leading ds)) e in
@@ -137,22 +134,22 @@ fraction_extent n k whole ds m one long w h = go (between 1 (length ds) 3 && leb
         let b = pow-succ' 10 k in
         parts (omega arith) (omega arith)
 
-rest_extent : (n k whole : ℕ) (l : List ℕ) (m : ℕ) → 1 ≤ k → n ≡ k + length l → whole + 1 ≤ 10 ^ k → rest_of whole l ≡ N.Thousandths m → Extent n m
+rest_extent : (n k whole : ℕ) (l : List ℕ) (m : ℕ) → 1 ≤ k → n ≡ k + length l → whole + 1 ≤ 10 ^ k → rest_of whole l ≡ Some m → Extent n m
 rest_extent n k whole [] m one long w h =
     let x : whole * 1000 ≡ m = cc in
     let y : n ≡ k = omega arith in
     wholes whole (sym x) (rw y w) (omega arith)
 rest_extent n k whole (b ∷ ds) m one long w h = go (eqb b 46) h
   where
-    go : (t : Bool) → cond t (fraction_of whole ds) N.Malformed ≡ N.Thousandths m → Extent n m
+    go : (t : Bool) → cond t (fraction_of whole ds) None ≡ Some m → Extent n m
     go true q = fraction_extent n k whole ds m one long w q
     go false q = never m q
 
-from_extent : (l : List ℕ) (m : ℕ) → number_from l ≡ N.Thousandths m → Extent (length l) m
+from_extent : (l : List ℕ) (m : ℕ) → number_from l ≡ Some m → Extent (length l) m
 unfolding number_from
 from_extent l m h = go (between 1 (leading l) 9) refl h
   where
-    go : (t : Bool) → between 1 (leading l) 9 ≡ t → cond t (rest_of (decimal 0 (take (leading l) l)) (drop (leading l) l)) N.Malformed ≡ N.Thousandths m
+    go : (t : Bool) → between 1 (leading l) 9 ≡ t → cond t (rest_of (decimal 0 (take (leading l) l)) (drop (leading l) l)) None ≡ Some m
         → Extent (length l) m
     go false e q = never m q
     go true e q =
@@ -176,17 +173,17 @@ pub record Reads (w : List ℕ) (z : ℤ) : Type 0 where
   pub extent : Extent bytes size
   pub small : size < 1000000000000
 
-signed_reads : (w l : List ℕ) (minus : Bool) (z : ℤ) (n : Numeral) → length l ≤ length w → number_from l ≡ n → with_sign minus n ≡ Thousandths z → Reads w z
-signed_reads w l minus z (N.Thousandths m) h e q =
+signed_reads : (w l : List ℕ) (minus : Bool) (z : ℤ) (n : Option ℕ) → length l ≤ length w → number_from l ≡ n → with_sign minus n ≡ Some z → Reads w z
+signed_reads w l minus z (Some m) h e q =
     let x : signed minus m ≡ z = cc in
     let s : m < 1000000000000 = rw e at (number_small l) in
     record { minus = minus; size = m; bytes = length l; is = sym x; within = h; extent = from_extent l m e; small = s }
-signed_reads w l minus z N.Malformed h e q = absurd (let x : ◌≡◌ {A = ℕ} 0 1 = cc in let y : ⊥ = omega arith in y)
+signed_reads w l minus z None h e q = absurd (let x : ◌≡◌ {A = ℕ} 0 1 = cc in let y : ⊥ = omega arith in y)
 
-pub number_reads : (w : List ℕ) (z : ℤ) → number_of w ≡ Thousandths z → Reads w z
+pub number_reads : (w : List ℕ) (z : ℤ) → number_of w ≡ Some z → Reads w z
 unfolding number_of
 number_reads w z h = go (begun_by 45 w) h
   where
-    go : (t : Bool) → cond t (with_sign true (number_from (drop 1 w))) (with_sign false (number_from w)) ≡ Thousandths z → Reads w z
+    go : (t : Bool) → cond t (with_sign true (number_from (drop 1 w))) (with_sign false (number_from w)) ≡ Some z → Reads w z
     go true q = signed_reads w (drop 1 w) true z (number_from (drop 1 w)) (simp length-drop (omega arith)) refl q
     go false q = signed_reads w w false z (number_from w) (omega arith) refl q

@@ -1,4 +1,5 @@
 -- The values of digits: how large they grow, and the ways of reading a number. Assumes nothing.
+use Rattle.std.specs.Prelude.{None, Some}
 use mathlib.Core.Path.{◌≡◌, refl, sym, ◌∙◌}
 use mathlib.Core.List.{List, [], ◌∷◌}
 use mathlib.Core.Bool.{Bool, true, false, cond, ◌&&◌, ◌||◌}
@@ -18,7 +19,6 @@ use Rattle.text_words.specs.Bytes.{bytes, kind_of, is_digit, between, is_one_of}
 use Rattle.text_words.specs.declared.bytes.Kind.TheVariants as K
 use Rattle.text_tokens.specs.Runs.{part}
 use Rattle.text_tokens.specs.Numbers.{leading, digits_end, decimal, scale_of, fraction_of, rest_of, number_from, Small}
-use Rattle.text_tokens.specs.declared.numbers.Numeral.TheVariants.{Thousandths, Malformed}
 use Rattle.text_tokens.proofs.Steps.{leading_most}
 
 -- ---- the loop over digits
@@ -40,28 +40,28 @@ grows v d k h l = rw (add-one k, pow-succ' 10 k) (omega arith)
 -- ---- the ways of reading a number
 
 module _ (whole : ℕ) (ds : List ℕ) where
-  pub fraction_none : length ds ≡ 0 → Malformed ≡ fraction_of whole ds
+  pub fraction_none : length ds ≡ 0 → None ≡ fraction_of whole ds
   unfolding fraction_of
   fraction_none h = rw h
 
-  pub fraction_fine : 3 < length ds → Malformed ≡ fraction_of whole ds
+  pub fraction_fine : 3 < length ds → None ≡ fraction_of whole ds
   unfolding fraction_of
   fraction_fine h = let k : 1 ≤ length ds = omega arith in rw (le-leb 1 (length ds) k, lt-leb (length ds) 3 h)
 
-  pub fraction_other : 1 ≤ length ds → length ds ≤ 3 → leading ds < length ds → Malformed ≡ fraction_of whole ds
+  pub fraction_other : 1 ≤ length ds → length ds ≤ 3 → leading ds < length ds → None ≡ fraction_of whole ds
   unfolding fraction_of
   fraction_other h k l = rw (le-leb 1 (length ds) h, le-leb (length ds) 3 k, lt-leb (length ds) (leading ds) l)
 
   pub fraction_read : 1 ≤ length ds → length ds ≤ 3 → length ds ≤ leading ds
-      → Thousandths (whole * 1000 + decimal 0 ds * scale_of (length ds)) ≡ fraction_of whole ds
+      → Some (whole * 1000 + decimal 0 ds * scale_of (length ds)) ≡ fraction_of whole ds
   unfolding fraction_of
   fraction_read h k l = rw (le-leb 1 (length ds) h, le-leb (length ds) 3 k, le-leb (length ds) (leading ds) l)
 
-pub number_none : (l : List ℕ) → leading l ≡ 0 → Malformed ≡ number_from l
+pub number_none : (l : List ℕ) → leading l ≡ 0 → None ≡ number_from l
 unfolding number_from
 number_none l h = rw h
 
-pub number_large : (l : List ℕ) → 9 < leading l → Malformed ≡ number_from l
+pub number_large : (l : List ℕ) → 9 < leading l → None ≡ number_from l
 unfolding number_from
 number_large l h = let k : 1 ≤ leading l = omega arith in rw (le-leb 1 (leading l) k, lt-leb (leading l) 9 h)
 
@@ -144,7 +144,7 @@ unfolding fraction_of
 fraction_small whole ds w = go (between 1 (length ds) 3 && leb (length ds) (leading ds)) refl
   where
     go : (t : Bool) → (between 1 (length ds) 3 && leb (length ds) (leading ds)) ≡ t
-        → Small (cond t (Thousandths (whole * 1000 + decimal 0 ds * scale_of (length ds))) Malformed)
+        → Small (cond t (Some (whole * 1000 + decimal 0 ds * scale_of (length ds))) None)
     go false e = tt
     go true e =
         let t = and_three (leb 1 (length ds)) (leb (length ds) 3) (leb (length ds) (leading ds)) e in
@@ -158,7 +158,7 @@ rest_small : (whole : ℕ) (l : List ℕ) → whole < 1000000000 → Small (rest
 rest_small whole [] w = omega arith
 rest_small whole (b ∷ ds) w = go (eqb b 46)
   where
-    go : (t : Bool) → Small (cond t (fraction_of whole ds) Malformed)
+    go : (t : Bool) → Small (cond t (fraction_of whole ds) None)
     go true = fraction_small whole ds w
     go false = tt
 
@@ -166,7 +166,7 @@ pub number_small : (l : List ℕ) → Small (number_from l)
 unfolding number_from
 number_small l = go (between 1 (leading l) 9) refl
   where
-    go : (t : Bool) → between 1 (leading l) 9 ≡ t → Small (cond t (rest_of (decimal 0 (take (leading l) l)) (drop (leading l) l)) Malformed)
+    go : (t : Bool) → between 1 (leading l) 9 ≡ t → Small (cond t (rest_of (decimal 0 (take (leading l) l)) (drop (leading l) l)) None)
     go false e = tt
     go true e =
         let hi = leb-true (leading l) 9 (and_right (leb 1 (leading l)) (leb (leading l) 9) e) in

@@ -1,4 +1,5 @@
 -- The ways through the tokens' definitions, each from what the code knows there. Assumes nothing.
+use Rattle.std.specs.Prelude.{None, Some, Option}
 use mathlib.Core.Path.{◌≡◌, refl}
 use mathlib.Core.List.{List, [], ◌∷◌}
 use mathlib.Core.Bool.{true, false}
@@ -18,12 +19,9 @@ use Rattle.text_words.specs.declared.bytes.Kind.TheVariants as K
 use Rattle.text_words.specs.contracts.bytes.Kind as kind-type
 use Rattle.text_tokens.specs.Runs.{part, gap_end, run_end}
 use Rattle.text_tokens.specs.Numbers.{Small}
-use Rattle.text_tokens.specs.Tokens.{is_past, bracket_of, domain_word, token_at, spot_at, judged_of, plan_word, square_of, plan_run, end_of, plan_token_at}
-use Rattle.text_tokens.specs.declared.numbers.Numeral.{Numeral}
-use Rattle.text_tokens.specs.declared.numbers.Numeral.TheVariants.{Thousandths}
+use Rattle.text_tokens.specs.Tokens.{is_past, bracket_of, domain_word, token_at, spot_at, judged_of, square_of, plan_run, end_of, plan_token_at}
 use Rattle.text_tokens.specs.declared.tokens.Token.{Token}
 use Rattle.text_tokens.specs.declared.tokens.Token.TheVariants as T
-use Rattle.text_tokens.specs.declared.tokens.Spot.TheVariants as P
 
 -- ---- signs
 
@@ -31,7 +29,7 @@ pub minus_mag : (m : ℕ) → m < 1000000000000 → mag (pos 0 -ℤ pos m) < 2 ^
 minus_mag zero h = lit< tt
 minus_mag (suc n) h = let e : suc n - suc 0 ≡ n = omega arith in rw (lt-ltb 0 (suc n) (omega arith), e) (omega arith)
 
-pub small_at : (n : Numeral) (m : ℕ) → n ≡ Thousandths m → Small n → m < 1000000000000
+pub small_at : (n : Option ℕ) (m : ℕ) → n ≡ Some m → Small n → m < 1000000000000
 small_at n m e h = rw e at h
 
 -- ---- what begins a run
@@ -63,11 +61,11 @@ module _ (s : List ℕ) (from p : ℕ) (g : p ≡ gap_end s from) where
   unfolding token_at
   token_end h e = rw (← g, h, le-leb (length s) p e)
 
-  pub spot_past : (w : List ℕ) → is_past (length s) p ≡ true → P.Other ≡ spot_at s from w
+  pub spot_past : (w : List ℕ) → is_past (length s) p ≡ true → None ≡ spot_at s from w
   unfolding spot_at
   spot_past w h = rw (← g, h)
 
-  pub spot_end : (w : List ℕ) → is_past (length s) p ≡ false → length s ≤ p → P.Other ≡ spot_at s from w
+  pub spot_end : (w : List ℕ) → is_past (length s) p ≡ false → length s ≤ p → None ≡ spot_at s from w
   unfolding spot_at
   spot_end w h e = rw (← g, h, le-leb (length s) p e)
 
@@ -86,11 +84,11 @@ module _ (s : List ℕ) (from p : ℕ) (g : p ≡ gap_end s from) where
     token_run t e k r d = rw (← g, h, lt-leb (length s) p i, starts_run (kind_of (get_or s p 0)) _ _ _ k, ← r) d
 
     module _ (w : List ℕ) (e : ℕ) (r : e ≡ run_end s 59 (p + 1)) where
-      pub spot_found : same_word (part s p e) w ≡ true → P.At p e ≡ spot_at s from w
+      pub spot_found : same_word (part s p e) w ≡ true → Some (p, e) ≡ spot_at s from w
       unfolding spot_at
       spot_found q = rw (← g, h, lt-leb (length s) p i, ← r, q)
 
-      pub spot_other : same_word (part s p e) w ≡ false → P.Other ≡ spot_at s from w
+      pub spot_other : same_word (part s p e) w ≡ false → None ≡ spot_at s from w
       unfolding spot_at
       spot_other q = rw (← g, h, lt-leb (length s) p i, ← r, q)
 

@@ -1,4 +1,5 @@
 -- Where a token of domain or problem lies, and how long its name is; where a given word lies. Assumes nothing.
+use Rattle.std.specs.Prelude.{ℤ, None, Some, Option}
 use mathlib.Core.Path.{◌≡◌, refl}
 use mathlib.Core.List.{List}
 use mathlib.Core.Bool.{Bool, true, false, cond, ◌||◌}
@@ -7,6 +8,7 @@ use native.Mathlib.Omega.{arith}
 use lib.ListN.{length, get_or, length-take, length-drop}
 use lib.Dec.{eqb, leb, ltb}
 use borrow.Author.Tests.{ltb-false, leb-false}
+use Rattle.base_laws.proofs.Pairs.{some_pair}
 use Rattle.text_words.specs.Bytes.{kind_of, on_start}
 use Rattle.text_words.specs.Spelling.{same_word}
 use Rattle.text_words.specs.Fixed.{is_listed}
@@ -16,15 +18,12 @@ use Rattle.text_tokens.specs.Runs.{part, gap_end, run_end}
 use Rattle.text_tokens.specs.Numbers.{number_of}
 use Rattle.text_tokens.specs.Classes.{class_of}
 use Rattle.text_tokens.specs.Tokens.{sized_of, as_token, number_token, by_class, domain_word, is_past, bracket_of, domain_run, end_of, token_from, token_at, spot_at}
-use Rattle.text_tokens.specs.declared.numbers.Number.{Number}
-use Rattle.text_tokens.specs.declared.numbers.Number.TheVariants.{Thousandths, Malformed}
 use Rattle.text_tokens.specs.declared.classes.Class.{Class}
 use Rattle.text_tokens.specs.declared.classes.Class.TheVariants as C
 use Rattle.text_tokens.specs.declared.tokens.Word.{Word}
 use Rattle.text_tokens.specs.declared.tokens.Word.TheVariants as W
 use Rattle.text_tokens.specs.declared.tokens.Token.{Token}
 use Rattle.text_tokens.specs.declared.tokens.Token.TheVariants as T
-use Rattle.text_tokens.specs.declared.tokens.Spot.TheVariants as P
 use Rattle.text_tokens.proofs.Steps.{gap_within, run_within}
 
 -- a word's most bytes, its mark counted
@@ -53,10 +52,10 @@ module _ (s : List ℕ) (at p e : ℕ) (lo : at ≤ p) (mid : p < e) (hi : e ≤
       go true h = tt
       go false h = (lo, mid, hi, rw q at (f long (ltb-false most long h)))
 
-  signed_in_lem : (n : Number) → Within s at (as_token n p e)
+  signed_in_lem : (n : Option ℤ) → Within s at (as_token n p e)
   unfolding Within
-  signed_in_lem (Thousandths z) = (lo, mid, hi)
-  signed_in_lem Malformed = tt
+  signed_in_lem (Some z) = (lo, mid, hi)
+  signed_in_lem None = tt
 
   number_in_lem : (w : List ℕ) → Within s at (number_token w p e)
   unfolding number_token
@@ -130,21 +129,21 @@ token_in s at = from_in s at (gap_end s at) (let z : at ≤ gap_end s at = omega
 pub token_within : (s : List ℕ) (at : ℕ) → at ≤ length s → Within s at (token_at s at)
 token_within s at h = token_in s at
 
-pub spot_within : (s : List ℕ) (at : ℕ) (w : List ℕ) (p e : ℕ) → at ≤ length s → spot_at s at w ≡ P.At p e → (at < e) × (e ≤ length s)
+pub spot_within : (s : List ℕ) (at : ℕ) (w : List ℕ) (p e : ℕ) → at ≤ length s → ◌≡◌ {A = Option (ℕ × ℕ)} (spot_at s at w) (Some (p, e)) → (at < e) × (e ≤ length s)
 unfolding spot_at
 spot_within s at w p e h = go (is_past (length s) (gap_end s at)) (leb (length s) (gap_end s at)) refl
     (same_word (part s (gap_end s at) (end_of s 59 (gap_end s at))) w)
   where
-    never : P.Other ≡ P.At p e → (at < e) × (e ≤ length s)
+    never : ◌≡◌ {A = Option (ℕ × ℕ)} None (Some (p, e)) → (at < e) × (e ≤ length s)
     never q = absurd (let z : ◌≡◌ {A = ℕ} 0 1 = cc in let y : ⊥ = omega arith in y)
 
     go : (t u : Bool) → leb (length s) (gap_end s at) ≡ u → (v : Bool)
-        → cond (t || u) P.Other (cond v (P.At (gap_end s at) (end_of s 59 (gap_end s at))) P.Other) ≡ P.At p e → (at < e) × (e ≤ length s)
+        → ◌≡◌ {A = Option (ℕ × ℕ)} (cond (t || u) None (cond v (Some (gap_end s at, end_of s 59 (gap_end s at))) None)) (Some (p, e)) → (at < e) × (e ≤ length s)
     go true u i v q = never q
     go false true i v q = never q
     go false false i false q = never q
     go false false i true q =
         let l = (gap_within s at h).0 in
         let b = run_within s 59 (gap_end s at + 1) (omega (arith, leb-false (length s) (gap_end s at) i)) in
-        let n : run_end s 59 (gap_end s at + 1) ≡ e = cc in
+        let n : run_end s 59 (gap_end s at + 1) ≡ e = (some_pair {A = ℕ} {B = ℕ} (gap_end s at) p (end_of s 59 (gap_end s at)) e q).1 in
         (omega (arith, l, b.0), omega (arith, b.1))

@@ -1,5 +1,5 @@
 -- "Each token read is a word, a number, a bracket or a refusal." RULES 2.
-use Rattle.std.specs.Prelude.{ℕ, ◌+◌, ◌-◌, List, [], Bool, false, cond, ◌||◌, length, get_or, eqb, leb, ltb}
+use Rattle.std.specs.Prelude.{ℤ, ℕ, ◌+◌, List, [], Bool, false, cond, ◌||◌, length, get_or, eqb, leb, ltb, None, Option, Some}
 use Prim.Native.Char.{code}
 use Rattle.text_words.specs.Bytes.{kind_of, on_start}
 use Rattle.text_words.specs.Spelling.{same_word}
@@ -7,25 +7,21 @@ use Rattle.text_words.specs.Fixed.{is_listed}
 use Rattle.text_tokens.specs.Runs.{part, gap_end, run_end}
 use Rattle.text_tokens.specs.Numbers.{number_of}
 use Rattle.text_tokens.specs.Classes.{begun_by, class_of}
-use Rattle.text_tokens.specs.declared.numbers.Number.{Number}
-use Rattle.text_tokens.specs.declared.numbers.Number.TheVariants.{Thousandths, Malformed}
 use Rattle.text_tokens.specs.declared.classes.Class.{Class}
 use Rattle.text_tokens.specs.declared.classes.Class.TheVariants as C
 use Rattle.text_tokens.specs.declared.tokens.Word.{Word}
 use Rattle.text_tokens.specs.declared.tokens.Word.TheVariants as W
 use Rattle.text_tokens.specs.declared.tokens.Token.{Token}
 use Rattle.text_tokens.specs.declared.tokens.Token.TheVariants as T
-use Rattle.text_tokens.specs.declared.tokens.Spot.{Spot}
-use Rattle.text_tokens.specs.declared.tokens.Spot.TheVariants as P
 
 -- a word of a length, from p to e; "names 32 bytes", "the mark isn't counted": 5 if it has more than `most`
 unfoldable pub sized_of : Word → ℕ → ℕ → ℕ → ℕ → Token
 sized_of kind most long p e = cond (ltb most long) (T.Refusal 5 p) (T.Word kind p e)
 
 -- 6: "number malformed, too large or too fine"
-abbrev pub as_token : Number → ℕ → ℕ → Token
-as_token (Thousandths z) p e = T.Number z p e
-as_token Malformed p e = T.Refusal 6 p
+abbrev pub as_token : Option ℤ → ℕ → ℕ → Token
+as_token (Some z) p e = T.Number z p e
+as_token None p e = T.Refusal 6 p
 
 unfoldable pub number_token : List ℕ → ℕ → ℕ → Token
 number_token w p e = as_token (number_of w) p e
@@ -81,14 +77,14 @@ unfoldable pub token_at : List ℕ → ℕ → Token
 token_at s from = token_from s (gap_end s from)
 
 -- where the next token is a given word, whatever token that is: `either` after a bracket, `?duration` in its rule
-abbrev pub spot_from : List ℕ → ℕ → ℕ → List ℕ → Spot
+abbrev pub spot_from : List ℕ → ℕ → ℕ → List ℕ → Option (ℕ × ℕ)
 spot_from s p e w =
-    cond (is_past (length s) p || leb (length s) p) P.Other (cond (same_word (part s p e) w) (P.At p e) P.Other)
+    cond (is_past (length s) p || leb (length s) p) None (cond (same_word (part s p e) w) (Some (p, e)) None)
 
-abbrev pub spot_behind : List ℕ → ℕ → List ℕ → Spot
+abbrev pub spot_behind : List ℕ → ℕ → List ℕ → Option (ℕ × ℕ)
 spot_behind s p w = spot_from s p (end_of s (code ";") p) w
 
-unfoldable pub spot_at : List ℕ → ℕ → List ℕ → Spot
+unfoldable pub spot_at : List ℕ → ℕ → List ℕ → Option (ℕ × ℕ)
 spot_at s from w = spot_behind s (gap_end s from) w
 
 -- ---- plan lines

@@ -4,7 +4,7 @@ ghost use Rattle.text_tokens.specs.Classes.{begins_number, begun_by, is_marked, 
 
 use text_words::{bytes, fixed, spelling};
 
-#[derive(Clone, Copy)]
+#[derive(Clone, Copy, PartialEq, Eq)]
 pub enum Class {
     Number,
     Name,
@@ -36,20 +36,14 @@ fn begins_number(w: &[u8]) -> bool
 pub fn begins_with(w: &[u8], x: u8) -> bool
     ensures { result ≡ begun_by x w.now }
 {
-    if w.len() == 0 {
-        return false;
-    }
-    w[0] == x
+    0 < w.len() && w[0] == x
 }
 
 // A mark before a name.
 fn is_marked(w: &[u8], mark: u8) -> bool
     ensures { result ≡ is_marked mark w.now }
 {
-    if !begins_with(w, mark) {
-        return false;
-    }
-    spelling::is_name(w, 1)
+    begins_with(w, mark) && spelling::is_name(w, 1)
 }
 
 pub fn class_of(w: &[u8]) -> Class

@@ -7,26 +7,6 @@ ghost use Rattle.text_tokens.specs.Runs.{part};
 use crate::{classes, runs};
 use text_words::bytes;
 
-// A number without its sign, and with it.
-#[derive(Clone, Copy)]
-pub enum Numeral {
-    Thousandths(usize),
-    Malformed,
-}
-
-#[derive(Clone, Copy)]
-pub enum Number {
-    Thousandths(i64),
-    Malformed,
-}
-
-// A number that was read in a text, with the place where it ends.
-#[derive(Clone, Copy)]
-pub enum Figure {
-    Thousandths(usize, usize),
-    Malformed,
-}
-
 // Digits that were read: their value, and where they end.
 #[derive(Clone, Copy)]
 struct Digits {
@@ -37,7 +17,7 @@ struct Digits {
 fn digit(b: u8) -> usize
     ensures { (result ≡ b - 48) × (result < 208) }
 {
-    if b < b'0' { 0 } else { (b - b'0') as usize }
+    b.saturating_sub(b'0') as usize
 }
 
 // Where at most so many digits from `from` on end, if all are digits.
@@ -45,10 +25,7 @@ fn least_end(long: usize, from: usize, most: usize) -> usize
     requires { from ≤ long }
     ensures { result ≡ min long (from + most) }
 {
-    if long - from < most {
-        return long;
-    }
-    from + most
+    from + most.min(long - from)
 }
 
 // The digits that stand at `from`, at most so many, summed as they are read.
@@ -59,33 +36,29 @@ fn digits_at(w: &[u8], from: usize, most: usize) -> Digits
 {
     let stop = least_end(w.len(), from, most);
     let mut value = 0;
-    let mut end = from;
-    while end < stop {
+    for end in from..stop {
         let b = w[end];
         if !bytes::is_digit(b) {
             return Digits { value, end };
         }
         value = value * 10 + digit(b);
-        end += 1;
     }
-    Digits { value, end }
+    Digits { value, end: stop }
 }
 
 // What a last decimal counts, where there are so many.
 fn scale(n: usize) -> usize
     ensures { (result ≡ scale_of n) × (result < 101) }
 {
-    if n == 1 {
-        return 100;
+    match n {
+        1 => 100,
+        2 => 10,
+        _ => 1,
     }
-    if n == 2 {
-        return 10;
-    }
-    1
 }
 
 // The decimals from `from` on, after a whole part and its point, to the run's end: 1 to 3 digits.
-fn decimals_at(text: &[u8], stop: u8, whole: usize, from: usize) -> Figure
+fn decimals_at(text: &[u8], stop: u8, whole: usize, from: usize) -> Option<(usize, usize)>
     requires { (58 ≤ stop) × (from ≤ length text.now) × (whole < 230000000000) }
     ensures { result ≡ decimals_at text.now stop whole from }
 {
@@ -93,19 +66,19 @@ fn decimals_at(text: &[u8], stop: u8, whole: usize, from: usize) -> Figure
     let end = d.end;
     let n = end - from;
     if n == 0 {
-        return Figure::Malformed;
+        return None;
     }
     if 3 < n {
-        return Figure::Malformed;
+        return None;
     }
     if !runs::is_over(text, stop, end) {
-        return Figure::Malformed;
+        return None;
     }
-    Figure::Thousandths(whole * 1000 + d.value * scale(n), end)
+    Some((whole * 1000 + d.value * scale(n), end))
 }
 
 // The number without a sign that stands at `from`, to the run's end: 1 to 9 digits, perhaps a point and decimals.
-pub fn figure_at(text: &[u8], stop: u8, from: usize) -> Figure
+pub fn figure_at(text: &[u8], stop: u8, from: usize) -> Option<(usize, usize)>
     requires { (58 ≤ stop) × (from ≤ length text.now) }
     ensures { result ≡ figure_at text.now stop from }
 {
@@ -113,51 +86,46 @@ pub fn figure_at(text: &[u8], stop: u8, from: usize) -> Figure
     let end = d.end;
     let n = end - from;
     if n == 0 {
-        return Figure::Malformed;
+        return None;
     }
     if 9 < n {
-        return Figure::Malformed;
+        return None;
     }
     if runs::is_over(text, stop, end) {
-        return Figure::Thousandths(d.value * 1000, end);
+        return Some((d.value * 1000, end));
     }
     if text[end] != b'.' {
-        return Figure::Malformed;
+        return None;
     }
     decimals_at(text, stop, d.value, end + 1)
 }
 
 // The number that a word is from `from` on: `from` is 1 after a minus.
-fn number_from(w: &[u8], from: usize) -> Numeral
+fn number_from(w: &[u8], from: usize) -> Option<usize>
     requires { from ≤ length w.now }
     ensures { result ≡ number_from (drop from w.now) }
 {
-    let f = figure_at(w, b';', from);
-    let Figure::Thousandths(m, end) = f else {
-        return Numeral::Malformed;
-    };
+    let (m, end) = figure_at(w, b';', from)?;
     if end < w.len() {
-        return Numeral::Malformed;
+        return None;
     }
-    Numeral::Thousandths(m)
+    Some(m)
 }
 
-fn signed_of(minus: bool, n: Numeral) -> Number
+fn signed_of(minus: bool, n: Option<usize>) -> Option<i64>
     requires { Small n }
     ensures { result ≡ with_sign minus n }
 {
-    let Numeral::Thousandths(m) = n else {
-        return Number::Malformed;
-    };
+    let m = n?;
     let v = m as i64;
     if minus {
-        return Number::Thousandths(-v);
+        return Some(-v);
     }
-    Number::Thousandths(v)
+    Some(v)
 }
 
 // A number, with a minus before it or without.
-pub fn number_of(w: &[u8]) -> Number
+pub fn number_of(w: &[u8]) -> Option<i64>
     ensures { result ≡ number_of w.now }
 {
     if classes::begins_with(w, b'-') {

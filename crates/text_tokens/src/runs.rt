@@ -6,7 +6,7 @@ ghost use Rattle.text_tokens.specs.Figures.{is_over};
 use text_words::bytes;
 
 // How a byte goes on a gap between tokens: outside a comment, in one, or not at all.
-#[derive(Clone, Copy)]
+#[derive(Clone, Copy, PartialEq, Eq)]
 pub enum Gap {
     Plain,
     Comment,
@@ -38,41 +38,34 @@ fn gap_step(comment: bool, b: u8) -> Gap
 pub fn gap_end(text: &[u8], from: usize) -> usize
     ensures { result ≡ gap_end text.now from }
 {
-    let mut at = from;
     let mut comment = false;
-    while at < text.len() {
+    for at in from..text.len() {
         match gap_step(comment, text[at]) {
             Gap::Plain => comment = false,
             Gap::Comment => comment = true,
             Gap::Token => return at,
         }
-        at += 1;
     }
-    at
+    from.max(text.len())
 }
 
 // The end of the run that goes on at `from`; `stop` ends it too.
 pub fn run_end(text: &[u8], stop: u8, from: usize) -> usize
     ensures { result ≡ run_end text.now stop from }
 {
-    let mut at = from;
-    while at < text.len() {
+    for at in from..text.len() {
         if !bytes::in_run(stop, text[at]) {
             return at;
         }
-        at += 1;
     }
-    at
+    from.max(text.len())
 }
 
 // Whether no byte goes on a run at a place.
 pub fn is_over(text: &[u8], stop: u8, at: usize) -> bool
     ensures { result ≡ is_over text.now stop at }
 {
-    if text.len() <= at {
-        return true;
-    }
-    !bytes::in_run(stop, text[at])
+    text.len() <= at || !bytes::in_run(stop, text[at])
 }
 
 // The bytes of the text from a place to another, as far as there are any.

@@ -12,14 +12,7 @@ use text_words::bytes::Kind;
 fn is_sign(b: u8) -> bool
     ensures { result ≡ is_sign b }
 {
-    if b == b':' {
-        return true;
-    }
-    if let Kind::Bracket = bytes::kind_of(b) {
-        true
-    } else {
-        false
-    }
+    b == b':' || bytes::kind_of(b) == Kind::Bracket
 }
 
 // Whether the sign b stands at p and ends before column 257.

@@ -5,12 +5,11 @@ ghost use Rattle.text_tokens.specs.Tokens.{sized_of, number_token, is_past, brac
 ghost use Rattle.text_tokens.specs.Tokens.{judged_of, strange_of, plan_number, plan_word, square_of, plan_run, end_of, plan_token_at};
 
 use crate::classes::Class;
-use crate::numbers::{Figure, Number};
 use crate::{classes, numbers, runs};
 use text_words::bytes::Kind;
 use text_words::{bytes, fixed, spelling};
 
-#[derive(Clone, Copy)]
+#[derive(Clone, Copy, PartialEq, Eq)]
 pub enum Word {
     Name,
     Variable,
@@ -19,7 +18,7 @@ pub enum Word {
 }
 
 // With places: of a word or a number where it begins and where it ends, of a bracket its own and the next.
-#[derive(Clone, Copy)]
+#[derive(Clone, Copy, PartialEq, Eq)]
 pub enum Token {
     Word(Word, usize, usize),
     Number(i64, usize, usize),
@@ -54,11 +53,10 @@ fn sized(kind: Word, most: usize, long: usize, p: usize, e: usize) -> Token
 fn number_token(w: &[u8], p: usize, e: usize) -> Token
     ensures { result ≡ number_token w.now p e }
 {
-    let n = numbers::number_of(w);
-    let Number::Thousandths(z) = n else {
-        return Token::Refusal(6, p);
-    };
-    Token::Number(z, p, e)
+    match numbers::number_of(w) {
+        Some(z) => Token::Number(z, p, e),
+        None => Token::Refusal(6, p),
+    }
 }
 
 fn domain_word(w: &[u8], p: usize, e: usize) -> Token
@@ -84,10 +82,7 @@ pub const LONGEST: usize = 32768;
 fn is_past(long: usize, p: usize) -> bool
     ensures { result ≡ is_past long p }
 {
-    if long <= LONGEST {
-        return false;
-    }
-    LONGEST <= p
+    LONGEST < long && LONGEST <= p
 }
 
 fn bracket(b: u8, p: usize) -> Token
@@ -125,29 +120,22 @@ pub fn token_at(text: &[u8], from: usize) -> Token
     }
 }
 
-// Where a word stands, from and to.
-#[derive(Clone, Copy)]
-pub enum Spot {
-    At(usize, usize),
-    Other,
-}
-
-// Where the next token of a domain or problem is the word w, whatever token that is.
-pub fn spot_at(text: &[u8], from: usize, w: &[u8]) -> Spot
+// Where the next token of a domain or problem is the word w, whatever token that is: from and to.
+pub fn spot_at(text: &[u8], from: usize, w: &[u8]) -> Option<(usize, usize)>
     ensures { result ≡ spot_at text.now from w.now }
 {
     let p = runs::gap_end(text, from);
     if is_past(text.len(), p) {
-        return Spot::Other;
+        return None;
     }
     if text.len() <= p {
-        return Spot::Other;
+        return None;
     }
     let e = runs::run_end(text, b';', p + 1);
     if spelling::same_word(runs::part_of(text, p, e), w) {
-        return Spot::At(p, e);
+        return Some((p, e));
     }
-    Spot::Other
+    None
 }
 
 // A token of a plan line, if it ends before column 257.
@@ -184,10 +172,8 @@ fn plan_word(w: &[u8], p: usize, e: usize) -> Token
     match classes::class_of(w) {
         Class::Number => plan_number(w, p, e),
         Class::Name => sized(Word::Name, 32, w.len(), p, e),
-        Class::Variable => strange(w.len(), p),
-        Class::Keyword => strange(w.len(), p),
-        Class::Operator => Token::Refusal(3, p),
-        Class::Other => Token::Refusal(3, p),
+        Class::Variable | Class::Keyword => strange(w.len(), p),
+        Class::Operator | Class::Other => Token::Refusal(3, p),
     }
 }
 
@@ -210,7 +196,7 @@ fn plan_figure(line: &[u8], p: usize) -> Token
     ensures { result ≡ plan_run line.now p (end_of line.now 58 p) }
 {
     let f = numbers::figure_at(line, b':', p);
-    let Figure::Thousandths(m, e) = f else {
+    let Some((m, e)) = f else {
         return judged(runs::run_end(line, b':', p + 1), Token::Refusal(6, p));
     };
     let z = m as i64;

@@ -1,4 +1,5 @@
 -- How far the bytes of a name go, a step at a place and as a whole; and which bytes are digits. Assumes nothing.
+use Rattle.std.specs.Char.{is_ascii_digit, to_ascii_lowercase}
 use mathlib.Core.Path.{◌≡◌, refl, sym, ap, ◌∙◌}
 use mathlib.Core.List.{List, [], ◌∷◌}
 use mathlib.Core.Bool.{Bool, true, false, cond, ◌&&◌}
@@ -8,10 +9,10 @@ use native.Mathlib.Omega.{arith}
 use native.Mathlib.Decide.{dec_le}
 use lib.Dec.{leb, leb-suc-suc}
 use lib.ListN.{length, get_or, drop, length-drop, drop_of_length-le}
-use borrow.Author.Tests.{le-leb, lt-leb, leb-true}
+use borrow.Author.Tests.{le-leb, lt-leb, leb-true, lt-ltb, le-ltb}
 use Rattle.base_laws.proofs.Splits.{and_left, and_right}
 use Rattle.base_laws.proofs.Lists.{at_cons}
-use Rattle.text_words.specs.Bytes.{kind_of, is_digit, bytes, between}
+use Rattle.text_words.specs.Bytes.{kind_of, is_digit, bytes, between, lower_of}
 use Rattle.text_words.specs.Spelling.{in_name, name_byte, name_bytes}
 use Rattle.text_words.specs.NameEnds.{named, name_end}
 use Rattle.text_words.specs.declared.bytes.Kind.{Kind}
@@ -99,4 +100,20 @@ named_from w p h = elim (dec_le (length w) (p + named (drop p w))) [
       ∙ sym (le-leb (length w) (p + named (drop p w)) k)
   | no k ↦ named_whole (drop p w) ∙ lt-leb (length (drop p w)) (named (drop p w)) (simp length-drop (omega arith))
       ∙ sym (lt-leb (length w) (p + named (drop p w)) (omega arith))
+]
+
+pub ascii_digit : (b : ℕ) → b < 256 → is_ascii_digit b ≡ is_digit (kind_of b)
+ascii_digit b u = elim (dec_le 48 b) [
+  | yes l ↦ let e : leb 48 b ≡ true = le-leb 48 b l in rw e (digit_from b l u)
+  | no l ↦ let e : leb 48 b ≡ false = lt-leb 48 b (omega arith) in rw e (sym (digit_below b (omega arith)))
+]
+
+pub ascii_lower : (b : ℕ) → to_ascii_lowercase b ≡ lower_of b
+unfolding lower_of
+ascii_lower b = elim (dec_le 65 b) [
+  | yes l ↦ elim (dec_le b 90) [
+    | yes u ↦ simp (le-ltb b 65 l, lt-ltb b 91 (omega arith), le-ltb 90 b u)
+    | no u ↦ simp (le-ltb b 65 l, le-ltb b 91 (omega arith), lt-ltb 90 b (omega arith))
+  ]
+  | no l ↦ simp (lt-ltb b 65 (omega arith))
 ]

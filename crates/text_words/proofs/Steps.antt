@@ -1,4 +1,5 @@
 -- The definitions over a list of bytes, a step at a place of it. Assumes nothing.
+use Rattle.std.specs.Prelude.{None, Option, Some}
 use mathlib.Core.Path.{◌≡◌, refl, sym, ap, ap₂, ◌∙◌}
 use mathlib.Core.List.{List, [], ◌∷◌}
 use mathlib.Core.Bool.{Bool, true, false, cond, ◌&&◌, and-false}
@@ -14,8 +15,6 @@ use Rattle.base_laws.proofs.Lists.{at_cons, take_min}
 use Rattle.text_words.specs.Bytes.{lower_of, kind_of, is_letter}
 use Rattle.text_words.specs.Spelling.{same_word, name_bytes, is_name, place_from, unspaced, space_from, onto, words_of, word_in, picked}
 use Rattle.text_words.specs.Names.{name_of, names_of}
-use Rattle.text_words.specs.declared.spelling.Place.{Place}
-use Rattle.text_words.specs.declared.spelling.Place.TheVariants.{At, Nothing}
 
 -- ---- sameWord
 
@@ -132,7 +131,7 @@ words_at l p h =
 pub words_over : (l : List ℕ) (p : ℕ) → length l < p → words_at_lem l p ≡ []
 words_over l p h = rw (lt-leb p (length l) h)
 
-pub word_found : (i : ℕ) (v w : List ℕ) (vs : List (List ℕ)) → same_word v w ≡ true → place_from i (v ∷ vs) w ≡ At i
+pub word_found : (i : ℕ) (v w : List ℕ) (vs : List (List ℕ)) → same_word v w ≡ true → place_from i (v ∷ vs) w ≡ Some i
 unfolding place_from
 word_found i v w vs h = rw h
 
@@ -140,7 +139,7 @@ pub word_other : (i : ℕ) (v w : List ℕ) (vs : List (List ℕ)) → same_word
 unfolding place_from
 word_other i v w vs h = rw h
 
-pub word_none : (i : ℕ) (w : List ℕ) → place_from i [] w ≡ Nothing
+pub word_none : (i : ℕ) (w : List ℕ) → place_from i [] w ≡ None
 unfolding place_from
 word_none i w = refl
 
@@ -173,24 +172,24 @@ pub in_start : (l w : List ℕ) → word_in l w ≡ place_from 0 (words_at_lem l
 unfolding word_in
 in_start l w = rw (leb-zero (length l))
 
-pub in_found : (l w : List ℕ) (i p : ℕ) → p ≤ length l → same_word (take (space_from l p - p) (drop p l)) w ≡ true → place_from i (words_at_lem l p) w ≡ At i
+pub in_found : (l w : List ℕ) (i p : ℕ) → p ≤ length l → same_word (take (space_from l p - p) (drop p l)) w ≡ true → place_from i (words_at_lem l p) w ≡ Some i
 in_found l w i p h e = rw (words_at l p h) (word_found i _ w _ e)
 
 pub in_other : (l w : List ℕ) (i p : ℕ) → p ≤ length l → same_word (take (space_from l p - p) (drop p l)) w ≡ false
     → place_from i (words_at_lem l p) w ≡ place_from (i + 1) (words_at_lem l (space_from l p + 1)) w
 in_other l w i p h e = rw (words_at l p h) (word_other i _ w _ e)
 
-pub in_none : (l w : List ℕ) (i p : ℕ) → length l < p → place_from i (words_at_lem l p) w ≡ Nothing
+pub in_none : (l w : List ℕ) (i p : ℕ) → length l < p → place_from i (words_at_lem l p) w ≡ None
 in_none l w i p h = rw (words_over l p h) (word_none i w)
 
 module _ (rows w : List ℕ) (n i at : ℕ) where
   left : i < n → n - i ≡ suc (n - (i + 1))
   left h = omega arith
 
-  pub find_short : i < n → length rows - at < 38 → place_from i (names_of (n - i) (drop at rows)) w ≡ Nothing
+  pub find_short : i < n → length rows - at < 38 → place_from i (names_of (n - i) (drop at rows)) w ≡ None
   find_short h s = rw (names_short rows at (n - i) (n - (i + 1)) (left h) s) (word_none i w)
 
-  pub find_over : n ≤ i → place_from i (names_of (n - i) (drop at rows)) w ≡ Nothing
+  pub find_over : n ≤ i → place_from i (names_of (n - i) (drop at rows)) w ≡ None
   unfolding names_of
   find_over h = let e : n - i ≡ 0 = omega arith in rw e (word_none i w)
 
@@ -200,7 +199,7 @@ module _ (rows w : List ℕ) (n i at : ℕ) where
         let q : at + 6 + k - (at + 6) ≡ min (get_or rows at 0) 32 = omega arith in
         rw q (names_at rows at (n - i) (n - (i + 1)) (left h) s)
 
-    pub find_found : same_word (take (at + 6 + k - (at + 6)) (drop (at + 6) rows)) w ≡ true → place_from i (names_of (n - i) (drop at rows)) w ≡ At i
+    pub find_found : same_word (take (at + 6 + k - (at + 6)) (drop (at + 6) rows)) w ≡ true → place_from i (names_of (n - i) (drop at rows)) w ≡ Some i
     find_found t = rw rows_at (word_found i _ w _ t)
 
     pub find_other : same_word (take (at + 6 + k - (at + 6)) (drop (at + 6) rows)) w ≡ false
@@ -220,5 +219,5 @@ module _ (rows w : List ℕ) (n i at : ℕ) where
 pub not_yet : (k i : ℕ) → k ≤ i → (i ≡ k → ⊥) → k + 1 ≤ i
 not_yet k i h n = omega arith
 
-pub picked_past : {A : Type 0} (xs : List A) (x : A) (f : Place) (i : ℕ) → f ≡ At i → length xs ≤ i → x ≡ picked f xs x
+pub picked_past : {A : Type 0} (xs : List A) (x : A) (f : Option ℕ) (i : ℕ) → f ≡ Some i → length xs ≤ i → x ≡ picked f xs x
 picked_past xs x f i e h = rw e (sym (get_or-eq_default xs x h))

@@ -1,11 +1,9 @@
 -- Words: equal without case, names, and the place of a word in a list of words. RULES 2.
-use Rattle.std.specs.Prelude.{ℕ, suc, ◌+◌, List, [], ◌∷◌, Bool, true, false, cond, ◌&&◌, ◌||◌, get_or, drop, eqb}
+use Rattle.std.specs.Prelude.{ℕ, suc, ◌+◌, List, [], ◌∷◌, Bool, true, false, cond, ◌&&◌, ◌||◌, get_or, drop, eqb, None, Option, Some}
 use Prim.Native.Char.{code}
 use Rattle.text_words.specs.Bytes.{kind_of, lower_of, is_letter}
 use Rattle.text_words.specs.declared.bytes.Kind.{Kind}
 use Rattle.text_words.specs.declared.bytes.Kind.TheVariants as K
-use Rattle.text_words.specs.declared.spelling.Place.{Place}
-use Rattle.text_words.specs.declared.spelling.Place.TheVariants.{At, Nothing}
 
 -- "Letters compare without case"
 unfoldable pub same_word : List ℕ → List ℕ → Bool
@@ -38,13 +36,9 @@ is_name (b ∷ bs) = is_letter (kind_of b) && name_bytes bs
 -- ---- a word in a list of words
 
 -- where the word w first stands among some words, counted from i
-unfoldable pub place_from : ℕ → List (List ℕ) → List ℕ → Place
-place_from i [] w = Nothing
-place_from i (v ∷ vs) w = cond (same_word v w) (At i) (place_from (i + 1) vs w)
-
-abbrev pub is_at : Place → Bool
-is_at (At i) = true
-is_at Nothing = false
+unfoldable pub place_from : ℕ → List (List ℕ) → List ℕ → Option ℕ
+place_from i [] w = None
+place_from i (v ∷ vs) w = cond (same_word v w) (Some i) (place_from (i + 1) vs w)
 
 -- how many bytes stand before the first space
 unfoldable pub unspaced : List ℕ → ℕ
@@ -64,10 +58,10 @@ unfoldable pub words_of : List ℕ → List (List ℕ)
 words_of [] = [] ∷ []
 words_of (b ∷ bs) = cond (eqb b (code " ")) ([] ∷ words_of bs) (onto b (words_of bs))
 
-unfoldable pub word_in : List ℕ → List ℕ → Place
+unfoldable pub word_in : List ℕ → List ℕ → Option ℕ
 word_in list w = place_from 0 (words_of list) w
 
 -- what stands in xs at the place that was found, or else x
-abbrev pub picked : {A : Type 0} → Place → List A → A → A
-picked (At i) xs x = get_or xs i x
-picked Nothing xs x = x
+abbrev pub picked : {A : Type 0} → Option ℕ → List A → A → A
+picked (Some i) xs x = get_or xs i x
+picked None xs x = x

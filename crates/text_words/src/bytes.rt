@@ -2,7 +2,7 @@
 ghost use Rattle.std.specs.Prelude.{◌≡◌};
 ghost use Rattle.text_words.specs.Bytes.{kind_of, lower_of, is_digit, is_white, is_refused, in_run};
 
-#[derive(Clone, Copy)]
+#[derive(Clone, Copy, PartialEq, Eq)]
 pub enum Kind {
     Digit,
     Letter,
@@ -28,49 +28,31 @@ pub fn kind_of(b: u8) -> Kind
 pub fn is_digit(b: u8) -> bool
     ensures { result ≡ is_digit (kind_of b) }
 {
-    if b < b'0' {
-        return false;
-    }
-    b <= b'9'
+    b.is_ascii_digit()
 }
 
 pub fn is_white(b: u8) -> bool
     ensures { result ≡ is_white (kind_of b) }
 {
-    if let Kind::White = kind_of(b) {
-        true
-    } else {
-        false
-    }
+    kind_of(b) == Kind::White
 }
 
 pub fn is_refused(b: u8) -> bool
     ensures { result ≡ is_refused (kind_of b) }
 {
-    if let Kind::Refused = kind_of(b) {
-        true
-    } else {
-        false
-    }
+    kind_of(b) == Kind::Refused
 }
 
 // Whether a byte goes on a run. A comment's `;` ends it, and so does `stop`: the `:` of plans.
 pub fn in_run(stop: u8, b: u8) -> bool
     ensures { result ≡ in_run stop b }
 {
-    if b == b';' {
-        return false;
-    }
-    if b == stop {
+    if b == b';' || b == stop {
         return false;
     }
     match kind_of(b) {
-        Kind::Digit => true,
-        Kind::Letter => true,
-        Kind::Bracket => false,
-        Kind::White => false,
-        Kind::Mark => true,
-        Kind::Refused => false,
+        Kind::Digit | Kind::Letter | Kind::Mark => true,
+        Kind::Bracket | Kind::White | Kind::Refused => false,
     }
 }
 
@@ -78,11 +60,5 @@ pub fn in_run(stop: u8, b: u8) -> bool
 pub fn lower(b: u8) -> u8
     ensures { result ≡ lower_of b }
 {
-    if b < b'A' {
-        return b;
-    }
-    if b'Z' < b {
-        return b;
-    }
-    b + 32
+    b.to_ascii_lowercase()
 }

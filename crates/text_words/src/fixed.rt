@@ -3,10 +3,9 @@ ghost use Rattle.std.specs.Prelude.{◌≡◌};
 ghost use Rattle.text_words.specs.Fixed.{head_of, is_flag, is_listed, is_reserved, is_operator};
 
 use crate::spelling;
-use crate::spelling::Place;
 
 // What may open a condition, an expression or an effect, beside a declared name.
-#[derive(Clone, Copy)]
+#[derive(Clone, Copy, PartialEq, Eq)]
 pub enum HeadWord {
     And,
     Not,
@@ -26,8 +25,7 @@ pub enum HeadWord {
 pub fn head_of(w: &[u8]) -> HeadWord
     ensures { result ≡ head_of w.now }
 {
-    let f = spelling::word_in(b"and not = < <= > >= + - assign increase decrease", w);
-    let Place::At(i) = f else {
+    let Some(i) = spelling::word_in(b"and not = < <= > >= + - assign increase decrease", w) else {
         return HeadWord::Other;
     };
     match i {
@@ -51,32 +49,34 @@ pub fn head_of(w: &[u8]) -> HeadWord
 pub fn is_flag(w: &[u8]) -> bool
     ensures { result ≡ is_flag w.now }
 {
-    spelling::is_at(spelling::word_in(
+    spelling::word_in(
         b":strips :typing :equality :negative-preconditions :fluents :durative-actions",
         w,
-    ))
+    )
+    .is_some()
 }
 
 // The words of refusal 11, `?duration` among them: the one place where it may stand asks for it by name.
 pub fn is_listed(w: &[u8]) -> bool
     ensures { result ≡ is_listed w.now }
 {
-    spelling::is_at(spelling::word_in(
+    spelling::word_in(
         b"or imply forall exists when either * / #t scale-up scale-down change :metric :axiom :derived ?duration",
         w,
-    ))
+    )
+    .is_some()
 }
 
 // The names that can't be declared.
 pub fn is_reserved(w: &[u8]) -> bool
     ensures { result ≡ is_reserved w.now }
 {
-    spelling::is_at(spelling::word_in(b"and not assign increase decrease", w))
+    spelling::word_in(b"and not assign increase decrease", w).is_some()
 }
 
 // The words that are no names.
 pub fn is_operator(w: &[u8]) -> bool
     ensures { result ≡ is_operator w.now }
 {
-    spelling::is_at(spelling::word_in(b"= < <= > >= + - * / #t", w))
+    spelling::word_in(b"= < <= > >= + - * / #t", w).is_some()
 }

@@ -4,7 +4,6 @@ ghost use Rattle.text_words.specs.Names.{names_of};
 ghost use Rattle.text_words.specs.Spelling.{place_from};
 
 use crate::spelling;
-use crate::spelling::Place;
 
 // How long a row is.
 pub const ROW: usize = 38;
@@ -16,30 +15,28 @@ pub const NAME_AT: usize = 6;
 fn length_in(b: u8) -> usize
     ensures { result ≡ min b 32 }
 {
-    if b < 32 { b as usize } else { 32 }
+    b.min(32) as usize
 }
 
 // The number of the first of the table's first n names that is w. Lengths first: most names of a table have another length,
 // and no byte of theirs is read.
-pub fn find(rows: &[u8], n: usize, w: &[u8]) -> Place
+pub fn find(rows: &[u8], n: usize, w: &[u8]) -> Option<usize>
     ensures { result ≡ place_from 0 (names_of n rows.now) w.now }
 {
-    let mut i = 0;
     let mut at = 0;
-    while i < n {
+    for i in 0..n {
         if rows.len() - at < ROW {
-            return Place::Nothing;
+            return None;
         }
         let size = length_in(rows[at]);
         if size == w.len() {
             let start = at + NAME_AT;
             let end = start + size;
             if spelling::same_word(&rows[start..end], w) {
-                return Place::At(i);
+                return Some(i);
             }
         }
         at += ROW;
-        i += 1;
     }
-    Place::Nothing
+    None
 }

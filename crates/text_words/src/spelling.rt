@@ -1,27 +1,11 @@
 // How words are spelled: equality without case, names, and the place of a word in a list of words.
 ghost use Rattle.std.specs.Prelude.{◌≡◌, ◌+◌, ◌≤◌, length, drop};
 ghost use Rattle.text_words.specs.Bytes.{between};
-ghost use Rattle.text_words.specs.Spelling.{same_word, name_byte, is_name, space_from, word_in, is_at};
+ghost use Rattle.text_words.specs.Spelling.{same_word, name_byte, is_name, space_from, word_in};
 ghost use Rattle.text_words.specs.NameEnds.{name_end};
 
 use crate::bytes;
 use crate::bytes::Kind;
-
-// Where a word was found.
-#[derive(Clone, Copy)]
-pub enum Place {
-    At(usize),
-    Nothing,
-}
-
-pub fn is_at(f: Place) -> bool
-    ensures { result ≡ is_at f }
-{
-    match f {
-        Place::At(_) => true,
-        Place::Nothing => false,
-    }
-}
 
 // Whether two words are the same. From the last byte to the first: names of a domain often begin alike, as `pump-1` and
 // `pump-2`, and the last byte tells them apart.
@@ -31,9 +15,7 @@ pub fn same_word(a: &[u8], b: &[u8]) -> bool
     if a.len() != b.len() {
         return false;
     }
-    let mut i = a.len();
-    while 0 < i {
-        i -= 1;
+    for i in (0..a.len()).rev() {
         if bytes::lower(a[i]) != bytes::lower(b[i]) {
             return false;
         }
@@ -44,29 +26,20 @@ pub fn same_word(a: &[u8], b: &[u8]) -> bool
 fn is_small(b: u8) -> bool
     ensures { result ≡ between 97 b 122 }
 {
-    if b < b'a' {
-        return false;
-    }
-    b <= b'z'
+    b.is_ascii_lowercase()
 }
 
 // Whether a byte may stand in a name, after its first letter. Most are small letters or digits: these are tested first.
 fn is_name_byte(b: u8) -> bool
     ensures { result ≡ name_byte b }
 {
-    if is_small(b) {
-        return true;
-    }
-    if bytes::is_digit(b) {
+    if is_small(b) || bytes::is_digit(b) {
         return true;
     }
     match bytes::kind_of(b) {
-        Kind::Digit => true,
-        Kind::Letter => true,
-        Kind::Bracket => false,
-        Kind::White => false,
+        Kind::Digit | Kind::Letter => true,
         Kind::Mark => b == b'-' || b == b'_',
-        Kind::Refused => false,
+        Kind::Bracket | Kind::White | Kind::Refused => false,
     }
 }
 
@@ -74,14 +47,12 @@ fn is_name_byte(b: u8) -> bool
 pub fn name_end(w: &[u8], from: usize) -> usize
     ensures { result ≡ name_end w.now from }
 {
-    let mut at = from;
-    while at < w.len() {
+    for at in from..w.len() {
         if !is_name_byte(w[at]) {
             return at;
         }
-        at += 1;
     }
-    at
+    from.max(w.len())
 }
 
 // Whether the bytes from `from` on are a name: `from` is 1 after the mark of a variable or a keyword.
@@ -101,18 +72,16 @@ pub fn is_name(w: &[u8], from: usize) -> bool
 fn space_from(list: &[u8], from: usize) -> usize
     ensures { result ≡ space_from list.now from }
 {
-    let mut at = from;
-    while at < list.len() {
+    for at in from..list.len() {
         if list[at] == b' ' {
             return at;
         }
-        at += 1;
     }
-    at
+    from.max(list.len())
 }
 
 // Which word of a list it is. The list is written as docs/RULES.md writes it, with single spaces.
-pub fn word_in(list: &[u8], w: &[u8]) -> Place
+pub fn word_in(list: &[u8], w: &[u8]) -> Option<usize>
     ensures { result ≡ word_in list.now w.now }
 {
     let mut i = 0;
@@ -120,10 +89,10 @@ pub fn word_in(list: &[u8], w: &[u8]) -> Place
     while at <= list.len() {
         let end = space_from(list, at);
         if same_word(&list[at..end], w) {
-            return Place::At(i);
+            return Some(i);
         }
         at = end + 1;
         i += 1;
     }
-    Place::Nothing
+    None
 }

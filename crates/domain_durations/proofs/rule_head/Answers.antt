@@ -1,5 +1,6 @@
+use Rattle.std.specs.Prelude.{Err}
 use borrow.Enum.Refused.{opened}
-use mathlib.Core.Path.{refl, sym, ◌∙◌}
+use mathlib.Core.Path.{ap, refl, sym, ◌∙◌}
 use Rattle.text_words.specs.Bytes.{bytes}
 use Rattle.domain_durations.proofs.Heads.{head_long, head_refused, head_else, head_equals, head_other}
 use Rattle.text_tokens.proofs.Words.{word_is}
@@ -12,7 +13,7 @@ pub returns-in-Refusal : goal.returns-in-Refusal
 returns-in-Refusal c = head_refused _ _ _ _ c.in-Refusal.is c.if-k-eq5.false
 
 pub returns-in_default-t : goal.returns-in_default-t
-returns-in_default-t c = head_else c.args.text.now c.args.t c.refusal.result (opened c.in_default.in_default-own.keys2) (opened c.in_default-t.in_default-t-own.keys2) c.refusal.ensures
+returns-in_default-t c = head_else c.args.text.now c.args.t (Err c.not_due.result) (opened c.in_default.in_default-own.keys2) (opened c.in_default-t.in_default-t-own.keys2) (ap Err c.not_due.ensures)
 
 pub returns-then-same_word : goal.returns-then-same_word
 unfolding bytes

@@ -9,10 +9,10 @@ unfolding rows_of padded
 domain_at-d-requires c = (refl, refl)
 
 pub load_problem-requires : goal.load_problem-requires
-load_problem-requires c = let u = understood c.args.domain.now c.domain_at-d.result _ _ _ _ c.domain_at-d.ensures _ _ _ _ c.in-Done.is _ c.part_of-name.ensures in (u.domain, u.model)
+load_problem-requires c = let u = understood c.args.domain.now c.domain_at-d.result _ _ _ _ c.domain_at-d.ensures _ _ _ _ c.in-Ok.is _ c.part_of-name.ensures in (u.domain, u.model)
 
-pub returns-in-Refused : goal.returns-in-Refused
-returns-in-Refused c = no_domain c.args.domain.now c.domain_at-d.result _ _ _ _ c.domain_at-d.ensures c.args.problem.now _ _ _ c.in-Refused.is c.fixed.ensures
+pub returns-in-Err : goal.returns-in-Err
+returns-in-Err c = no_domain c.args.domain.now c.domain_at-d.result _ _ _ _ c.domain_at-d.ensures c.args.problem.now _ _ _ c.in-Err.is c.fixed.ensures
 
-pub returns-in-Done : goal.returns-in-Done
-returns-in-Done c = let u = understood c.args.domain.now c.domain_at-d.result _ _ _ _ c.domain_at-d.ensures _ _ _ _ c.in-Done.is _ c.part_of-name.ensures in domain_loaded c.args.domain.now c.args.problem.now u.domain u.end u.is _ (c.load_problem.ensures u.domain u.model)
+pub returns : goal.returns
+returns c = let u = understood c.args.domain.now c.domain_at-d.result _ _ _ _ c.domain_at-d.ensures _ _ _ _ c.in-Ok.is _ c.part_of-name.ensures in domain_loaded c.args.domain.now c.args.problem.now u.domain u.end u.is _ (c.load_problem.ensures u.domain u.model)

@@ -1,3 +1,4 @@
+use Rattle.std.proofs.lemmas.Result.{err_from_is_err_and}
 use native.Mathlib.Omega.{arith}
 use Rattle.text_words.specs.Bytes.{bytes}
 use Rattle.domain_due.proofs.Dues.{ahead_done, ahead_by}
@@ -10,17 +11,17 @@ pub returns-in_default : goal.returns-in_default
 unfolding bytes
 returns-in_default c = (λ x h f. start_none _ x _ _ _ (is_missing _ (bytes ":init") _ _ c.begins_at-o.ensures.0 c.in_default.is) c.requires.2 c.requires.3, onwards_here _ _ _ c.requires.0)
 
-pub returns-in_default-a : goal.returns-in_default-a
+pub returns-in_err-sums_at : goal.returns-in_err-sums_at
 unfolding bytes
-returns-in_default-a c = (λ x h f. start_unfit _ x _ _ _ (is_there _ (bytes ":init") _ _ c.begins_at-o.ensures.0 _ _ c.in-At.is) _ _ _ _ _ (c.sums_at-a.ensures x h) c.in_default-a.is, onwards_refused _ _ _ _ _ c.in_default-a.is)
+returns-in_err-sums_at c = let p = err_from_is_err_and c.from_residual.result c.from_residual.ensures.1 in rw (p.1, p.2, ← c.in_err-sums_at.was) ((λ x h f. start_unfit _ x _ _ _ (is_there _ (bytes ":init") _ _ c.begins_at-o.ensures.0 _ _ c.in-Some.is) _ _ _ _ _ (c.sums_at.ensures x h) c.in_err-sums_at.was, onwards_refused _ _ _ _ _ c.in_err-sums_at.was))
 
-pub init_to-b-requires : goal.init_to-b-requires
-init_to-b-requires c = ((further_at _ _ _ _ _ c.in-At.is c.begins_at-o.ensures.1).1, c.requires.1, c.requires.2, c.requires.3)
+pub init_to-requires : goal.init_to-requires
+init_to-requires c = ((further_at _ _ _ _ _ c.in-Some.is c.begins_at-o.ensures.1).1, c.requires.1, c.requires.2, c.requires.3)
 
-pub returns-in_default-b : goal.returns-in_default-b
+pub returns-in_err-after : goal.returns-in_err-after
 unfolding bytes
-returns-in_default-b c = (λ x h f. let y = sums_fit_lem x _ _ _ _ _ (c.sums_at-a.ensures x h) c.in-Done.is in start_refused _ x _ _ _ (is_there _ (bytes ":init") _ _ c.begins_at-o.ensures.0 _ _ c.in-At.is) _ _ _ y (c.init_to-b.ensures.0 x _ h f y (omega arith)) _ _ c.in_default-b.is, onwards_refused _ _ _ _ _ c.in_default-b.is)
+returns-in_err-after c = let p = err_from_is_err_and c.from_residual-in_err-after.result c.from_residual-in_err-after.ensures.1 in rw (p.1, p.2, ← c.in_err-after.was) ((λ x h f. let y = sums_fit_lem x _ _ _ _ _ (c.sums_at.ensures x h) c.in_ok-sums_at.was in start_refused _ x _ _ _ (is_there _ (bytes ":init") _ _ c.begins_at-o.ensures.0 _ _ c.in-Some.is) _ _ _ y (c.init_to.ensures.0 x _ h f y (omega arith)) _ _ c.in_err-after.was, onwards_refused _ _ _ _ _ c.in_err-after.was))
 
 pub returns : goal.returns
 unfolding bytes
-returns c = (λ x h f. let y = sums_fit_lem x _ _ _ _ _ (c.sums_at-a.ensures x h) c.in-Done.is in start_done _ x _ _ _ (is_there _ (bytes ":init") _ _ c.begins_at-o.ensures.0 _ _ c.in-At.is) _ _ _ y (c.init_to-b.ensures.0 x _ h f y (omega arith)) _ _ c.in-Done-b.is, let w = ahead_done _ _ _ _ _ c.in-Done-b.is c.init_to-b.ensures.1 in onwards_by _ _ _ _ (omega (arith, (further_at _ _ _ _ _ c.in-At.is c.begins_at-o.ensures.1).0)) (ahead_by _ _ _ _ w.0 w.1))
+returns c = (λ x h f. let y = sums_fit_lem x _ _ _ _ _ (c.sums_at.ensures x h) c.in_ok-sums_at.was in start_done _ x _ _ _ (is_there _ (bytes ":init") _ _ c.begins_at-o.ensures.0 _ _ c.in-Some.is) _ _ _ y (c.init_to.ensures.0 x _ h f y (omega arith)) _ _ c.in_ok-after.was, let w = ahead_done _ _ _ _ _ c.in_ok-after.was c.init_to.ensures.1 in onwards_by _ _ _ _ (omega (arith, (further_at _ _ _ _ _ c.in-Some.is c.begins_at-o.ensures.1).0)) (ahead_by _ _ _ _ w.0 w.1))

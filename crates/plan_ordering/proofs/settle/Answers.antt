@@ -1,20 +1,13 @@
-use mathlib.Core.Path.{◌≡◌, ◌∙◌}
-use native.Mathlib.Omega.{arith}
-use Rattle.plan_ordering.proofs.Ways.{settled_none, settled_turn, settled_end}
+use Rattle.std.proofs.Common.{◌≡◌, ◌+◌, ◌-◌, arith, ap, ◌∙◌, List, ℕ}
+use Rattle.plan_ordering.specs.Keys.{keys_in}
+use Rattle.plan_ordering.proofs.Ways.{keys_pasted}
 use Rattle.plan_ordering.proofs.settle.Goals as goal
-
-pub loop-i-init : goal.loop-i-init
-loop-i-init c = (omega arith, λ low. settled_none c.args.words.now c.args.begin low)
-
-pub loop-i-preserved : goal.loop-i-preserved
-loop-i-preserved c = let a = c.args in
-    (omega arith, λ low. settled_turn a.words.now a.begin low c.loop-i.i c.loop-i.words (omega (arith, c.requires.sized, c.requires.within)) (c.loop-i.invariant.1 low))
 
 pub returns : goal.returns
 returns c = let a = c.args in
-    let e : c.loop-i.i ≡ a.n = omega arith in
-    let s = rw e at (c.loop-i.invariant.1 c.requires.low) in (
-      settled_end a.words.now a.begin c.requires.low a.n c.loop-i.words (omega (arith, c.requires.sized, c.requires.within)) s,
-      s.sized ∙ c.requires.sized,
-      s.below,
+    let n : a.begin + a.n - a.begin ≡ a.n = omega arith in
+    let to = c.copy_within.ensures in (
+      ap (λ (m : List ℕ). keys_in m 449 a.n) (rw n at to.after) ∙ keys_pasted a.words.now a.begin 449 a.n (omega (arith, c.requires.sized, c.requires.within)) (omega (arith, c.requires.sized, c.requires.within, c.requires.low)),
+      to.len ∙ c.requires.sized,
+      λ k h. to.by_index.1 k 0 h,
     )

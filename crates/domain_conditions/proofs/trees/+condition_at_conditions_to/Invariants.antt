@@ -7,6 +7,7 @@ use Rattle.domain_conditions.proofs.Listing.{Onward}
 use Prim.Native.Nat.{◌+◌, ◌*◌, ◌-◌, ◌≤◌}
 use Rattle.domain_conditions.proofs.trees.+condition_at_conditions_to.Given as goal
 
+-- the measure is twice the remaining bytes, one more for a list, which calls the condition reader where it stands itself
 abbrev pub decreases-condition_at : goal.decreases-condition_at
 decreases-condition_at l = 2 * (length l.text.now - l.from)
 

@@ -1,3 +1,5 @@
+use Rattle.std.proofs.lemmas.Result.{err_from_is_err_and}
+use Prim.Native.Nat.{◌-◌}
 use mathlib.Core.Path.{refl, sym, ◌∙◌}
 use native.Mathlib.Omega.{arith}
 use Rattle.domain_terms.proofs.Signatures.{predicates_signed}
@@ -12,10 +14,13 @@ pub returns-in_default : goal.returns-in_default
 returns-in_default c = (λ x b h q. written_refused effects_cells _ _ _ _ _ 8 _ (fact_missing _ _ x b _ _ c.args.left (sym (rw c.part_of.ensures at (c.find_in-f.ensures 32 x.predicates h.predicates)) ∙ c.in_default.is)) refl, spent_refused _ _ _ _ _ 8 _ refl)
 
 pub returns-then-left-eq0 : goal.returns-then-left-eq0
-returns-then-left-eq0 c = (λ x b h q. written_refused effects_cells _ _ _ _ _ 12 _ (fact_many _ _ x b _ _ c.args.left _ (sym (rw c.part_of.ensures at (c.find_in-f.ensures 32 x.predicates h.predicates)) ∙ c.in-At.is) c.if-left-eq0.true) refl, spent_refused _ _ _ _ _ 12 _ refl)
+returns-then-left-eq0 c = (λ x b h q. written_refused effects_cells _ _ _ _ _ 12 _ (fact_many _ _ x b _ _ c.args.left _ (sym (rw c.part_of.ensures at (c.find_in-f.ensures 32 x.predicates h.predicates)) ∙ c.in-Some.is) c.if-left-eq0.true) refl, spent_refused _ _ _ _ _ 12 _ refl)
 
 pub reference_at-requires : goal.reference_at-requires
-reference_at-requires c = let x = c.requires.1.0 in let h = c.requires.1.1 in (c.requires.0, c.requires.1, predicates_signed _ _ x h, omega (arith, found_below x.predicates _ _ (sym (rw c.part_of.ensures at (c.find_in-f.ensures 32 x.predicates h.predicates)) ∙ c.in-At.is), h.predicates.count), c.requires.2, c.requires.3)
+reference_at-requires c = let x = c.requires.1.0 in let h = c.requires.1.1 in (c.requires.0, c.requires.1, predicates_signed _ _ x h, omega (arith, found_below x.predicates _ _ (sym (rw c.part_of.ensures at (c.find_in-f.ensures 32 x.predicates h.predicates)) ∙ c.in-Some.is), h.predicates.count), c.requires.2, c.requires.3)
+
+pub returns-in_err-end : goal.returns-in_err-end
+returns-in_err-end c = let e = err_from_is_err_and c.from_residual.result c.from_residual.ensures.1 in rw (e.1, e.2) (λ x b h q. rw c.in_err-end.was at (fact_stored _ _ x b _ _ c.args.left _ _ _ _ _ _ q (sym (rw c.part_of.ensures at (c.find_in-f.ensures 32 x.predicates h.predicates)) ∙ c.in-Some.is) c.if-left-eq0.false (c.reference_at.ensures.0 x 32 functions_at x.predicates h h.predicates h.facts)), spent_refused _ _ _ _ _ _ _ refl)
 
 pub returns : goal.returns
-returns c = (λ x b h q. rw c.progress_of.ensures (fact_stored _ _ x b _ _ c.args.left _ _ _ _ _ _ q (sym (rw c.part_of.ensures at (c.find_in-f.ensures 32 x.predicates h.predicates)) ∙ c.in-At.is) c.if-left-eq0.false (c.reference_at.ensures.0 x 32 functions_at x.predicates h h.predicates h.facts)), rw c.progress_of.ensures (spent_passed _ _ _ _ _ c.reference_at.ensures.1 c.reference_at.ensures.2))
+returns c = (λ x b h q. rw c.in_ok-end.was at (fact_stored _ _ x b _ _ c.args.left _ _ _ _ _ _ q (sym (rw c.part_of.ensures at (c.find_in-f.ensures 32 x.predicates h.predicates)) ∙ c.in-Some.is) c.if-left-eq0.false (c.reference_at.ensures.0 x 32 functions_at x.predicates h h.predicates h.facts)), rw c.in_ok-end.was at (spent_passed c.reference_at.result _ _ _ (c.args.left - 1) c.reference_at.ensures.1 c.reference_at.ensures.2))

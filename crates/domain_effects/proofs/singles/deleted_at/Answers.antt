@@ -1,10 +1,11 @@
+use Rattle.std.specs.Prelude.{Err}
 use borrow.Enum.Refused.{opened}
 use mathlib.Core.Path.{refl, sym, ap, ◌∙◌}
 use mathlib.Core.Bool.{false}
 use native.Mathlib.Omega.{arith}
 use Rattle.domain_due.proofs.Dues.{word_in}
 use Rattle.domain_stored_meaning.specs.Cells.{effects_cells}
-use Rattle.domain_expressions.specs.Codes.{passed}
+use Rattle.domain_expressions.proofs.Passed.{passed}
 use Rattle.domain_expressions.proofs.Ends.{written_refused, spent_refused}
 use Rattle.domain_effects.proofs.Facts.{spent_from}
 use Rattle.domain_effects.proofs.Deleting.{deleted_else, deleted_other, deleted_list, deleted_fact}
@@ -12,7 +13,7 @@ use Rattle.text_tokens.proofs.Words.{word_is}
 use Rattle.domain_effects.proofs.singles.deleted_at.Goals as goal
 
 pub returns-in_default : goal.returns-in_default
-returns-in_default c = (λ x h. written_refused effects_cells _ _ _ _ _ _ _ (deleted_else _ _ x c.args.left _ _ c.token_at-t.ensures (opened c.in_default.in_default-own.keys2)) (c.progress_of.ensures ∙ ap (passed c.args.left) c.refusal.ensures), spent_refused _ _ _ _ _ _ _ (c.progress_of.ensures ∙ ap (passed c.args.left) c.refusal.ensures))
+returns-in_default c = (λ x h. written_refused effects_cells _ _ _ _ _ _ _ (deleted_else _ _ x c.args.left _ _ c.token_at-t.ensures (opened c.in_default.in_default-own.keys2)) (ap Err c.not_due.ensures), spent_refused _ _ _ _ _ _ _ (ap Err c.not_due.ensures))
 
 pub returns-in_default-k : goal.returns-in_default-k
 returns-in_default-k c = (λ x h. written_refused effects_cells _ _ _ _ _ 3 _ (deleted_other _ _ x c.args.left _ _ _ _ (sym c.token_at-t.ensures ∙ c.in-Word.is) (opened c.in_default-k.in_default-k-own.keys2)) refl, spent_refused _ _ _ _ _ 3 _ refl)

@@ -1,5 +1,6 @@
 use borrow.Enum.Refused.{opened}
-use mathlib.Core.Path.{sym, ◌∙◌}
+use Rattle.std.specs.Prelude.{Err}
+use mathlib.Core.Path.{sym, ap, ◌∙◌}
 use Rattle.domain_expressions.proofs.Ends.{end_close, end_many, end_number, end_else}
 use Rattle.domain_expressions.proofs.leaves.operands_end.Goals as goal
 
@@ -13,4 +14,4 @@ pub returns-in-Number : goal.returns-in-Number
 returns-in-Number c = end_number _ _ c.args.left _ _ _ _ (sym c.token_at-t.ensures ∙ c.in-Number.is) c.if-left-eq0.false
 
 pub returns : goal.returns
-returns c = end_else _ _ c.args.left _ _ _ c.token_at-t.ensures (opened c.in_default.in_default-own.keys2) (opened c.in_default-t.in_default-t-own.keys2) c.refusal.ensures
+returns c = end_else _ _ c.args.left _ _ _ c.token_at-t.ensures (opened c.in_default.in_default-own.keys2) (opened c.in_default-t.in_default-t-own.keys2) (ap Err c.not_due.ensures)

@@ -1,4 +1,3 @@
-use Prim.Native.Nat.{◌-◌}
 use Rattle.domain_terms.proofs.Givens.{cell_object, cell_variable}
 use Rattle.domain_rows.specs.Layout.{predicates_at, tables_length}
 use Rattle.domain_terms.proofs.arguments.type_of_cell.Goals as goal

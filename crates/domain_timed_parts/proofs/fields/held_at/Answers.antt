@@ -1,4 +1,3 @@
-use Prim.Native.Nat.{◌-◌}
 use native.Mathlib.Omega.{arith}
 use Rattle.domain_timed_parts.proofs.Bodied.{spent_more}
 use Rattle.domain_timed_parts.proofs.Fielded.{held_parts, held_instant, spent_under}

@@ -1,5 +1,6 @@
+use Rattle.std.specs.Prelude.{Err}
 use borrow.Enum.Refused.{opened}
-use mathlib.Core.Path.{refl, sym, ◌∙◌}
+use mathlib.Core.Path.{ap, refl, sym, ◌∙◌}
 use native.Mathlib.Omega.{arith}
 use Rattle.domain_due.proofs.Dues.{ahead_refused, ahead_by, word_in}
 use Rattle.text_words.specs.Bytes.{bytes}
@@ -8,7 +9,7 @@ use Rattle.text_tokens.proofs.Words.{word_is}
 use Rattle.domain_timed_parts.proofs.times.behind_at.Goals as goal
 
 pub returns-in_default : goal.returns-in_default
-returns-in_default c = (behind_else _ _ _ _ _ c.token_at-t.ensures (opened c.in_default.in_default-own.keys2) c.refusal.ensures, ahead_refused _ _ _ _ _ c.refusal.ensures)
+returns-in_default c = (behind_else _ _ _ _ _ c.token_at-t.ensures (opened c.in_default.in_default-own.keys2) (ap Err c.not_due.ensures), ahead_refused _ _ _ _ _ (ap Err c.not_due.ensures))
 
 pub returns-then-same_word : goal.returns-then-same_word
 unfolding bytes

@@ -11,7 +11,7 @@ unfolding item
 returns-in-Close c = rw (sym c.token_at-t.ensures ∙ c.in-Close.is)
 
 pub returns-in_default-t : goal.returns-in_default-t
-returns-in_default-t c = item_else _ _ _ _ _ c.token_at-t.ensures (opened c.in_default.in_default-own.keys2) (opened c.in_default-t.in_default-t-own.keys2) c.refusal.ensures
+returns-in_default-t c = item_else _ _ _ _ _ c.token_at-t.ensures (opened c.in_default.in_default-own.keys2) (opened c.in_default-t.in_default-t-own.keys2) c.not_due.ensures
 
 pub item_of-requires : goal.item_of-requires
 item_of-requires c = (word_in _ _ c.requires _ _ _ (sym c.token_at-t.ensures ∙ c.in-Word.is)).1

@@ -1,4 +1,3 @@
-use Prim.Native.Nat.{◌-◌}
 use native.Mathlib.Omega.{arith}
 use Rattle.domain_typed_lists.proofs.Outcomes.{below_most}
 use Rattle.domain_typed_lists.proofs.typed.type_of_group.Goals as goal

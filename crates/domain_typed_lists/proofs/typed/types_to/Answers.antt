@@ -1,6 +1,5 @@
 use mathlib.Core.Path.{refl}
 use mathlib.Core.List.{[], ◌∷◌}
-use Prim.Native.Nat.{◌-◌}
 use native.Mathlib.Omega.{arith}
 use Rattle.text_words.specs.Bytes.{bytes}
 use Rattle.domain_meaning.specs.Tables.{entry}
@@ -9,9 +8,6 @@ use Rattle.domain_rows.specs.Held.{rows_of}
 use Rattle.domain_meaning.specs.Indexes.{padded}
 use Rattle.domain_typed_lists.proofs.Outcomes.{holds_none}
 use Rattle.domain_typed_lists.proofs.typed.types_to.Goals as goal
-
-pub enter-requires : goal.enter-requires
-enter-requires c = (([], (holds_none 17 c.args.rows.now c.requires.1)), omega arith, omega arith, omega arith)
 
 pub typed_list-requires : goal.typed_list-requires
 unfolding rows_of padded bytes

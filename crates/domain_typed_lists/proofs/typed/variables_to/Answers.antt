@@ -1,13 +1,10 @@
 use mathlib.Core.List.{[]}
-use Prim.Native.Nat.{◌-◌, ◌+◌}
+use Prim.Native.Nat.{◌+◌}
 use native.Mathlib.Omega.{arith}
 use lib.ListN.{length}
 use Rattle.domain_meaning.specs.Lists.{variables_to}
 use Rattle.domain_typed_lists.proofs.Outcomes.{holds_none}
 use Rattle.domain_typed_lists.proofs.typed.variables_to.Goals as goal
-
-pub typed_list-requires : goal.typed_list-requires
-typed_list-requires c = (c.requires.0, c.requires.1, ([], (holds_none _ _ c.requires.2)), c.requires.3)
 
 pub returns : goal.returns
 unfolding variables_to

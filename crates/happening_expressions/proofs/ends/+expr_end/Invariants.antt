@@ -1,4 +1,3 @@
-use Prim.Native.Nat.{◌-◌}
 use Rattle.happening_expressions.proofs.ends.+expr_end.Given as goal
 
 abbrev pub decreases-expr_end : goal.decreases-expr_end

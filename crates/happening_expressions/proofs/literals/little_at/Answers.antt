@@ -8,9 +8,6 @@ loop-i-init c = read_none c.args.rows.now c.args.at c.args.k
 pub overflow_mul-acc : goal.overflow_mul-acc
 overflow_mul-acc c = omega (arith, read_small c.args.rows.now c.args.at c.args.k c.loop-i.acc c.loop-i.i c.requires.1 c.loop-i.invariant)
 
-pub overflow_add-at : goal.overflow_add-at
-overflow_add-at c = omega (arith, c.loop-i.invariant.left)
-
 pub overflow_add-acc : goal.overflow_add-acc
 overflow_add-acc c = omega (arith, read_small c.args.rows.now c.args.at c.args.k c.loop-i.acc c.loop-i.i c.requires.1 c.loop-i.invariant)
 

@@ -1,4 +1,3 @@
-use Prim.Native.Nat.{◌-◌}
 use Rattle.happening_expressions.proofs.masks.+mask_of.Given as goal
 
 abbrev pub decreases-mask_of : goal.decreases-mask_of

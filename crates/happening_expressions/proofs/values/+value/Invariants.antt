@@ -1,4 +1,3 @@
-use Prim.Native.Nat.{◌-◌}
 use Rattle.happening_expressions.proofs.values.+value.Given as goal
 
 abbrev pub decreases-value : goal.decreases-value

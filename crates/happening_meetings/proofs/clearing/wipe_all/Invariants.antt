@@ -1,12 +1,8 @@
 use mathlib.Core.Path.{◌≡◌}
-use Prim.Native.Nat.{◌-◌, ◌≤◌}
-use Rattle.happening_meaning.specs.Happening.{marks}
+use Prim.Native.Nat.{◌-◌}
 use Rattle.happening_meetings.specs.Marks.{wipe_each}
 use Rattle.happening_meetings.specs.Points.{accesses_in}
 use Rattle.happening_meetings.proofs.clearing.wipe_all.Given as goal
 
 abbrev pub invariant-loop-j : goal.invariant-loop-j
-invariant-loop-j l = (l.j ≤ l.n) × (wipe_each l.marks (accesses_in l.rows l.points l.objects (l.n - l.j) l.j) ≡ wipe_each l.initial.marks (accesses_in l.rows l.points l.objects l.n 0))
-
-abbrev pub decreases-loop-j : goal.decreases-loop-j
-decreases-loop-j l = l.n - l.j
+invariant-loop-j l = wipe_each l.marks (accesses_in l.rows l.points l.objects (l.n - l.j) l.j) ≡ wipe_each l.initial.marks (accesses_in l.rows l.points l.objects l.n 0)

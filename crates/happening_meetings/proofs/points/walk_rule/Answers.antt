@@ -1,18 +1,10 @@
-use Prim.Native.Nat.{◌+◌}
-use native.Mathlib.Omega.{arith}
 use Rattle.domain_prepared_meaning.specs.Decode.{expression_at}
 use Rattle.happening_forms.specs.Summed.{four_at}
-use Rattle.happening_meetings.proofs.Reading.{rule_late, rule_past, rule_none, rule_so, rule_unwalked, rule_walked}
+use Rattle.happening_meetings.proofs.Reading.{rule_unwalked, rule_walked}
 use Rattle.happening_meetings.proofs.points.walk_rule.Goals as goal
 
-pub returns-then-not-begins : goal.returns-then-not-begins
-returns-then-not-begins c = rule_unwalked (four_at c.args.objects.now c.args.k) c.args.mode c.args.marks.now (rule_late c.args.rows.now c.args.at c.args.begins (c.if-not-begins.true))
-
-pub returns-then-rows-at : goal.returns-then-rows-at
-returns-then-rows-at c = rule_unwalked (four_at c.args.objects.now c.args.k) c.args.mode c.args.marks.now (rule_past c.args.rows.now c.args.at c.args.begins c.if-rows-at.true)
-
-pub returns-then-cell-eq0 : goal.returns-then-cell-eq0
-returns-then-cell-eq0 c = rule_unwalked (four_at c.args.objects.now c.args.k) c.args.mode c.args.marks.now (rule_none c.args.rows.now c.args.at c.args.begins (omega arith) c.cell.ensures.0 c.if-cell-eq0.true)
+pub returns-in_default : goal.returns-in_default
+returns-in_default c = rule_unwalked (four_at c.args.objects.now c.args.k) c.args.mode c.args.marks.now c.in_default.ensures
 
 pub returns : goal.returns
-returns c = rule_walked (four_at c.args.objects.now c.args.k) c.args.mode c.args.marks.now (expression_at c.args.rows.now (c.args.at + 1)) (rule_so c.args.rows.now c.args.at c.args.begins (omega arith) c.cell.ensures.0 (c.if-not-begins.false) c.if-cell-eq0.false) c.walk_expr-e.ensures
+returns c = rule_walked (four_at c.args.objects.now c.args.k) c.args.mode c.args.marks.now (expression_at c.args.rows.now c.in-Some.at) c.in-Some.ensures c.walk_expr-e.ensures

@@ -1,17 +1,20 @@
+use mathlib.Core.Path.{◌≡◌, sym, ◌∙◌}
+use Prim.Native.Nat.{◌-◌}
 use native.Mathlib.Omega.{arith}
+use lib.ListN.{length}
 use Rattle.happening_forms.specs.Summed.{four_at}
 use Rattle.happening_meetings.proofs.Going.{onward_start}
 use Rattle.happening_meetings.proofs.Reading.{tests_over, tests_ended, tests_turn}
 use Rattle.happening_meetings.proofs.points.walk_tests.Goals as goal
 
-pub loop-left-init : goal.loop-left-init
-loop-left-init c = onward_start _ _ _
+pub loop-init : goal.loop-init
+loop-init c = let e : length c.args.rows.now - 0 ≡ length c.args.rows.now = omega arith in rw e (onward_start _ _ _)
 
-pub returns-then-is_end : goal.returns-then-is_end
-returns-then-is_end c = tests_ended c.args.rows.now (four_at c.args.objects.now c.args.k) c.loop-left.i c.loop-left.left c.loop-left.invariant c.test_at-row.ensures c.is_end.ensures c.if-is_end.true
+pub returns-in_default : goal.returns-in_default
+returns-in_default c = tests_ended c.args.rows.now (four_at c.args.objects.now c.args.k) c.loop.i (length c.args.rows.now - c.loop.counter) c.loop.invariant (sym c.test_at.ensures ∙ c.in_default.is)
 
-pub loop-left-preserved : goal.loop-left-preserved
-loop-left-preserved c = tests_turn c.args.rows.now (four_at c.args.objects.now c.args.k) c.loop-left.i c.loop-left.left c.loop-left.invariant c.test_at-row.ensures c.is_end.ensures c.loop-left-test.true c.if-is_end.false c.walk_row-v.ensures c.either-found.ensures
+pub loop-preserved : goal.loop-preserved
+loop-preserved c = tests_turn c.args.rows.now (four_at c.args.objects.now c.args.k) c.loop.i (length c.args.rows.now - c.loop.counter) c.loop.invariant (sym c.test_at.ensures ∙ c.in-Some.is) (omega arith) c.walk_row-v.ensures
 
 pub returns : goal.returns
-returns c = tests_over c.args.rows.now (four_at c.args.objects.now c.args.k) c.loop-left.i c.loop-left.left c.loop-left.invariant (omega arith)
+returns c = tests_over c.args.rows.now (four_at c.args.objects.now c.args.k) c.loop.i (length c.args.rows.now - c.loop.counter) c.loop.invariant (omega arith)

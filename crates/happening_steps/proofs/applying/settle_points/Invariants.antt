@@ -1,6 +1,5 @@
 use mathlib.Core.Path.{◌≡◌}
 use Prim.Native.Nat.{◌-◌}
-use lib.ListN.{length}
 use Rattle.happening_meaning.specs.Happening.{all_marks}
 use Rattle.happening_forms.specs.Summed.{summed}
 use Rattle.happening_placing.specs.Given.{points_in}
@@ -8,7 +7,4 @@ use Rattle.happening_writes.specs.Changing.{settle_all}
 use Rattle.happening_steps.proofs.applying.settle_points.Given as goal
 
 abbrev pub invariant-loop-j : goal.invariant-loop-j
-invariant-loop-j l = (settle_all l.source l.target (all_marks summed (points_in l.rows l.points l.objects (l.n - l.j) l.j)) ≡ settle_all l.source l.initial.target (all_marks summed (points_in l.rows l.points l.objects l.n 0))) × (length l.target ≡ length l.initial.target)
-
-abbrev pub decreases-loop-j : goal.decreases-loop-j
-decreases-loop-j l = l.n - l.j
+invariant-loop-j l = settle_all l.source l.target (all_marks summed (points_in l.rows l.points l.objects (l.n - l.j) l.j)) ≡ settle_all l.source l.initial.target (all_marks summed (points_in l.rows l.points l.objects l.n 0))

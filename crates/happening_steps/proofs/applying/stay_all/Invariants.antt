@@ -7,6 +7,3 @@ use Rattle.happening_steps.proofs.applying.stay_all.Given as goal
 
 abbrev pub invariant-loop-j : goal.invariant-loop-j
 invariant-loop-j l = each (stays summed l.fresh) (points_in l.rows l.points l.objects (l.n - l.j) l.j) ≡ each (stays summed l.fresh) (points_in l.rows l.points l.objects l.n 0)
-
-abbrev pub decreases-loop-j : goal.decreases-loop-j
-decreases-loop-j l = l.n - l.j

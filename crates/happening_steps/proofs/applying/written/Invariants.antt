@@ -8,6 +8,3 @@ use Rattle.happening_steps.proofs.applying.written.Given as goal
 
 abbrev pub invariant-loop-j : goal.invariant-loop-j
 invariant-loop-j l = mask_from l.mask (all_marks summed (points_in l.rows l.points l.objects (l.n - l.j) l.j)) ≡ mask_from 0 (all_marks summed (points_in l.rows l.points l.objects l.n 0))
-
-abbrev pub decreases-loop-j : goal.decreases-loop-j
-decreases-loop-j l = l.n - l.j

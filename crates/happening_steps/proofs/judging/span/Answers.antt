@@ -1,5 +1,5 @@
 use Rattle.happening_state.specs.States.{state_in}
-use Rattle.happening_steps.proofs.Tested.{spans_by}
+use Rattle.happening_steps.proofs.Spanned.{spans_by}
 use Rattle.happening_steps.proofs.judging.span.Goals as goal
 
 pub returns : goal.returns

@@ -1,4 +1,4 @@
-use Rattle.happening_steps.proofs.Tested.{watching_by}
+use Rattle.happening_steps.proofs.Spanned.{watching_by}
 use Rattle.happening_steps.proofs.judging.watched.Goals as goal
 
 pub returns : goal.returns

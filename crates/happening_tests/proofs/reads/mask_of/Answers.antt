@@ -1,13 +1,16 @@
+use mathlib.Core.Path.{sym, ◌∙◌}
+use Prim.Native.Nat.{◌-◌}
 use native.Mathlib.Omega.{arith}
+use lib.ListN.{length}
 use Rattle.happening_forms.specs.Summed.{four_at}
 use Rattle.happening_tests.proofs.Walking.{mask_spent, mask_end, mask_turn}
 use Rattle.happening_tests.proofs.reads.mask_of.Goals as goal
 
-pub returns-then-is_end : goal.returns-then-is_end
-returns-then-is_end c = mask_end c.args.rows.now (four_at c.args.objects.now c.args.k) c.loop-left.m c.loop-left.i c.loop-left.left c.loop-left.invariant c.test_at-row.ensures c.is_end.ensures c.if-is_end.true
+pub returns-in_default : goal.returns-in_default
+returns-in_default c = mask_end c.args.rows.now (four_at c.args.objects.now c.args.k) c.loop.m c.loop.i (length c.args.rows.now - c.loop.counter) c.loop.invariant (sym c.test_at.ensures ∙ c.in_default.is)
 
-pub loop-left-preserved : goal.loop-left-preserved
-loop-left-preserved c = mask_turn c.args.rows.now (four_at c.args.objects.now c.args.k) c.loop-left.m c.loop-left.i c.loop-left.left c.loop-left.invariant c.test_at-row.ensures c.is_end.ensures c.loop-left-test.true c.if-is_end.false c.row_mask-v.ensures
+pub loop-preserved : goal.loop-preserved
+loop-preserved c = mask_turn c.args.rows.now (four_at c.args.objects.now c.args.k) c.loop.m c.loop.i (length c.args.rows.now - c.loop.counter) c.loop.invariant (sym c.test_at.ensures ∙ c.in-Some.is) c.row_mask-v.ensures (omega arith)
 
 pub returns : goal.returns
-returns c = mask_spent c.args.rows.now (four_at c.args.objects.now c.args.k) c.loop-left.m c.loop-left.i c.loop-left.left c.loop-left.invariant (omega arith)
+returns c = mask_spent c.args.rows.now (four_at c.args.objects.now c.args.k) c.loop.m c.loop.i (length c.args.rows.now - c.loop.counter) c.loop.invariant (omega arith)

@@ -6,23 +6,23 @@ use Rattle.happening_tests.proofs.taken.test_at.Goals as goal
 pub returns-then-rows-at : goal.returns-then-rows-at
 returns-then-rows-at c = row_past c.args.rows.now (four_at c.args.objects.now c.args.k) c.args.at c.if-rows-at.true
 
-pub returns-then-tag-lt2 : goal.returns-then-tag-lt2
-returns-then-tag-lt2 c = row_low c.args.rows.now (four_at c.args.objects.now c.args.k) c.args.at (omega arith) c.cell-tag.ensures.0 c.if-tag-lt2.true
+pub returns-in-2-to-3 : goal.returns-in-2-to-3
+returns-in-2-to-3 c = row_same c.args.rows.now (four_at c.args.objects.now c.args.k) c.args.at (omega arith) c.cell-tag.ensures.0 (omega arith) (omega arith) c.same.ensures
 
-pub returns-then-tag-lt4 : goal.returns-then-tag-lt4
-returns-then-tag-lt4 c = row_same c.args.rows.now (four_at c.args.objects.now c.args.k) c.args.at (omega arith) c.cell-tag.ensures.0 c.if-tag-lt2.false c.if-tag-lt4.true c.same.ensures
+pub returns-in-4-to-7 : goal.returns-in-4-to-7
+returns-in-4-to-7 c = row_fact c.args.rows.now (four_at c.args.objects.now c.args.k) c.args.at (omega arith) c.cell-tag.ensures.0 (omega arith) (omega arith) c.fact.ensures
 
-pub returns-then-tag-lt8 : goal.returns-then-tag-lt8
-returns-then-tag-lt8 c = row_fact c.args.rows.now (four_at c.args.objects.now c.args.k) c.args.at (omega arith) c.cell-tag.ensures.0 c.if-tag-lt4.false c.if-tag-lt8.true c.fact.ensures
+pub returns-in-8-to-11 : goal.returns-in-8-to-11
+returns-in-8-to-11 c = row_no_fact c.args.rows.now (four_at c.args.objects.now c.args.k) c.args.at (omega arith) c.cell-tag.ensures.0 (omega arith) (omega arith) c.fact-in-8-to-11.ensures
 
-pub returns-then-tag-lt12 : goal.returns-then-tag-lt12
-returns-then-tag-lt12 c = row_no_fact c.args.rows.now (four_at c.args.objects.now c.args.k) c.args.at (omega arith) c.cell-tag.ensures.0 c.if-tag-lt8.false c.if-tag-lt12.true c.fact-then-tag-lt12.ensures
+pub returns-in-12-to-16 : goal.returns-in-12-to-16
+returns-in-12-to-16 c = row_compare c.args.rows.now (four_at c.args.objects.now c.args.k) c.args.at (omega arith) c.cell-tag.ensures.0 (omega arith) (omega arith)
 
-pub returns-then-tag-lt17 : goal.returns-then-tag-lt17
-returns-then-tag-lt17 c = row_compare c.args.rows.now (four_at c.args.objects.now c.args.k) c.args.at (omega arith) c.cell-tag.ensures.0 c.if-tag-lt12.false c.if-tag-lt17.true
+pub returns-in-17-to-21 : goal.returns-in-17-to-21
+returns-in-17-to-21 c = row_no_compare c.args.rows.now (four_at c.args.objects.now c.args.k) c.args.at (omega arith) c.cell-tag.ensures.0 (omega arith) (omega arith)
 
-pub returns-then-tag-lt22 : goal.returns-then-tag-lt22
-returns-then-tag-lt22 c = row_no_compare c.args.rows.now (four_at c.args.objects.now c.args.k) c.args.at (omega arith) c.cell-tag.ensures.0 c.if-tag-lt17.false c.if-tag-lt22.true
+pub returns-in_default : goal.returns-in_default
+returns-in_default c = row_low c.args.rows.now (four_at c.args.objects.now c.args.k) c.args.at (omega arith) c.cell-tag.ensures.0 (omega arith)
 
-pub returns : goal.returns
-returns c = row_high c.args.rows.now (four_at c.args.objects.now c.args.k) c.args.at (omega arith) c.cell-tag.ensures.0 c.if-tag-lt22.false
+pub returns-in_default-2 : goal.returns-in_default-2
+returns-in_default-2 c = row_high c.args.rows.now (four_at c.args.objects.now c.args.k) c.args.at (omega arith) c.cell-tag.ensures.0 (omega arith)

@@ -1,13 +1,9 @@
 use mathlib.Core.Path.{◌≡◌}
-use Prim.Native.Nat.{◌-◌}
-use lib.ListN.{length}
 use Rattle.happening_forms.specs.Summed.{four_at}
 use Rattle.happening_meaning.specs.Writes.{itself}
 use Rattle.happening_writes.specs.Rows.{marks_at}
+use Rattle.happening_writes.specs.Left.{left}
 use Rattle.happening_writes.proofs.clashes.itself.Given as goal
 
-abbrev pub invariant-loop-next : goal.invariant-loop-next
-invariant-loop-next l = itself (marks_at l.rows (four_at l.objects l.k) l.at) ≡ itself (marks_at l.rows (four_at l.objects l.k) l.from)
-
-abbrev pub decreases-loop-next : goal.decreases-loop-next
-decreases-loop-next l = length l.rows - l.at
+abbrev pub invariant-loop-m : goal.invariant-loop-m
+invariant-loop-m l = (goal.iterator-loop-m).can_next l.marks × (goal.iterator-loop-m).is_finite l.marks × (itself (left l.marks) ≡ itself (marks_at l.rows (four_at l.objects l.k) l.from))

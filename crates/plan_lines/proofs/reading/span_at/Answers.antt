@@ -1,3 +1,4 @@
+use Rattle.std.specs.Prelude.{Err}
 use borrow.Enum.Refused.{opened}
 use mathlib.Core.Path.{sym, ap, ◌∙◌}
 use native.Mathlib.Omega.{arith}
@@ -12,7 +13,7 @@ pub returns-in-End : goal.returns-in-End
 returns-in-End c = (lasting_none _ _ _ _ (sym c.sign_at-t.ensures ∙ c.in-End.is) c.if-lasting.false, omega arith)
 
 pub returns-in_default-t : goal.returns-in_default-t
-returns-in_default-t c = lasting_else _ _ _ _ _ c.sign_at-t.ensures (opened c.in_default.in_default-own.keys2) (opened c.in_default-t.in_default-t-own.keys2) c.refusal.ensures
+returns-in_default-t c = lasting_else _ _ _ _ _ c.sign_at-t.ensures (opened c.in_default.in_default-own.keys2) (opened c.in_default-t.in_default-t-own.keys2) (ap Err c.not_due.ensures)
 
 pub returns-then-b-ne91 : goal.returns-then-b-ne91
 returns-then-b-ne91 c = (lasting_other _ _ _ _ _ (sym c.sign_at-t.ensures ∙ c.in-Mark.is) _ c.if-b-ne91.true, tt)

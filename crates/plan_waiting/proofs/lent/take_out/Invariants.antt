@@ -1,9 +1,5 @@
-use Prim.Native.Nat.{◌+◌, ◌≤◌}
 use Rattle.plan_waiting.proofs.Moving.{Carried}
 use Rattle.plan_waiting.proofs.lent.take_out.Given as goal
 
 abbrev pub invariant-loop-i : goal.invariant-loop-i
-invariant-loop-i l = (l.i ≤ l.n + 1) × Carried l.initial.words l.words l.n l.p l.i l.carried
-
-abbrev pub decreases-loop-i : goal.decreases-loop-i
-decreases-loop-i l = l.i
+invariant-loop-i l = Carried l.initial.words l.words l.n l.p l.i l.carried

@@ -1,4 +1,4 @@
--- `program_arguments::files::fill` is safe and ends. Assumes nothing.
+-- `program_arguments::files::fill` is safe and ends, and answers no more than the block has. Assumes nothing.
 use mathlib.Core.Path.{◌≡◌}
 use Prim.Native.Nat.{◌-◌, ◌≤◌}
 use lib.ListN.{length}

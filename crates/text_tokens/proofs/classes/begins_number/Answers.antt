@@ -1,5 +1,4 @@
 use mathlib.Core.Path.{sym, ◌∙◌}
-use Prim.Native.Nat.{◌-◌}
 use native.Mathlib.Omega.{arith}
 use Rattle.text_tokens.proofs.Begun.{number_empty, number_digit, number_other, number_minus_end, number_minus}
 use Rattle.text_tokens.proofs.classes.begins_number.Goals as goal

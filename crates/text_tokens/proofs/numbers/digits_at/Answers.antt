@@ -1,4 +1,4 @@
-use mathlib.Core.Path.{sym, ◌∙◌}
+use mathlib.Core.Path.{◌≡◌, sym, ◌∙◌}
 use Prim.Native.Nat.{◌-◌}
 use native.Mathlib.Omega.{arith}
 use Rattle.base_laws.proofs.Numerals.{ten_to}
@@ -20,11 +20,8 @@ overflow_mul-value c = omega (arith, c.loop-end.invariant.small, c.least_end-sto
 pub overflow_add-value : goal.overflow_add-value
 overflow_add-value c = omega (arith, c.loop-end.invariant.small, c.digit.ensures.1, ten_to (c.loop-end.end - c.args.from) 9 (omega (arith, c.least_end-stop.ensures)))
 
-pub overflow_add-end : goal.overflow_add-end
-overflow_add-end c = omega (arith, c.least_end-stop.ensures)
-
 pub loop-end-preserved : goal.loop-end-preserved
 loop-end-preserved c = summed_more c.args.w.now c.args.from c.args.most c.loop-end.value c.loop-end.end c.loop-end.invariant c.digit.result (omega (arith, c.least_end-stop.ensures, c.loop-end-test.true)) (sym c.is_digit.ensures ∙ c.if-not-is_digit.false) c.digit.ensures.0 c.digit.ensures.1
 
 pub returns : goal.returns
-returns c = summed_over c.args.w.now c.args.from c.args.most c.loop-end.value c.loop-end.end c.loop-end.invariant (omega (arith, c.least_end-stop.ensures, c.loop-end-test.false)) c.requires.1
+returns c = let e : c.least_end-stop.result ≡ c.loop-end.end = omega (arith, c.least_end-stop.ensures) in rw e (summed_over c.args.w.now c.args.from c.args.most c.loop-end.value c.loop-end.end c.loop-end.invariant (omega (arith, c.least_end-stop.ensures, c.loop-end-test.false)) c.requires.1)

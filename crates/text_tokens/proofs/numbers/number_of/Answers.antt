@@ -1,7 +1,6 @@
 use native.Mathlib.Omega.{arith}
 use Rattle.text_tokens.proofs.Begun.{begun_length}
 use mathlib.Core.Path.{sym, ◌∙◌}
-use Prim.Native.Nat.{◌-◌}
 use lib.ListN.{drop}
 use Rattle.text_tokens.specs.Numbers.{number_of}
 use Rattle.text_tokens.proofs.Values.{number_small}

@@ -1,17 +1,16 @@
-use Prim.Native.Nat.{◌-◌}
 use native.Mathlib.Omega.{arith}
-use borrow.Author.Tests.{eq-eqb, ne_eqb}
+use Rattle.std.proofs.lemmas.Grind.{common_steps}
 use Rattle.text_tokens.specs.Numbers.{scale_of}
 use Rattle.text_tokens.proofs.numbers.scale.Goals as goal
 
-pub returns-then-n-eq1 : goal.returns-then-n-eq1
+pub returns-in-1 : goal.returns-in-1
 unfolding scale_of
-returns-then-n-eq1 c = (rw (eq-eqb _ _ c.if-n-eq1.true), omega arith)
+returns-in-1 c = (rw c.in-1.is, omega arith)
 
-pub returns-then-n-eq2 : goal.returns-then-n-eq2
+pub returns-in-2 : goal.returns-in-2
 unfolding scale_of
-returns-then-n-eq2 c = (rw (ne_eqb _ _ c.if-n-eq1.false, eq-eqb _ _ c.if-n-eq2.true), omega arith)
+returns-in-2 c = (rw c.in-2.is, omega arith)
 
-pub returns : goal.returns
+pub returns-in_default : goal.returns-in_default
 unfolding scale_of
-returns c = (rw (ne_eqb _ _ c.if-n-eq1.false, ne_eqb _ _ c.if-n-eq2.false), omega arith)
+returns-in_default c = grind (arith, common_steps)

@@ -1,6 +1,7 @@
-use mathlib.Core.Path.{sym, ◌∙◌}
-use mathlib.Core.Logic.{⊎_elim}
-use Prim.Native.Nat.{◌-◌}
+use mathlib.Core.Path.{◌≡◌, sym, ◌∙◌}
+use native.Mathlib.Omega.{arith}
+use native.Mathlib.Decide.{dec_le}
+use lib.ListN.{length}
 use Rattle.text_tokens.proofs.Steps.{gap_start, gap_over, gap_plain, gap_comment, gap_token}
 use Rattle.text_tokens.proofs.runs.gap_end.Goals as goal
 use Rattle.text_tokens.proofs.runs.gap_end.Goals.{in-Plain, in-Comment}
@@ -18,4 +19,7 @@ loop-at-preserved c = elim c.match-gap_step.branch [
 ]
 
 pub returns : goal.returns
-returns c = sym (c.loop-at.invariant ∙ gap_over _ _ _ c.loop-at-test.false)
+returns c = elim (dec_le c.args.from (length c.args.text.now)) [
+  | yes k ↦ let e : c.max.result ≡ c.loop-at.at = omega (arith, c.max.ensures) in rw e (sym (c.loop-at.invariant ∙ gap_over _ _ _ c.loop-at-test.false))
+  | no k ↦ let e : c.max.result ≡ c.args.from = omega (arith, c.max.ensures) in rw e (sym (gap_start _ _ ∙ gap_over _ _ _ (omega arith)))
+]

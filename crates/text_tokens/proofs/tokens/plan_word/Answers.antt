@@ -1,3 +1,4 @@
+use mathlib.Core.Logic.{⊎_elim}
 use mathlib.Core.Path.{sym, ◌∙◌}
 use Rattle.text_tokens.specs.Tokens.{plan_word}
 use Rattle.text_tokens.proofs.tokens.plan_word.Goals as goal
@@ -12,16 +13,8 @@ returns-in-Name c = c.sized.ensures ∙ rw (sym c.class_of.ensures ∙ c.in-Name
 
 pub returns-in-Variable : goal.returns-in-Variable
 unfolding plan_word
-returns-in-Variable c = c.strange.ensures ∙ rw (sym c.class_of.ensures ∙ c.in-Variable.is)
-
-pub returns-in-Keyword : goal.returns-in-Keyword
-unfolding plan_word
-returns-in-Keyword c = c.strange-in-Keyword.ensures ∙ rw (sym c.class_of.ensures ∙ c.in-Keyword.is)
+returns-in-Variable c = c.strange.ensures ∙ rw (← c.class_of.ensures) (⊎_elim (λ e. rw e) (λ e. rw e) c.in-Variable.is)
 
 pub returns-in-Operator : goal.returns-in-Operator
 unfolding plan_word
-returns-in-Operator c = rw (sym c.class_of.ensures ∙ c.in-Operator.is)
-
-pub returns-in-Other : goal.returns-in-Other
-unfolding plan_word
-returns-in-Other c = rw (sym c.class_of.ensures ∙ c.in-Other.is)
+returns-in-Operator c = rw (← c.class_of.ensures) (⊎_elim (λ e. rw e) (λ e. rw e) c.in-Operator.is)

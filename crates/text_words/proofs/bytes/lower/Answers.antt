@@ -1,15 +1,6 @@
-use borrow.Author.Tests.{lt-ltb, le-ltb}
-use Rattle.text_words.specs.Bytes.{lower_of}
+use mathlib.Core.Path.{◌∙◌}
+use Rattle.text_words.proofs.Named.{ascii_lower}
 use Rattle.text_words.proofs.bytes.lower.Goals as goal
 
-pub returns-then-b-lt65 : goal.returns-then-b-lt65
-unfolding lower_of
-returns-then-b-lt65 c = simp (lt-ltb _ _ c.if-b-lt65.true)
-
-pub returns-then-b-gt90 : goal.returns-then-b-gt90
-unfolding lower_of
-returns-then-b-gt90 c = simp (le-ltb _ _ c.if-b-lt65.false, lt-ltb _ _ c.if-b-gt90.true)
-
 pub returns : goal.returns
-unfolding lower_of
-returns c = simp (le-ltb _ _ c.if-b-lt65.false, le-ltb _ _ c.if-b-gt90.false)
+returns c = c.to_ascii_lowercase.ensures.value ∙ ascii_lower _

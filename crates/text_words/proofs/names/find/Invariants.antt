@@ -7,6 +7,3 @@ use Rattle.text_words.proofs.names.find.Given as goal
 
 abbrev pub invariant-loop-i : goal.invariant-loop-i
 invariant-loop-i l = (l.i ≤ l.n) × (l.at ≤ length l.rows) × (place_from 0 (names_of l.n l.rows) l.w ≡ place_from l.i (names_of (l.n - l.i) (drop l.at l.rows)) l.w)
-
-abbrev pub decreases-loop-i : goal.decreases-loop-i
-decreases-loop-i l = l.n - l.i

@@ -7,6 +7,3 @@ use Rattle.text_words.proofs.spelling.same_word.Given as goal
 
 abbrev pub invariant-loop-i : goal.invariant-loop-i
 invariant-loop-i l = (l.i ≤ length l.a) × (same_word (drop l.i l.a) (drop l.i l.b) ≡ true)
-
-abbrev pub decreases-loop-i : goal.decreases-loop-i
-decreases-loop-i l = l.i

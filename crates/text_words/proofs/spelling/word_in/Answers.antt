@@ -1,5 +1,4 @@
 use mathlib.Core.Path.{sym, ◌∙◌}
-use Prim.Native.Nat.{◌-◌}
 use native.Mathlib.Omega.{arith}
 use Rattle.text_words.proofs.Steps.{space_within, in_start, in_found, in_other, in_none}
 use Rattle.text_words.proofs.spelling.word_in.Goals as goal

@@ -1,6 +1,0 @@
-use mathlib.Core.Path.{sym}
-use lib.Seq.{set_out}
-use Rattle.happening_state.proofs.put.Goals as goal
-
-pub returns-else-i-numbers : goal.returns-else-i-numbers
-returns-else-i-numbers c = sym (set_out _ _ _ c.if-i-numbers.false)

@@ -1,8 +1,0 @@
--- `program_batch::main` is safe and ends: the measure is how many records may still come. Assumes nothing.
-use Rattle.program_batch.proofs.main.Given as goal
-
-abbrev pub invariant-loop-left : goal.invariant-loop-left
-invariant-loop-left l = Unit {0}
-
-abbrev pub decreases-loop-left : goal.decreases-loop-left
-decreases-loop-left l = l.left

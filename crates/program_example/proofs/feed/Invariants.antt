@@ -1,8 +1,0 @@
--- `program_example::feed` is safe and ends: the turns that are left go down.
-use Rattle.program_example.proofs.feed.Given as goal
-
-abbrev pub invariant-loop-turns : goal.invariant-loop-turns
-invariant-loop-turns g l = Unit {0}
-
-abbrev pub decreases-loop-turns : goal.decreases-loop-turns
-decreases-loop-turns g l = l.turns

@@ -1,8 +1,0 @@
-use borrow.Author.Tests.{le-leb, lt-leb}
-use Rattle.text_words.proofs.spelling.is_small.Goals as goal
-
-pub returns-then-b-lt97 : goal.returns-then-b-lt97
-returns-then-b-lt97 c = simp (lt-leb _ _ c.if-b-lt97.true)
-
-pub returns : goal.returns
-returns c = simp (le-leb _ _ c.if-b-lt97.false)
