@@ -89,16 +89,12 @@ fn begin(number: usize) -> PlanProgress
 pub fn settle(p: PlanProgress) -> PlanProgress
     ensures { result ≡ settled p }
 {
-    let past = p.past;
     PlanProgress {
-        used: p.used,
-        number: p.number,
-        start: p.start,
-        past,
         refused: false,
         refusal: 0,
         at: 0,
         column: 0,
+        ..p
     }
 }
 
@@ -106,17 +102,7 @@ pub fn settle(p: PlanProgress) -> PlanProgress
 pub fn lengthen(p: PlanProgress, used: usize) -> PlanProgress
     ensures { result ≡ settled (counted p p.number used) }
 {
-    let past = p.past;
-    PlanProgress {
-        used,
-        number: p.number,
-        start: p.start,
-        past,
-        refused: false,
-        refusal: 0,
-        at: 0,
-        column: 0,
-    }
+    settle(PlanProgress { used, ..p })
 }
 
 // Whether a part only makes the line longer: the check can be fed, and all of the part was added.

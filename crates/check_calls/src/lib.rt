@@ -111,15 +111,13 @@ impl Check {
     {
         let mut facts = self.facts;
         let mut numbers = self.numbers;
-        let mut fresh = numbers;
+        let mut fresh = self.numbers;
         let mut line = self.line;
-        let counts = self.model.counts;
-        let acting = self.model.acting;
-        let t = bytes::take_part(
+        let taken = bytes::take_part(
             &self.model.tables,
-            counts,
+            self.model.counts,
             &self.model.actions,
-            acting,
+            self.model.acting,
             &self.model.rows,
             &mut facts,
             &mut numbers,
@@ -129,15 +127,14 @@ impl Check {
             self.progress,
             part,
         );
-        let after = t.progress;
-        let stopped = after.refused;
-        if stopped {
+        let after = taken.progress;
+        if after.refused {
             let check = forming::refused_check(self.model, after, false);
             return check.answered(outputs::standing_answer(after));
         }
         self.facts = facts;
         self.numbers = numbers;
-        self.queue = plan_waiting::tidy(t.queue);
+        self.queue = plan_waiting::tidy(taken.queue);
         self.line = forming::tidy_line(&line, after.used);
         self.progress = forming::settle(after);
         self.answered(Answer::Done(0))
@@ -150,12 +147,10 @@ impl Check {
         if !self.is_formed() {
             return self.answered(Answer::Unformed);
         }
-        let finished = self.finished;
-        if finished {
+        if self.finished {
             return self.answered(Answer::Late);
         }
-        let refused = self.progress.refused;
-        if refused {
+        if self.progress.refused {
             return self.answered(outputs::standing_answer(self.progress));
         }
         self.take(part)
@@ -197,14 +192,12 @@ impl Check {
     {
         let mut facts = self.facts;
         let mut numbers = self.numbers;
-        let mut fresh = numbers;
-        let counts = self.model.counts;
-        let acting = self.model.acting;
+        let mut fresh = self.numbers;
         let after = stepping::end_plan(
             &self.model.tables,
-            counts,
+            self.model.counts,
             &self.model.actions,
-            acting,
+            self.model.acting,
             &self.model.rows,
             &self.model.goal,
             &mut facts,
@@ -214,8 +207,7 @@ impl Check {
             self.queue,
             self.progress,
         );
-        let stopped = after.refused;
-        if stopped {
+        if after.refused {
             let check = forming::refused_check(self.model, after, true);
             return check.answered(outputs::standing_answer(after));
         }
@@ -235,12 +227,10 @@ impl Check {
         if !self.is_formed() {
             return self.answered(Answer::Unformed);
         }
-        let finished = self.finished;
-        if finished {
+        if self.finished {
             return self.answered(Answer::Late);
         }
-        let refused = self.progress.refused;
-        if refused {
+        if self.progress.refused {
             self.finished = true;
             return self.answered(outputs::standing_answer(self.progress));
         }
@@ -254,8 +244,7 @@ impl Check {
         if !self.is_formed() {
             return self.answered(Answer::Unformed);
         }
-        let finished = self.finished;
-        if !finished {
+        if !self.finished {
             return self.answered(Answer::Early);
         }
         if line.len() < 64 {
@@ -272,12 +261,10 @@ impl Check {
         if !self.is_formed() {
             return self.answered(Answer::Unformed);
         }
-        let finished = self.finished;
-        if !finished {
+        if !self.finished {
             return self.answered(Answer::Early);
         }
-        let refused = self.progress.refused;
-        if refused {
+        if self.progress.refused {
             return self.answered(Answer::Stateless);
         }
         let n = self.model.sizes.facts;
@@ -295,12 +282,10 @@ impl Check {
         if !self.is_formed() {
             return self.answered(Answer::Unformed);
         }
-        let finished = self.finished;
-        if !finished {
+        if !self.finished {
             return self.answered(Answer::Early);
         }
-        let refused = self.progress.refused;
-        if refused {
+        if self.progress.refused {
             return self.answered(Answer::Stateless);
         }
         let n = self.model.sizes.numbers;

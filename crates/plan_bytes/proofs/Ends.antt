@@ -5,7 +5,7 @@ use mathlib.Core.List.{List, [], ◌∷◌}
 use mathlib.Core.Path.{◌≡◌, refl, sym, ◌∙◌}
 use native.Mathlib.Nat.{add-zero}
 use native.Mathlib.Omega.{arith}
-use borrow.Author.Tests.{eq-eqb, ne_eqb, lt-ltb, le-ltb, le-leb, lt-leb, ltb-true, ltb-false, leb-true, not-true}
+use borrow.Author.Tests.{eq-eqb, ne_eqb, lt-ltb, le-leb, ltb-true, ltb-false, leb-true, not-true}
 use lib.Dec.{eqb, leb, ltb}
 use lib.ListN.{length, drop, get_or, drop_of_length-le}
 use Rattle.base_laws.proofs.Lists.{at_cons}
@@ -56,7 +56,7 @@ pub record Ends (p : PlanProgress) (end left : ℕ) : Type 0 where
   pub room : end ≤ 256 - p.used
 
 module _ (p : PlanProgress) (end left : ℕ) where
-  pub ends_so : ends_line p end left ≡ true → Ends p end left
+  ends_so : ends_line p end left ≡ true → Ends p end left
   unfolding ends_line
   ends_so h =
       let c = and_left (not p.refused && leb p.number 1000000 && ltb end left) (leb end (256 - p.used)) h in
@@ -68,28 +68,19 @@ module _ (p : PlanProgress) (end left : ℕ) where
         room = leb-true end (256 - p.used) (and_right (not p.refused && leb p.number 1000000 && ltb end left) (leb end (256 - p.used)) h);
       }
 
-  pub ends_refused : p.refused ≡ true → false ≡ ends_line p end left
-  unfolding ends_line
-  ends_refused h = rw h
+  -- by the answer b of the test
+  pub ends_of : {b : Bool} → b ≡ ends_line p end left → b ≡ true → Ends p end left
+  ends_of e h = ends_so (sym e ∙ h)
 
-  module _ (goes : p.refused ≡ false) where
-    pub ends_beyond : 1000000 < p.number → false ≡ ends_line p end left
+  module _ (goes : p.refused ≡ false) (low : p.number ≤ 1000000) where
+    ends_room : end < left → leb end (256 - p.used) ≡ ends_line p end left
     unfolding ends_line
-    ends_beyond h = rw (goes, lt-leb p.number 1000000 h)
+    ends_room h = rw (goes, le-leb p.number 1000000 low, lt-ltb end left h)
 
-    module _ (low : p.number ≤ 1000000) where
-      pub ends_open : left ≤ end → false ≡ ends_line p end left
-      unfolding ends_line
-      ends_open h = rw (goes, le-leb p.number 1000000 low, le-ltb end left h)
-
-      pub ends_room : end < left → leb end (256 - p.used) ≡ ends_line p end left
-      unfolding ends_line
-      ends_room h = rw (goes, le-leb p.number 1000000 low, lt-ltb end left h)
-
-      -- there is room, so no LF is left
-      pub ends_not : end ≤ 256 - p.used → ends_line p end left ≡ false → left ≤ end
-      ends_not room h = go (ltb end left) refl
-        where
-          go : (b : Bool) → ltb end left ≡ b → left ≤ end
-          go true e = absurd (false≢true (sym h ∙ sym (ends_room (ltb-true end left e)) ∙ le-leb end (256 - p.used) room))
-          go false e = ltb-false end left e
+    -- there is room, so no LF is left
+    pub ends_not : end ≤ 256 - p.used → ends_line p end left ≡ false → left ≤ end
+    ends_not room h = go (ltb end left) refl
+      where
+        go : (b : Bool) → ltb end left ≡ b → left ≤ end
+        go true e = absurd (false≢true (sym h ∙ sym (ends_room (ltb-true end left e)) ∙ le-leb end (256 - p.used) room))
+        go false e = ltb-false end left e

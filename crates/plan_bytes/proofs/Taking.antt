@@ -1,24 +1,22 @@
 -- What the code keeps of a plan after a line that ends, and after what is left of a part. Assumes nothing.
-use Prim.Native.Nat.{ℕ, suc, ◌+◌, ◌-◌, ◌≤◌, ◌<◌}
+use Prim.Native.Nat.{ℕ, suc, ◌+◌, ◌≤◌, ◌<◌}
 use mathlib.Core.Bool.{true, false}
 use mathlib.Core.List.{List, ◌++◌, append-nil}
 use mathlib.Core.Path.{◌≡◌, refl, sym, ap, ◌∙◌}
 use native.Mathlib.Numerals.{add-one}
 use native.Mathlib.Omega.{arith}
-use lib.IntN.{ℤ}
 use lib.ListN.{length, take, drop, length-append, drop_of_length-le}
 use lib.Seq.{sets, sets-eq, take_at, take-append-add, take-take, length-take-le}
-use Rattle.happening_state.specs.States.{state_in}
 use Rattle.happening_meaning.specs.State.{State}
 use Rattle.happening_meaning.specs.declared.Outcome.{Outcome}
 use Rattle.plan_meaning.specs.Plan.{Rules}
 use Rattle.plan_meaning.specs.Machine as M
-use Rattle.plan_meaning.specs.Feed.{Feed, feed}
+use Rattle.plan_meaning.specs.Feed.{feed}
 use Rattle.plan_meaning.specs.Promised.{Act}
-use Rattle.plan_meaning.specs.Lines.{Known, Refused, reader, limits}
+use Rattle.plan_meaning.specs.Lines.{Known, reader, limits}
 use Rattle.plan_waiting.specs.declared.Queue.{Queue}
 use Rattle.plan_feeding.specs.declared.PlanProgress.{PlanProgress}
-use Rattle.plan_feeding.specs.Feeding.{refused_in, check_in, held_in, refusing, counted, Fit}
+use Rattle.plan_feeding.specs.Feeding.{refused_in, check_in, held_in, refusing, counted}
 use Rattle.plan_feeding.proofs.Keeping.{check_going, check_halted, check_counted}
 use Rattle.plan_bytes.specs.Ends.{line_end}
 use Rattle.plan_bytes.proofs.Machine.{feed_halted, feed_none, feed_beyond, feed_more, feed_long, feed_line}
@@ -26,9 +24,6 @@ use Rattle.plan_bytes.proofs.Machine.{feed_halted, feed_none, feed_beyond, feed_
 -- ---- bytes after those of the line so far
 
 module _ (line : List ℕ) (used : ℕ) (bs : List ℕ) where
-  pub begun_here : used ≡ 0 → take used line ++ bs ≡ bs
-  begun_here none = rw none
-
   pub longer : used + length bs ≤ length line → take (used + length bs) (sets line used bs) ≡ take used line ++ bs
   longer room =
       rw (sets-eq bs line used room)
@@ -99,34 +94,3 @@ module _ (R : Rules State Act Outcome) (k : Known) (s : State) (line : List ℕ)
       held_line end is within room s' line' q' p' taken number =
           rw (check_counted s' q' p' (p'.number + 1) 0, taken, number, add-one p.number, add-one end, is, check_going s q p goes)
           (sym (feed_line R limits (reader k) _ _ _ p.number low rest (take p.used line) (omega arith) (omega (arith, so_far))))
-
--- ---- what is kept between two lines
-
-pub record Memory : Type 0 where
-  pub facts : List ℕ
-  pub numbers : List ℤ
-  pub fresh : List ℤ
-  pub line : List ℕ
-  pub queue : Queue
-  pub progress : PlanProgress
-
-abbrev pub memory : List ℕ → List ℤ → List ℤ → List ℕ → Queue → PlanProgress → Memory
-memory facts numbers fresh line queue progress = record { facts = facts; numbers = numbers; fresh = fresh; line = line; queue = queue; progress = progress }
-
-abbrev pub held : Memory → Feed State Act Outcome Refused
-held m = held_in (state_in m.facts m.numbers) m.line m.queue m.progress
-
--- the next byte may come; n is the number of actions
-pub record Ready (n : ℕ) (m : Memory) : Type 0 where
-  pub fit : Fit n m.queue m.progress
-  pub long : length m.line ≡ 257
-
--- the lists are as long as they were
-pub record Sized (m₀ m : Memory) : Type 0 where
-  pub facts : length m.facts ≡ length m₀.facts
-  pub numbers : length m.numbers ≡ length m₀.numbers
-  pub fresh : length m.fresh ≡ length m₀.fresh
-  pub line : length m.line ≡ length m₀.line
-
-pub sized_same : (m : Memory) → Sized m m
-sized_same m = record { facts = refl; numbers = refl; fresh = refl; line = refl }

@@ -10,46 +10,34 @@ ghost use Rattle.plan_meaning.specs.Promised.{Act};
 ghost use Rattle.plan_meaning.specs.Machine as M;
 ghost use Rattle.plan_meaning.specs.Feed.{feed};
 ghost use Rattle.plan_meaning.specs.Lines.{reader, limits};
-ghost use Rattle.plan_waiting.specs.Lent.{queue_in};
-ghost use Rattle.plan_running.specs.Running.{rules_in, Rowed, Poised};
+ghost use Rattle.plan_running.specs.Running.{rules_in, queue_held, Rowed, IsPoised};
 ghost use Rattle.plan_lines.specs.Knowing.{Tabled, Headed, known_in};
 ghost use Rattle.plan_feeding.specs.Feeding.{check_in, held_in, counted, Fit};
 ghost use Rattle.plan_bytes.specs.Ends.{line_end, ends_line};
 
 use crate::Taken;
 use domain_terms::scope::Counts;
-use plan_feeding::{PlanProgress, Went, stepping};
-use plan_waiting::{Queue, lent};
+use plan_feeding::{PlanProgress, stepping};
+use plan_running::Workspace;
+use plan_waiting::Queue;
 
 // Another line, with so many bytes so far.
 fn counting(p: PlanProgress, number: usize, used: usize) -> PlanProgress
     ensures { result ≡ counted p number used }
 {
-    let past = p.past;
-    PlanProgress {
-        used,
-        number,
-        start: p.start,
-        past,
-        refused: p.refused,
-        refusal: p.refusal,
-        at: p.at,
-        column: p.column,
-    }
+    PlanProgress { used, number, ..p }
 }
 
 // Where the line ends: how many bytes stand before the first LF, all where there is none.
 pub fn line_end(part: &[u8]) -> usize
     ensures { result ≡ line_end part.now }
 {
-    let mut at = 0;
-    while at < part.len() {
-        if part[at] == b'\n' {
+    for (at, b) in part.iter().enumerate() {
+        if *b == b'\n' {
             return at;
         }
-        at += 1;
     }
-    at
+    part.len()
 }
 
 // Whether a line ends that is to be taken: the plan goes on, an LF is left, and there is room for the bytes before it.
@@ -57,64 +45,47 @@ fn ends_line(p: PlanProgress, end: usize, left: usize) -> bool
     requires { p.used ≤ 256 }
     ensures { result ≡ ends_line p end left }
 {
-    let refused = p.refused;
-    if refused {
-        return false;
-    }
-    if 1000000 < p.number {
-        return false;
-    }
-    if left <= end {
-        return false;
-    }
-    end <= 256 - p.used
+    !p.refused && p.number <= 1000000 && end < left && end <= 256 - p.used
 }
 
 // The line that ends with the bytes of `text`: it is read where it lies, or from the line so far where it began in an earlier part.
-fn take_ended<'a>(
-    tables: &'a [u8],
+fn take_ended(
+    work: &mut Workspace,
+    tables: &[u8],
     counts: Counts,
-    heads: &'a [u8],
+    heads: &[u8],
     acting: usize,
-    rows: &'a [u8],
+    rows: &[u8],
     facts: &mut [u8],
     numbers: &mut [i64],
     fresh: &mut [i64],
     line: &mut [u8],
-    words: &mut [usize; 640],
-    objects: &mut [u8; 256],
-    count: usize,
     p: PlanProgress,
-    text: &'a [u8],
-    points: &mut [usize; 256],
-    whos: &mut [u8; 256],
-    marks: &mut [u8; 17408],
-    watches: &mut [usize; 65],
-) -> Went
-    requires { Tabled tables.now counts × Headed heads.now acting × Fit acting (queue_in words.old objects.old count) p × (p.refused ≡ false)
+    text: &[u8],
+) -> PlanProgress
+    requires { Tabled tables.now counts × Headed heads.now acting × Fit acting (queue_held work.old) p × (p.refused ≡ false)
         × (length line.old ≡ 257) × (p.used + length text.now ≤ 256) × Rowed rows.now
-        × Poised rows.now words.old objects.old count marks.old watches.old facts.old numbers.old fresh.old }
+        × IsPoised rows.now work.old facts.old numbers.old fresh.old }
     ensures { ((c : Cond) (s : State)
-        → check_in (state_in facts.new numbers.new) (queue_in words.new objects.new result.count) result.progress
+        → check_in (state_in facts.new numbers.new) (queue_held work.new) result
         ≡ M.take (rules_in rows.now c (signed_in heads.now acting) s) limits
-        (check_in (state_in facts.old numbers.old) (queue_in words.old objects.old count) p)
+        (check_in (state_in facts.old numbers.old) (queue_held work.old) p)
         ((reader (known_in tables.now counts heads.now acting rows.now)).line p.number p.start
         (take p.used line.old ++ text.now)))
-        × Fit acting (queue_in words.new objects.new result.count) result.progress × (result.progress.number ≡ p.number)
+        × Fit acting (queue_held work.new) result × (result.number ≡ p.number)
         × (length line.new ≡ 257)
-        × Poised rows.now words.new objects.new result.count marks.new watches.new facts.new
-        numbers.new fresh.new }
+        × IsPoised rows.now work.new facts.new numbers.new fresh.new }
 {
     let used = p.used;
     if used == 0 {
         return stepping::take_line(
-            tables, counts, heads, acting, rows, facts, numbers, fresh, text, words, objects,
-            count, p, points, whos, marks, watches,
+            work, tables, counts, heads, acting, rows, facts, numbers, fresh, text, p,
         );
     }
     domain_rows::copy(line, used, text);
     let end = used + text.len();
     stepping::take_line(
+        work,
         tables,
         counts,
         heads,
@@ -124,27 +95,20 @@ fn take_ended<'a>(
         numbers,
         fresh,
         &line[..end],
-        words,
-        objects,
-        count,
         p,
-        points,
-        whos,
-        marks,
-        watches,
     )
 }
 
 // What is left of a part where no line ends that is to be taken: it makes the line longer, or is refused. After a refusal nothing changes any more.
-fn take_rest<'a>(
-    tables: &'a [u8],
+fn take_rest(
+    tables: &[u8],
     counts: Counts,
-    heads: &'a [u8],
+    heads: &[u8],
     acting: usize,
-    rows: &'a [u8],
+    rows: &[u8],
     line: &mut [u8],
     p: PlanProgress,
-    rest: &'a [u8],
+    rest: &[u8],
     end: usize,
 ) -> PlanProgress
     requires { Tabled tables.now counts × Headed heads.now acting × (p.used ≤ 256) × (length line.old ≡ 257) × (end ≡ line_end rest.now)
@@ -155,8 +119,7 @@ fn take_rest<'a>(
         (held_in s line.old q p) rest.now)
         × ((n : ℕ) (q : Queue) → Fit n q p → Fit n q result) × (length line.new ≡ 257) }
 {
-    let refused = p.refused;
-    if refused {
+    if p.refused {
         return p;
     }
     if rest.len() == 0 {
@@ -173,57 +136,41 @@ fn take_rest<'a>(
     }
     let first = room + 1;
     domain_rows::copy(line, used, &rest[..first]);
-    stepping::refuse_long(
-        tables,
-        counts,
-        heads,
-        acting,
-        rows,
-        line,
-        counting(p, p.number, 256),
-    )
+    let full = counting(p, p.number, 256);
+    stepping::refuse_long(tables, counts, heads, acting, rows, line, full)
 }
 
 // The bytes of a part, line by line, from LF to LF.
-fn take_bytes<'a>(
-    tables: &'a [u8],
+fn take_bytes(
+    work: &mut Workspace,
+    tables: &[u8],
     counts: Counts,
-    heads: &'a [u8],
+    heads: &[u8],
     acting: usize,
-    rows: &'a [u8],
+    rows: &[u8],
     facts: &mut [u8],
     numbers: &mut [i64],
     fresh: &mut [i64],
     line: &mut [u8],
-    words: &mut [usize; 640],
-    objects: &mut [u8; 256],
-    count: usize,
     progress: PlanProgress,
-    part: &'a [u8],
-    points: &mut [usize; 256],
-    whos: &mut [u8; 256],
-    marks: &mut [u8; 17408],
-    watches: &mut [usize; 65],
-) -> Went
-    requires { Tabled tables.now counts × Headed heads.now acting × Fit acting (queue_in words.old objects.old count) progress
+    part: &[u8],
+) -> PlanProgress
+    requires { Tabled tables.now counts × Headed heads.now acting × Fit acting (queue_held work.old) progress
         × (progress.refused ≡ false) × (length line.old ≡ 257) × Rowed rows.now
-        × Poised rows.now words.old objects.old count marks.old watches.old facts.old numbers.old fresh.old }
+        × IsPoised rows.now work.old facts.old numbers.old fresh.old }
     ensures { ((c : Cond) (s : State)
-        → held_in (state_in facts.new numbers.new) line.new (queue_in words.new objects.new result.count)
-        result.progress
+        → held_in (state_in facts.new numbers.new) line.new (queue_held work.new) result
         ≡ feed (rules_in rows.now c (signed_in heads.now acting) s) limits
         (reader (known_in tables.now counts heads.now acting rows.now))
-        (held_in (state_in facts.old numbers.old) line.old
-        (queue_in words.old objects.old count) progress)
-        part.now)
-        × Fit acting (queue_in words.new objects.new result.count) result.progress × (length line.new ≡ 257) }
+        (held_in (state_in facts.old numbers.old) line.old (queue_held work.old) progress) part.now)
+        × Fit acting (queue_held work.new) result × (length line.new ≡ 257) }
 {
-    let mut n = count;
     let mut p = progress;
     let mut rest = part;
     let mut end = line_end(part);
     while ends_line(p, end, rest.len()) {
-        let t = take_ended(
+        let next = take_ended(
+            work,
             tables,
             counts,
             heads,
@@ -233,26 +180,14 @@ fn take_bytes<'a>(
             numbers,
             fresh,
             line,
-            words,
-            objects,
-            n,
             p,
             &rest[..end],
-            points,
-            whos,
-            marks,
-            watches,
         );
-        n = t.count;
-        let next = t.progress;
         p = counting(next, next.number + 1, 0);
         rest = &rest[end + 1..];
         end = line_end(rest);
     }
-    Went {
-        count: n,
-        progress: take_rest(tables, counts, heads, acting, rows, line, p, rest, end),
-    }
+    take_rest(tables, counts, heads, acting, rows, line, p, rest, end)
 }
 
 // A part of a plan: the points that wait are laid out for the time of the call.
@@ -279,36 +214,12 @@ pub fn take_part<'a>(
         (held_in (state_in facts.old numbers.old) line.old queue progress) part.now)
         × Fit acting result.queue result.progress × (length line.new ≡ 257) }
 {
-    let mut words = [0usize; 640];
-    let mut objects = [0u8; 256];
-    let mut points = [0usize; 256];
-    let mut whos = [0u8; 256];
-    let mut marks = [0u8; 17408];
-    let mut watches = [0usize; 65];
-    lent::lend(queue, &mut words, &mut objects);
-    let w = take_bytes(
-        tables,
-        counts,
-        heads,
-        acting,
-        rows,
-        facts,
-        numbers,
-        fresh,
-        line,
-        &mut words,
-        &mut objects,
-        queue.count,
-        progress,
-        part,
-        &mut points,
-        &mut whos,
-        &mut marks,
-        &mut watches,
+    let mut work = Workspace::new(queue);
+    let next = take_bytes(
+        &mut work, tables, counts, heads, acting, rows, facts, numbers, fresh, line, progress, part,
     );
-    let next = w.progress;
     Taken {
-        queue: lent::back(&words, &objects, w.count),
+        queue: work.queue(),
         progress: next,
     }
 }

@@ -1,12 +1,11 @@
 -- What a line's reader answers, by the answer's variant: what the definition reads, and what the machine makes of it. Assumes nothing.
 use mathlib.Core.Path.{◌≡◌, refl, sym, ap, ◌∙◌}
-use Prim.Native.Nat.{ℕ, ◌+◌, ◌-◌}
+use Prim.Native.Nat.{ℕ, ◌+◌}
 use mathlib.Core.Bool.{false}
 use mathlib.Core.List.{List}
 use mathlib.Core.Option.{Option, some, none}
 use native.Mathlib.Omega.{arith}
-use lib.ListN.{length, take}
-use Rattle.text_tokens.specs.Runs.{part}
+use lib.ListN.{length}
 use Rattle.domain_meaning.specs.Read.{Read, got, refused}
 use Rattle.happening_meaning.specs.State.{State}
 use Rattle.happening_meaning.specs.declared.Outcome.{Outcome}
@@ -112,9 +111,6 @@ module _ (R : Rules State Act Outcome) (s : State) (q : Queue) (p : PlanProgress
   taken_step new y b is = rw (still, (lined_read n l y x b h).is) is
 
 -- ---- the step of a line of a text
-
-pub part_first : (s : List ℕ) (n : ℕ) → part s 0 n ≡ take n s
-part_first s n = let e : n - 0 ≡ n = omega arith in rw e
 
 module _ (s : List ℕ) (k : Known) (m before n : ℕ) (y : D.Step) (g : Got n y (line_at s k m before 0)) where
   pub read_line : y.line ≡ m

@@ -1,6 +1,6 @@
 -- A step that is taken, over plain values: the points that wait are counted, and its own are refused or wait with them. Assumes nothing.
-use mathlib.Core.Path.{◌≡◌, refl, ap}
-use Prim.Native.Nat.{ℕ, zero, suc, ◌+◌, ◌≤◌, ◌<◌}
+use mathlib.Core.Path.{◌≡◌}
+use Prim.Native.Nat.{◌+◌, ◌≤◌, ◌<◌}
 use mathlib.Core.Bool.{false}
 use mathlib.Core.List.{◌++◌}
 use native.Mathlib.Omega.{arith}
@@ -17,20 +17,12 @@ use Rattle.plan_meaning.specs.Stored.{step_in}
 use Rattle.plan_meaning.specs.declared.Step.{Step}
 use Rattle.plan_waiting.specs.Waiting.{waiting}
 use Rattle.plan_waiting.specs.declared.Queue.{Queue}
-use Rattle.plan_waiting.proofs.Points.{one_point, two_points}
 use Rattle.plan_running.specs.Running.{run_in}
 use Rattle.plan_running.specs.declared.Past.{Past}
 use Rattle.plan_feeding.specs.declared.PlanProgress.{PlanProgress}
 use Rattle.plan_feeding.specs.Feeding.{check_in, refusing, going}
 
 -- ---- the points of a step after those that wait
-
-pub points_few : (x : Step) → length (points_of (step_in x)) ≤ 2
-points_few x = go x.duration refl
-  where
-    go : (d : ℕ) → x.duration ≡ d → length (points_of (step_in x)) ≤ 2
-    go zero e = omega (arith, ap length (one_point x e))
-    go (suc d) e = omega (arith, ap length (two_points x (λ z. let y : ⊥ = omega (arith, e, z) in y)))
 
 module _ (q : Queue) (x : Step) where
   pub count_waits : length q.slots ≡ 64 → q.count ≤ 64 → length (waiting q) ≡ q.count

@@ -20,10 +20,3 @@ pub struct PlanProgress {
     pub at: usize,
     pub column: usize,
 }
-
-// How many points wait, in lent numbers, and what else is kept.
-#[derive(Clone, Copy)]
-pub struct Went {
-    pub count: usize,
-    pub progress: PlanProgress,
-}

@@ -12,10 +12,9 @@ use Rattle.happening_meaning.specs.Happening as H
 use Rattle.happening_meaning.specs.Happening.{is_done, Happened, happened, happening, spanning, reached, promises}
 use Rattle.happening_meaning.specs.declared.Outcome.{Outcome}
 use Rattle.happening_meaning.specs.declared.Outcome.TheVariants.{Done}
-use Rattle.happening_meaning.proofs.Failing.{Fails, fails}
 use Rattle.happening_steps.specs.Instants.{instant_of}
 use Rattle.happening_steps.proofs.Promised.{instant_done, instant_failed}
-use Rattle.plan_meaning.specs.Plan.{Step, Point, Run, Rules, tested, after, instant, judged}
+use Rattle.plan_meaning.specs.Plan.{Step, Point, Run, Rules, tested, after, instant}
 use Rattle.plan_meaning.specs.Promised.{Act, step_for, point_for, failure, outcome_of, rules_of}
 use Rattle.plan_running.specs.Running.{run_in}
 use Rattle.plan_running.specs.declared.Past.{Past}
@@ -33,15 +32,6 @@ run_tested o t s = go (is_done o) refl
     go : (b : Bool) → is_done o ≡ b → run_in (past o t) s ≡ tested t s (failure o)
     go true e = rw e
     go false e = rw e
-
--- after a failure nothing happens any more
-module _ (R : Rules State Act Outcome) (p : Past) (s : State) (f : Fails p.outcome) where
-  pub instant_past : (t : ℕ) (ps : List (Point Act)) (xs : List (Step Act)) → run_in p s ≡ instant R t ps xs (run_in p s)
-  instant_past t [] xs = refl
-  instant_past t (q ∷ ps) xs = rw (fails p.outcome f)
-
-  pub judged_past : run_in p s ≡ judged R (run_in p s)
-  judged_past = rw (fails p.outcome f)
 
 -- ---- a run that has not failed
 
@@ -67,7 +57,3 @@ module _ (g : Grounds) (c : Cond) (actions : List Action) (s₀ : State) where
   instant_run t [] xs l p s d eh eq ey = absurd (let y : ⊥ = omega arith in y)
   instant_run t (q ∷ ps) xs l p s d eh eq ey =
       rw d (ap (leaves t) (rw (eq, ey) at eh) ∙ after_run t s (map (point_for actions) (q ∷ ps)) xs)
-
-  pub judged_run : (p : Past) (s : State) → p.outcome ≡ Done → {o : Outcome} → o ≡ reached g c s
-      → run_in (record { outcome = o; time = p.time }) s ≡ judged R (run_in p s)
-  judged_run p s d {o} e = rw (d, ← e) (run_tested o p.time s)

@@ -1,18 +1,14 @@
 -- Step 5 for the line at a place, and for all lines as they came: a line that held, and looks at nothing that was written, need not be judged. Assumes nothing.
 use Prim.Native.Nat.{ℕ, ◌+◌, ◌%◌, ◌≤◌, ◌<◌}
-use mathlib.Core.Bool.{Bool, true, false, cond, true≢false, ◌&&◌}
+use mathlib.Core.Bool.{Bool, true, false, true≢false}
 use mathlib.Core.List.{List, ◌∷◌}
 use mathlib.Core.Logic.{◌⊎◌, inl, inr}
 use mathlib.Core.Path.{◌≡◌, refl, sym, ap, ◌∙◌}
 use native.Mathlib.Nat.{mod-lt, zero-lt-suc, eq-or-lt_of_le}
 use native.Mathlib.Numerals.{add-one}
 use native.Mathlib.Omega.{arith}
-use borrow.Author.Tests.{ltb-true, eqb-true}
-use lib.Bits.{bit_and}
-use lib.Dec.{eqb, ltb}
 use lib.ListN.{length, length-take, drop, get_or, set, length-set, drop_of_length-le}
 use lib.Seq.{get_or-set_same, get_or-set_other, get_or-take, drop-cons, length-take-le}
-use Rattle.base_laws.proofs.Splits.{and_left, and_right}
 use Rattle.domain_prepared_meaning.specs.Decode.{action_at}
 use Rattle.happening_meaning.specs.State.{State}
 use Rattle.happening_meaning.specs.Happening as H
@@ -23,7 +19,6 @@ use Rattle.happening_meaning.proofs.Failing.{Fails, fails}
 use Rattle.happening_forms.specs.Summed.{summed}
 use Rattle.happening_placing.specs.Given.{nameless, line_at}
 use Rattle.happening_placing.proofs.Placing.{four_are}
-use Rattle.happening_steps.specs.Watching.{watching}
 use Rattle.happening_steps.proofs.Promised.{spanning_end, spanning_turn, spanning_fails}
 use Rattle.plan_meaning.specs.declared.Step.{Step}
 use Rattle.plan_meaning.specs.declared.Slot.{Slot}
@@ -43,65 +38,6 @@ line_on rows words objects p el ea =
   where
     step_with : Step → List ℕ → H.Step
     step_with x os = step_of x.line (action_at rows (x.action % 32) nameless) os x.duration
-
-either_done : (b : Bool) {o : Outcome} → (b ≡ true → o ≡ Done) → Done ≡ cond b o Done
-either_done true h = sym (h refl)
-either_done false h = refl
-
-module _ (rows : List ℕ) (x : Slot) (p t held written : ℕ) (watches : List ℕ) (s : State) (long : length watches ≡ 65)
-    (spares : x.ends ≡ true → x.step.start < held → Spares rows x (get_or watches p 0) written s) where
-  ended : is_open t x ≡ true → x.ends ≡ true
-  ended h = and_left x.ends (ltb t _) h
-
-  -- it held, and nothing that it looks at was written
-  pub judged_spared : {b : Bool} → b ≡ (ltb x.step.start held && eqb (bit_and (get_or watches p 0) written) 0) → b ≡ true
-      → Judged rows x p t watches watches s Done
-  judged_spared eb h =
-      let both = sym eb ∙ h in
-      let l : x.step.start < held = ltb-true x.step.start held (and_left (ltb x.step.start held) (eqb (bit_and (get_or watches p 0) written) 0) both) in
-      let z : bit_and (get_or watches p 0) written ≡ 0 =
-      eqb-true (bit_and (get_or watches p 0) written) 0 (and_right (ltb x.step.start held) (eqb (bit_and (get_or watches p 0) written) 0) both) in
-      record {
-        long = long;
-        other = λ j n. refl;
-        outcome = either_done (is_open t x) (λ g. let k = spares (ended g) l in k.1 (rw k.0 at z));
-        watch = λ g. (spares (ended g) l).0;
-      }
-
-  -- it is not under way
-  pub judged_shut : is_open t x ≡ false → Judged rows x p t watches watches s Done
-  judged_shut h =
-      record {
-        long = long;
-        other = λ j n. refl;
-        outcome = rw h;
-        watch = λ g. absurd (true≢false (sym g ∙ h));
-      }
-
-  module _ (under : is_open t x ≡ true) (few : p < 64) {watches' : List ℕ}
-      (ew : watches' ≡ cond (ltb x.step.start held) watches (set watches p (watching summed (step_on rows x.step))))
-      {r : Outcome} (er : r ≡ spans summed s (step_on rows x.step)) where
-    pub judged_open : Judged rows x p t watches watches' s r
-    judged_open = go (ltb x.step.start held) refl
-      where
-        go : (b : Bool) → ltb x.step.start held ≡ b → Judged rows x p t watches watches' s r
-        go true h =
-            let same : watches' ≡ watches = rw h at ew in
-            record {
-              long = ap length same ∙ long;
-              other = λ j n. ap (λ (l : List ℕ). get_or l j 0) same;
-              outcome = rw under er;
-              watch = λ g. ap (λ (l : List ℕ). get_or l p 0) same ∙ (spares (ended g) (ltb-true x.step.start held h)).0;
-            }
-        go false h =
-            let w = watching summed (step_on rows x.step) in
-            let more : watches' ≡ set watches p w = rw h at ew in
-            record {
-              long = ap length more ∙ length-set watches p w ∙ long;
-              other = λ j n. ap (λ (l : List ℕ). get_or l j 0) more ∙ get_or-set_other watches p j w 0 n;
-              outcome = rw under er;
-              watch = λ g. ap (λ (l : List ℕ). get_or l p 0) more ∙ get_or-set_same watches p w 0 (omega arith);
-            }
 
 -- nothing is claimed of any line
 pub spanned_none : (rows words objects : List ℕ) (n t : ℕ) (watches : List ℕ) (s : State) → length watches ≡ 65
@@ -131,10 +67,6 @@ module _ (rows words objects : List ℕ) (n t : ℕ) (s : State) where
     pub rest : (k : ℕ) → i ≤ k → k < n → get_or watches (place_at words k) 0 ≡ get_or watches₀ (place_at words k) 0
     pub done : (k : ℕ) → k < i → is_open t (slot_on words objects k) ≡ true → Holds rows (slot_on words objects k) (get_or watches (place_at words k) 0) s
     pub left : spans_from i ≡ spanning summed s (lines_on rows t waits)
-
-  pub judging_none : (watches : List ℕ) → length watches ≡ 65 → Judging watches watches 0
-  judging_none watches long =
-      record { most = omega arith; long = long; rest = λ k h l. refl; done = λ k h. absurd (let y : ⊥ = omega arith in y); left = refl }
 
   module _ {watches₀ watches : List ℕ} {i : ℕ} (k : Judging watches₀ watches i) where
     pub spares_here : {written : ℕ} → Spared rows words objects n watches₀ written s → i < n → {p : ℕ} → p ≡ place_at words i

@@ -8,9 +8,8 @@ use native.Mathlib.Omega.{arith}
 use borrow.Author.Tests.{leb-true, lt-ltb, le-ltb, ltb-true, ltb-false, eqb-true}
 use lib.Dec.{leb, ltb}
 use lib.IntN.{ℤ}
-use lib.ListN.{length, get_or, set, replicate, length-map, length-set, length-replicate}
-use lib.Seq.{get_or-take, get_or-set_same, get_or-set_other, length-take-le}
-use Rattle.base_laws.proofs.Splits.{and_left}
+use lib.ListN.{length, get_or, replicate, length-map, length-replicate}
+use lib.Seq.{get_or-take, length-take-le}
 use Rattle.happening_meaning.specs.State.{State}
 use Rattle.happening_meaning.specs.Happening.{Point, all_marks, happened, happening}
 use Rattle.happening_meaning.specs.declared.Outcome.{Outcome}
@@ -71,10 +70,6 @@ module _ {rows words objects : List ℕ} {n : ℕ} {watches : List ℕ} {s : Sta
             let k = w.lines i h e l in
             (k.0, λ z. unwatched summed s ps eh (step_on rows (slot_on words objects i).step) (rw ew at z) ∙ k.1);
       }
-
-  -- after a failure nothing happens
-  pub watched_spanned : (t : ℕ) → Spanned rows words objects n t watches s
-  watched_spanned t = record { long = w.long; lines = λ i h g. w.lines i h (and_left (slot_on words objects i).ends (ltb t _) g) }
 
 -- ---- all points have the time of the happening
 
@@ -163,16 +158,6 @@ module _ {rows words objects : List ℕ} {n t : ℕ} {watches : List ℕ} {s : S
       }
 
 -- ---- less is claimed
-
-pub claimed_less : (watches : List ℕ) (b : ℕ) → length watches ≡ 65 → b < get_or watches 64 0 → Claimed watches (set watches 64 b) b
-claimed_less watches b long h =
-    let there : get_or (set watches 64 b) 64 0 ≡ b = get_or-set_same watches 64 b 0 (omega arith) in
-    record {
-      long = length-set watches 64 b ∙ long;
-      other = λ j n. get_or-set_other watches 64 j b 0 n;
-      less = omega arith;
-      most = omega arith;
-    }
 
 pub watched_less : {rows words objects : List ℕ} {n : ℕ} {watches watches' : List ℕ} {s : State} {b : ℕ} → Watched rows words objects n watches s
     → Claimed watches watches' b → Watched rows words objects n watches' s

@@ -12,9 +12,6 @@ use Rattle.plan_waiting.specs.Lent.{slot_in, slot_at, queue_in, begin_in, place_
 use Rattle.plan_waiting.proofs.LentPlaces.{timed_place, mapped_at}
 
 module _ (words objects : List ℕ) (n i : ℕ) (t : Timed (queue_in words objects n)) (h : i < n) where
-  pub place_few : i < 64
-  place_few = let few = t.1.0 in omega arith
-
   pub place_timed : {p : ℕ} → p ≡ place_at words i → TimedWord words p
   place_timed ep = rw ep (timed_place words n i (objects, t) h)
 

@@ -13,13 +13,18 @@ use Rattle.plan_meaning.specs.Plan.{Run, going, failed, Rules}
 use Rattle.plan_meaning.specs.Machine.{soonest}
 use Rattle.plan_meaning.specs.Promised.{Act, rules_of}
 use Rattle.plan_waiting.specs.Waiting.{waiting}
-use Rattle.plan_waiting.specs.Lent.{place_at, Kept}
+use Rattle.plan_waiting.specs.Lent.{place_at, queue_in, Kept}
 use Rattle.plan_waiting.specs.declared.Queue.{Queue}
 use Rattle.plan_running.specs.declared.Past.{Past}
-use Rattle.plan_running.specs.Lines.{slot_on, Holds}
+use Rattle.plan_running.specs.declared.Workspace.{Workspace}
+use Rattle.plan_running.specs.Lines.{slot_on, Holds, Spanned}
 
 abbrev pub run_in : Past → State → Run State Outcome
 run_in p s = cond (is_done p.outcome) (going s p.time) (failed s p.time p.outcome)
+
+-- the points that wait where a call works
+abbrev pub queue_held : Workspace → Queue
+queue_held w = queue_in w.words w.objects w.count
 
 -- by the promises of the layer of happenings: the goal is c, es are the actions' declarations, s the first state
 abbrev pub rules_in : List ℕ → Cond → Table → State → Rules State Act Outcome
@@ -47,3 +52,15 @@ pub record Poised (rows words objects : List ℕ) (n : ℕ) (marks watches facts
   pub clean : marks ≡ no_marks
   pub same : fresh ≡ numbers
   pub watched : Watched rows words objects n watches (state_in facts numbers)
+
+abbrev pub IsPoised : List ℕ → Workspace → List ℕ → List ℤ → List ℤ → Type 0
+IsPoised rows w facts numbers fresh = Poised rows w.words w.objects w.count w.marks w.watches facts numbers fresh
+
+-- what a happening at t leaves beside the run so far: the points that wait as they were, and what is known of the lines under way
+pub record Settled (rows : List ℕ) (t : ℕ) (before after : Workspace) (facts : List ℕ) (numbers fresh : List ℤ) : Type 0 where
+  pub words : after.words ≡ before.words
+  pub objects : after.objects ≡ before.objects
+  pub count : after.count ≡ before.count
+  pub same : fresh ≡ numbers
+  pub clean : after.marks ≡ no_marks
+  pub spanned : Spanned rows before.words before.objects before.count t after.watches (state_in facts numbers)

@@ -4,10 +4,12 @@ ghost use Rattle.happening_placing.specs.Given.{points_in};
 ghost use Rattle.plan_meaning.specs.Machine.{soonest};
 ghost use Rattle.plan_meaning.specs.declared.Slot.{Slot};
 ghost use Rattle.plan_waiting.specs.Waiting.{used, waiting};
-ghost use Rattle.plan_waiting.specs.Lent.{queue_in, Kept};
+ghost use Rattle.plan_waiting.specs.Lent.{Kept};
+ghost use Rattle.plan_running.specs.Running.{queue_held};
 ghost use Rattle.plan_running.specs.Lines.{points_on};
 ghost use Rattle.plan_running.specs.Laid.{Laid};
 
+use crate::Workspace;
 use plan_meaning::Slot;
 use plan_waiting::lent;
 
@@ -29,27 +31,21 @@ fn lay(points: &mut [usize], whos: &mut [u8], j: usize, s: Slot)
     whos[i + 3] = x.d;
 }
 
-// The points of the soonest time t, by line number: how many.
-pub fn lay_points<'a>(
-    words: &'a [usize; 640],
-    objects: &'a [u8; 256],
-    n: usize,
-    t: usize,
-    points: &mut [usize; 256],
-    whos: &mut [u8; 256],
-) -> usize
-    requires { Kept words.now objects.now n }
-    ensures { (result ≤ 64) × ((b : ℕ) → t ≡ soonest b (waiting (queue_in words.now objects.now n))
-        → (result ≡ length (points_on [] t (used (queue_in words.now objects.now n)))) × ((rows : List ℕ)
-        → points_in rows points.new whos.new result 0
-        ≡ points_on rows t (used (queue_in words.now objects.now n)))) }
-{
-    let k = lent::due(words, n, t);
-    let mut i = 0;
-    while i < k {
-        let s = lent::slot_at(words, objects, lent::due_place(words, i));
-        lay(points, whos, i, s);
-        i += 1;
+impl Workspace {
+    // The points of the soonest time t, by line number: how many.
+    pub fn lay_points(&mut self, t: usize) -> usize
+        requires { Kept self.old.words self.old.objects self.old.count }
+        ensures { (result ≤ 64) × (self.new ≡ record self.old { points = self.new.points; whos = self.new.whos })
+            × ((b : ℕ) → t ≡ soonest b (waiting (queue_held self.old))
+            → (result ≡ length (points_on [] t (used (queue_held self.old)))) × ((rows : List ℕ)
+            → points_in rows self.new.points self.new.whos result 0
+            ≡ points_on rows t (used (queue_held self.old)))) }
+    {
+        let k = lent::due(&self.words, self.count, t);
+        for i in 0..k {
+            let s = lent::slot_at(&self.words, &self.objects, lent::due_place(&self.words, i));
+            lay(&mut self.points, &mut self.whos, i, s);
+        }
+        k
     }
-    k
 }

@@ -12,8 +12,10 @@ end_plan-after-requires c =
     let long : Long c.args.self = record { tables = search rules; heads = search rules; rows = search rules; line = search rules } in
     ready_for c.args.self c.requires.0 long c.requires.2
 
-pub returns-then-stopped : goal.returns-then-stopped
-returns-then-stopped c = c.answered.ensures ∙ finish_stopped c.args.self c.requires.0 c.requires.1 c.requires.2 (state_in c.end_plan-after.new.facts c.end_plan-after.new.numbers) c.end_plan-after.result (c.end_plan-after.ensures any_state) c.if-stopped.true _ c.refused_check-check.ensures _ c.standing_answer.ensures
+pub returns-then-after : goal.returns-then-after
+returns-then-after c = let check = c.args.self in let after = c.end_plan-after in
+    c.answered.ensures ∙ finish_stopped check c.requires.0 c.requires.1 c.requires.2 (state_in after.new.facts after.new.numbers) after.result (after.ensures any_state) c.if-after.true _ c.refused_check-check.ensures _ c.standing_answer.ensures
 
 pub returns : goal.returns
-returns c = c.answered-2.ensures ∙ finish_goes c.args.self c.requires.0 c.requires.1 c.requires.2 (state_in c.end_plan-after.new.facts c.end_plan-after.new.numbers) c.end_plan-after.result (c.end_plan-after.ensures any_state) c.if-stopped.false _ (replicate 257 0) _ c.nobody-self.ensures (zeros_padded 257) c.end-self.ensures
+returns c = let check = c.args.self in let after = c.end_plan-after in
+    c.answered-2.ensures ∙ finish_goes check c.requires.0 c.requires.1 c.requires.2 (state_in after.new.facts after.new.numbers) after.result (after.ensures any_state) c.if-after.false _ (replicate 257 0) _ c.nobody-self.ensures (zeros_padded 257) c.end-self.ensures

@@ -1,4 +1,3 @@
-use mathlib.Core.Bool.{true}
 use mathlib.Core.Path.{sym, ◌∙◌}
 use Rattle.check_calls.specs.Calls.{feed_of}
 use Rattle.check_calls.proofs.Calling.{unformed, late, feed_stands}
@@ -8,12 +7,12 @@ pub returns-then-not-is_formed : goal.returns-then-not-is_formed
 unfolding feed_of
 returns-then-not-is_formed c = c.answered.ensures ∙ unformed _ _ (sym c.is_formed.ensures ∙ c.if-not-is_formed.true)
 
-pub returns-then-finished : goal.returns-then-finished
+pub returns-then-self : goal.returns-then-self
 unfolding feed_of
-returns-then-finished c = c.answered-then-finished.ensures ∙ late _ _ (sym c.is_formed.ensures ∙ c.if-not-is_formed.false) c.if-finished.true
+returns-then-self c = c.answered-then-self.ensures ∙ late _ _ (sym c.is_formed.ensures ∙ c.if-not-is_formed.false) c.if-self.true
 
-pub returns-then-refused : goal.returns-then-refused
-returns-then-refused c = c.answered-then-refused.ensures ∙ feed_stands _ (sym c.is_formed.ensures ∙ c.if-not-is_formed.false) c.if-finished.false c.if-refused.true _ c.standing_answer.ensures _
+pub returns-then-self-2 : goal.returns-then-self-2
+returns-then-self-2 c = c.answered-then-self-2.ensures ∙ feed_stands _ (sym c.is_formed.ensures ∙ c.if-not-is_formed.false) c.if-self.false c.if-self-2.true _ c.standing_answer.ensures _
 
 pub take-requires : goal.take-requires
-take-requires c = ((sym c.is_formed.ensures ∙ c.if-not-is_formed.false), c.if-finished.false, c.if-refused.false)
+take-requires c = ((sym c.is_formed.ensures ∙ c.if-not-is_formed.false), c.if-self.false, c.if-self-2.false)

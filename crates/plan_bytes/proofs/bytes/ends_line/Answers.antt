@@ -1,14 +1,12 @@
-use Rattle.plan_bytes.proofs.Ends.{ends_refused, ends_beyond, ends_open, ends_room}
+use native.Mathlib.Omega.{arith}
+use Rattle.std.proofs.lemmas.Grind.{common_steps}
+use Rattle.plan_bytes.specs.Ends.{ends_line}
 use Rattle.plan_bytes.proofs.bytes.ends_line.Goals as goal
 
-pub returns-then-refused : goal.returns-then-refused
-returns-then-refused c = ends_refused _ _ _ c.if-refused.true
+pub returns-then-end-left : goal.returns-then-end-left
+unfolding ends_line
+returns-then-end-left c = grind (arith, common_steps)
 
-pub returns-then-p-gt1000000 : goal.returns-then-p-gt1000000
-returns-then-p-gt1000000 c = ends_beyond _ _ _ c.if-refused.false c.if-p-gt1000000.true
-
-pub returns-then-left-end : goal.returns-then-left-end
-returns-then-left-end c = ends_open _ _ _ c.if-refused.false c.if-p-gt1000000.false c.if-left-end.true
-
-pub returns : goal.returns
-returns c = ends_room _ _ _ c.if-refused.false c.if-p-gt1000000.false c.if-left-end.false
+pub returns-else-end-left : goal.returns-else-end-left
+unfolding ends_line
+returns-else-end-left c = grind (arith, common_steps)
