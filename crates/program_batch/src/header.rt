@@ -26,7 +26,7 @@ pub fn read_line(line: &mut [u8; 96]) -> &[u8] {
     line
 }
 
-// The number that a line begins with, the byte behind it, and what stands after that.
+// The number that a line begins with, the byte after it, and what stands after that.
 fn field(line: &[u8]) -> Option<(usize, u8, &[u8])> {
     let end = line.iter().position(|b| !b.is_ascii_digit())?;
     if end == 0 {
@@ -35,7 +35,7 @@ fn field(line: &[u8]) -> Option<(usize, u8, &[u8])> {
     Some((input::decimal(&line[..end]), line[end], &line[end + 1..]))
 }
 
-// The number that a line begins with, with this byte behind it, and what stands after that.
+// The number that a line begins with, with this byte after it, and what stands after that.
 fn field_before(byte: u8, line: &[u8]) -> Option<(usize, &[u8])> {
     let (number, end, rest) = field(line)?;
     if end == byte {
