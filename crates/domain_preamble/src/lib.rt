@@ -21,6 +21,13 @@ use vocabulary::declared_section;
 // What was begun: the place after it, the name from, to, and how many names each table has.
 pub type Preamble = Result<(usize, usize, usize, Counts), Refusal>;
 
+// A section that was read: the place after it, and how many names it declares.
+#[derive(Clone, Copy)]
+pub struct Section {
+    pub end: usize,
+    pub n: usize,
+}
+
 // The declarations after the flags of a domain whose name is from p to e, each kind in a table of its own.
 fn tables_at(
     text: &[u8],
@@ -38,15 +45,18 @@ fn tables_at(
         → Listed (length text.now) n from p e result types.new objects.new predicates.new functions.new
         (vocabulary text.now 0) }
 {
-    let (at, tn) = vocabulary::types_section(text, from, types)?;
-    let (at, constants) = vocabulary::constants_section(text, at, types, tn, objects)?;
-    let (at, pn) = declared_section(text, at, b":predicates", types, tn, predicates, 32, 3)?;
-    let (end, count) = declared_section(text, at, b":functions", types, tn, functions, 16, 2)?;
+    let (at, n) = vocabulary::types_section(text, from, types)?;
+    let ts = Section { end: at, n };
+    let (at, n) = vocabulary::constants_section(text, ts.end, types, ts.n, objects)?;
+    let os = Section { end: at, n };
+    let (at, n) = declared_section(text, os.end, b":predicates", types, ts.n, predicates, 32, 3)?;
+    let ps = Section { end: at, n };
+    let (end, n) = declared_section(text, ps.end, b":functions", types, ts.n, functions, 16, 2)?;
     let counts = Counts {
-        types: tn,
-        objects: constants,
-        predicates: pn,
-        functions: count,
+        types: ts.n,
+        objects: os.n,
+        predicates: ps.n,
+        functions: n,
         variables: 0,
         in_action: false,
     };

@@ -7,4 +7,5 @@ pub mod Settling
 pub mod Turning
 pub mod Joining
 pub mod Masking
+pub mod Showing
 pub mod Walking

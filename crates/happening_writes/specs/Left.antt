@@ -3,7 +3,8 @@ use Rattle.std.specs.Prelude.{List}
 use Rattle.happening_meaning.specs.declared.Mark.{Mark}
 use Rattle.happening_forms.specs.Summed.{four_at}
 use Rattle.happening_writes.specs.Rows.{marks_at}
+use Rattle.happening_writes.specs.Asking.{shown_all}
 use Rattle.happening_writes.specs.declared.marks.Marks.{Marks}
 
 abbrev pub left : Marks → List Mark
-left w = marks_at w.rows.now (four_at w.objects.now w.k) w.at
+left w = shown_all w.asked (marks_at w.rows.now (four_at w.objects.now w.k) w.at)

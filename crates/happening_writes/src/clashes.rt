@@ -4,9 +4,10 @@ ghost use Rattle.domain_prepared_meaning.specs.Decode.{effects_at};
 ghost use Rattle.happening_meaning.specs.Writes.{undo, collide, against, some, itself, right_reads};
 ghost use Rattle.happening_forms.specs.Summed.{summed, four_at};
 ghost use Rattle.happening_writes.specs.Rows.{marks_at};
+ghost use Rattle.happening_writes.specs.Asking.{asked_against};
 ghost use Rattle.happening_writes.specs.Left.{left};
 
-use crate::marks::Marks;
+use crate::marks::{Asked, Marks};
 use crate::rows;
 use happening_expressions::reads;
 use happening_meaning::Mark;
@@ -41,12 +42,22 @@ fn against(m: Mark, n: Mark) -> bool
     collide(m, n) || undo(m, n)
 }
 
+// What to ask for where one that can't be together with an effect is looked for.
+fn asked_against(m: Mark) -> Asked
+    ensures { result ≡ asked_against m }
+{
+    match m {
+        Mark::Fact(added, _) => Asked::Facts(!added),
+        Mark::Nothing | Mark::Number(..) => Asked::Numbers,
+    }
+}
+
 // Whether an effect of another point can't be together with one of the list at a place.
 pub fn clashes<'a>(rows: &'a [u8], objects: &'a [u8; 256], k: usize, from: usize, m: Mark) -> bool
     requires { k < 64 }
     ensures { result ≡ some (against m) (marks_at rows.now (four_at objects.now k) from) }
 {
-    Marks::new(rows, objects, k, from).any(|n| against(m, n))
+    Marks::asking(rows, objects, k, from, asked_against(m)).any(|n| against(m, n))
 }
 
 // Whether a mark collides with one of those after it: only a number does.
@@ -60,12 +71,12 @@ fn collided(m: Mark, mut later: Marks) -> bool
 }
 
 // Step 2: "no number is assigned twice, or assigned and also raised or lowered".
-#[tactic(auto, unfolding(happening_meaning::specs::Writes::itself))]
+#[tactic(auto, using(crate::proofs::Showing::itself_asked), unfolding(happening_meaning::specs::Writes::itself))]
 pub fn itself<'a>(rows: &'a [u8], objects: &'a [u8; 256], k: usize, from: usize) -> bool
     requires { k < 64 }
     ensures { result ≡ itself (marks_at rows.now (four_at objects.now k) from) }
 {
-    let mut marks = Marks::new(rows, objects, k, from);
+    let mut marks = Marks::asking(rows, objects, k, from, Asked::Numbers);
     while let Some(m) = marks.next() {
         if collided(m, marks) {
             return true;

@@ -6,11 +6,11 @@ ghost use Rattle.happening_forms.specs.Summed.{four_at};
 ghost use Rattle.happening_writes.specs.Rows.{marks_at};
 ghost use Rattle.happening_writes.specs.Changing.{write_fact, adds};
 
-use crate::marks::Marks;
+use crate::marks::{Asked, Marks};
 use happening_meaning::Mark;
 
 // The facts that a point adds (`add`) or deletes. The answer: whether this point, or an earlier one, adds a fact at all.
-#[tactic(auto, unfolding(happening_meaning::specs::Happening::each_mark, happening_meaning::specs::Writes::some, crate::specs::Changing::adds, happening_meaning::specs::Happening::with, happening_meaning::specs::Happening::without))]
+#[tactic(auto, using(crate::proofs::Showing::facts_asked, crate::proofs::Showing::adds_asked), unfolding(happening_meaning::specs::Happening::each_mark, happening_meaning::specs::Writes::some, crate::specs::Changing::adds, happening_meaning::specs::Happening::with, happening_meaning::specs::Happening::without))]
 pub fn write_facts<'a>(
     rows: &'a [u8],
     facts: &mut [u8],
@@ -26,7 +26,7 @@ pub fn write_facts<'a>(
         × (result ≡ (earlier || some adds (marks_at rows.now (four_at objects.now k) from))) }
 {
     let mut any = earlier;
-    for m in Marks::new(rows, objects, k, from) {
+    for m in Marks::asking(rows, objects, k, from, Asked::Facts(add)) {
         if let Mark::Fact(added, x) = m {
             any |= added;
             if added == add {

@@ -2,7 +2,7 @@
 #![tactic(auto)]
 
 mod layout;
-mod watching;
+pub mod watching;
 
 ghost use Rattle.std.specs.Prelude.{◌≡◌, ℕ, ◌≤◌, ◌<◌, List, ℤ, length, get_or};
 ghost use Rattle.domain_meaning.specs.Tables.{Table};

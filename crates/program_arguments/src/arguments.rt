@@ -1,6 +1,7 @@
 // The arguments: `[--state] [--names] [--part N] [--quiet] [--] DOMAIN PROBLEM PLAN`, and `--answer-on-3`, which the script `khushelvo` gives.
 ghost use Rattle.std.specs.Prelude.{◌≡◌};
-ghost use Rattle.program_arguments.specs.Arguments.{argument_of, option_of, size_in};
+ghost use Rattle.std.specs.Result.{result_ok};
+ghost use Rattle.program_arguments.specs.Arguments.{argument_of, option_of, size_in, right};
 
 use crate::files;
 use program_quotes::stderr;
@@ -37,25 +38,25 @@ pub struct Options {
     pub plan: usize,
 }
 
-// What the arguments up to one of them say.
+// What the arguments say, right or wrong.
 #[derive(Clone, Copy, Default)]
-struct Given {
-    state: bool,
-    names: bool,
-    quiet: bool,
-    answer_on_3: bool,
+pub struct Given {
+    pub state: bool,
+    pub names: bool,
+    pub quiet: bool,
+    pub answer_on_3: bool,
     // none if the size that was given is wrong
-    part: Option<usize>,
+    pub part: Option<usize>,
     // whether the last argument was `--part`
-    expects: bool,
+    pub expects: bool,
     // whether all that follows is files
-    ended: bool,
-    domain: Option<usize>,
-    problem: Option<usize>,
-    plan: Option<usize>,
+    pub ended: bool,
+    pub domain: Option<usize>,
+    pub problem: Option<usize>,
+    pub plan: Option<usize>,
     // the first option that is unknown, and the first file that is too many
-    unknown: Option<usize>,
-    extra: Option<usize>,
+    pub unknown: Option<usize>,
+    pub extra: Option<usize>,
 }
 
 // What is wrong with the arguments.
@@ -163,7 +164,10 @@ impl Given {
     }
 
     // After the last argument.
-    fn options(self) -> Result<Options, Wrong> {
+    #[tactic(auto, unfolding(crate::specs::Arguments::right))]
+    fn options(self) -> Result<Options, Wrong>
+        ensures { result_ok result ≡ right self }
+    {
         if let Some(i) = self.unknown {
             return Err(Wrong::Unknown(i));
         }
@@ -187,7 +191,7 @@ impl Given {
 }
 
 // Argument by argument. One that is longer than 4,096 bytes counts as empty.
-fn read_all(rt: &impl Env) -> Given {
+pub fn read(rt: &impl Env) -> Given {
     let mut given = Given {
         part: Some(65536),
         ..Given::default()
@@ -226,10 +230,11 @@ impl Wrong {
     }
 }
 
-// What the arguments ask for; or says what is wrong with them.
-pub fn read(rt: &impl Env) -> Option<Options> {
-    read_all(rt)
-        .options()
-        .inspect_err(|wrong| wrong.say(rt))
-        .ok()
+impl Given {
+    // What the arguments ask for; or says what is wrong with them.
+    pub fn if_right(self, rt: &impl Env) -> Option<Options>
+        ensures { result ≡ right self }
+    {
+        self.options().inspect_err(|wrong| wrong.say(rt)).ok()
+    }
 }

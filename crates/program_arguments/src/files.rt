@@ -8,7 +8,9 @@ use std::io::{Input, Read};
 use std::rt::{Env, Files};
 
 // Argument i, in a lent block; empty if there is none or it is longer than the block.
-fn argument<'a>(rt: &impl Env, i: usize, block: &'a mut [u8; 4096]) -> &'a [u8] {
+fn argument<'a>(rt: &impl Env, i: usize, block: &'a mut [u8; 4096]) -> &'a [u8]
+    ensures { length result.now ≤ 4096 }
+{
     match rt.arg(i, block) {
         Ok(n) => &block[..n],
         Err(_) => b"",

@@ -13,9 +13,9 @@ fn answer(line: &[u8]) -> Option<()> {
     let mut problem = [0u8; 65536];
     let domain = reading::read(&mut domain, head.domain)?;
     let problem = reading::read(&mut problem, head.problem)?;
-    let opened = check_calls::load(domain, problem);
-    let check = plan::feed(opened.check, head.plan, head.part)?;
-    replies::write(opened.answer, check);
+    let mut opened = check_calls::load(domain, problem);
+    plan::feed(&mut opened.check, head.plan, head.part)?;
+    replies::write(opened.answer, &opened.check);
     Some(())
 }
 

@@ -67,7 +67,7 @@ fn check(
 
 // All three files are opened before any is read, so that a missing one is said at once.
 fn main(rt: HostRuntime) {
-    let Some(options) = arguments::read(&rt) else {
+    let Some(options) = arguments::read(&rt).if_right(&rt) else {
         return;
     };
     let Some(mut domain) = files::open(&rt, options.domain) else {

@@ -56,23 +56,24 @@ pub fn named(outcome: Outcome) -> [Option<usize>; 2] {
     }
 }
 
-// Whether a point of the line waits.
-fn waits(queue: &Queue, line: usize) -> bool {
-    queue
-        .slots
-        .iter()
-        .take(queue.count)
-        .any(|slot| slot.step.line == line)
-}
-
-// Whether a line is to be kept after a part: that of a refusal, those of the first failure, or else those that wait.
-fn is_wanted(progress: &PlanProgress, queue: &Queue, line: usize) -> bool {
+// The first line from `from` on that is to be kept after a part: that of a refusal, one of the first failure, or else one that waits.
+fn first_wanted(progress: &PlanProgress, queue: &Queue, from: usize) -> Option<usize> {
     if progress.refused {
-        return progress.at == line;
+        return Some(progress.at).filter(|line| from <= *line);
     }
     match progress.past.outcome {
-        Outcome::Done => waits(queue, line),
-        outcome => named(outcome).contains(&Some(line)),
+        Outcome::Done => queue
+            .slots
+            .iter()
+            .take(queue.count)
+            .map(|slot| slot.step.line)
+            .filter(|line| from <= *line)
+            .min(),
+        outcome => named(outcome)
+            .into_iter()
+            .flatten()
+            .filter(|line| from <= *line)
+            .min(),
     }
 }
 
@@ -113,18 +114,31 @@ impl Lines {
     // Makes room: a line that is no more wanted goes.
     fn forget(&mut self, progress: &PlanProgress, queue: &Queue) {
         for line in self.kept.iter_mut() {
-            *line = line.filter(|l| is_wanted(progress, queue, l.number));
+            if line.as_ref().is_some_and(|l| first_wanted(progress, queue, l.number)
+                != Some(l.number))
+            {
+                *line = None;
+            }
         }
     }
 
-    // Goes over a part that was fed, with what is known after it.
+    // Goes over a part that was fed, with what is known after it. Room is made once, before the first line that is kept.
     pub fn keep(&mut self, progress: &PlanProgress, queue: &Queue, part: &[u8]) {
-        self.forget(progress, queue);
+        let mut wanted = first_wanted(progress, queue, self.last.number);
+        let mut has_room = false;
         for b in part {
-            if *b == b'\n' {
-                self.end_line(is_wanted(progress, queue, self.last.number));
-            } else {
+            if *b != b'\n' {
                 self.last.add(*b);
+                continue;
+            }
+            let is_wanted = wanted == Some(self.last.number);
+            if is_wanted && !has_room {
+                self.forget(progress, queue);
+                has_room = true;
+            }
+            self.end_line(is_wanted);
+            if is_wanted {
+                wanted = first_wanted(progress, queue, self.last.number);
             }
         }
     }
