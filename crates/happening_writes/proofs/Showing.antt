@@ -5,13 +5,18 @@ use mathlib.Core.Bool.{Bool, true, false, cond, not, ◌||◌, ◌&&◌}
 use Prim.Native.Nat.{ℕ}
 use lib.Dec.{eqb}
 use lib.IntN.{ℤ}
+use Rattle.std.specs.Iterator.{YieldsFirst}
+use Rattle.std.specs.declared.option.Option.{Option}
+use Rattle.std.specs.declared.option.Option.TheVariants.{Some, None}
 use Rattle.happening_meaning.specs.Writes.{some, collide, undo, against, itself}
 use Rattle.happening_meaning.specs.Happening.{each_mark, with, without, leaves}
 use Rattle.happening_meaning.specs.declared.Mark.{Mark}
 use Rattle.happening_meaning.specs.declared.Mark.TheVariants.{Nothing, Fact, Number}
 use Rattle.happening_writes.specs.declared.marks.Asked.{Asked}
 use Rattle.happening_writes.specs.declared.marks.Asked.TheVariants.{All, Facts, Numbers}
+use Rattle.happening_writes.specs.declared.marks.Marks.{Marks}
 use Rattle.happening_writes.specs.Asking.{asks_fact, asks_number, asked_against, shown, shown_all}
+use Rattle.happening_writes.specs.Left.{left}
 use Rattle.happening_writes.specs.Changing.{settle_one, settle_all, write_fact, adds}
 
 pub shown_whole : (ms : List Mark) → shown_all All ms ≡ ms
@@ -20,6 +25,11 @@ shown_whole [] = refl
 shown_whole (Nothing ∷ ms) = ap (λ (ks : List Mark). Nothing ∷ ks) (shown_whole ms)
 shown_whole (Fact a x ∷ ms) = ap (λ (ks : List Mark). Fact a x ∷ ks) (shown_whole ms)
 shown_whole (Number a x ∷ ms) = ap (λ (ks : List Mark). Number a x ∷ ks) (shown_whole ms)
+
+-- a step of a walk that asks for all gives what is written
+pub whole_first : (s t : Marks) (r : Option Mark) → YieldsFirst (λ w. shown_all All (left w)) s r t → YieldsFirst left s r t
+whole_first s t None h = (sym (shown_whole (left s)) ∙ h.0, sym (shown_whole (left t)) ∙ h.1)
+whole_first s t (Some m) h = sym (shown_whole (left s)) ∙ h ∙ ap (λ (ks : List Mark). m ∷ ks) (shown_whole (left t))
 
 -- ---- one step: the first is shown, and what is left of the rest
 

@@ -5,9 +5,9 @@ ghost use Rattle.happening_meaning.specs.Writes.{undo, collide, against, some, i
 ghost use Rattle.happening_forms.specs.Summed.{summed, four_at};
 ghost use Rattle.happening_writes.specs.Rows.{marks_at};
 ghost use Rattle.happening_writes.specs.Asking.{asked_against};
-ghost use Rattle.happening_writes.specs.Left.{left};
+ghost use Rattle.happening_writes.specs.Left.{shown_left};
 
-use crate::marks::{Asked, Marks};
+use crate::marks::{Asked, Walk};
 use crate::rows;
 use happening_expressions::reads;
 use happening_meaning::Mark;
@@ -57,12 +57,12 @@ pub fn clashes<'a>(rows: &'a [u8], objects: &'a [u8; 256], k: usize, from: usize
     requires { k < 64 }
     ensures { result ≡ some (against m) (marks_at rows.now (four_at objects.now k) from) }
 {
-    Marks::asking(rows, objects, k, from, asked_against(m)).any(|n| against(m, n))
+    Walk::asking(rows, objects, k, from, asked_against(m)).any(|n| against(m, n))
 }
 
 // Whether a mark collides with one of those after it: only a number does.
-fn collided(m: Mark, mut later: Marks) -> bool
-    ensures { result ≡ some (collide m) (left later.entry) }
+fn collided(m: Mark, mut later: Walk) -> bool
+    ensures { result ≡ some (collide m) (shown_left later.entry) }
 {
     match m {
         Mark::Number(..) => later.any(|n| collide(m, n)),
@@ -76,7 +76,7 @@ pub fn itself<'a>(rows: &'a [u8], objects: &'a [u8; 256], k: usize, from: usize)
     requires { k < 64 }
     ensures { result ≡ itself (marks_at rows.now (four_at objects.now k) from) }
 {
-    let mut marks = Marks::asking(rows, objects, k, from, Asked::Numbers);
+    let mut marks = Walk::asking(rows, objects, k, from, Asked::Numbers);
     while let Some(m) = marks.next() {
         if collided(m, marks) {
             return true;

@@ -6,7 +6,7 @@ ghost use Rattle.happening_forms.specs.Summed.{four_at};
 ghost use Rattle.happening_writes.specs.Rows.{marks_at};
 ghost use Rattle.happening_writes.specs.Changing.{write_fact, adds};
 
-use crate::marks::{Asked, Marks};
+use crate::marks::{Asked, Walk};
 use happening_meaning::Mark;
 
 // The facts that a point adds (`add`) or deletes. The answer: whether this point, or an earlier one, adds a fact at all.
@@ -26,7 +26,7 @@ pub fn write_facts<'a>(
         × (result ≡ (earlier || some adds (marks_at rows.now (four_at objects.now k) from))) }
 {
     let mut any = earlier;
-    for m in Marks::asking(rows, objects, k, from, Asked::Facts(add)) {
+    for m in Walk::asking(rows, objects, k, from, Asked::Facts(add)) {
         if let Mark::Fact(added, x) = m {
             any |= added;
             if added == add {

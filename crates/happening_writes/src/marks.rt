@@ -1,4 +1,4 @@
-// What the effects of a list write, one after the other.
+// What the effects of a list write, one after the other: all of it, or what a walk asks for.
 ghost use Rattle.std.specs.Prelude.{◌≡◌, ◌<◌};
 
 use crate::rows;
@@ -22,8 +22,14 @@ pub struct Marks<'a> {
     objects: &'a [u8; 256],
     k: usize,
     at: usize,
-    asked: Asked,
     ghost point: { k < 64 },
+}
+
+// The same effects, with the index 0 in place of one that isn't asked for.
+#[derive(Clone, Copy)]
+pub struct Walk<'a> {
+    marks: Marks<'a>,
+    asked: Asked,
 }
 
 impl Asked {
@@ -51,35 +57,21 @@ impl Asked {
 
 impl<'a> Marks<'a> {
     ghost use Rattle.std.specs.Prelude.{◌≤◌, cond, length};
+    ghost use Rattle.std.specs.Iterator.{YieldsFirst};
     ghost use Rattle.happening_forms.specs.Summed.{four_at};
     ghost use Rattle.happening_writes.specs.Rows.{placed, marks_at};
     ghost use Rattle.happening_writes.specs.Asking.{shown_all};
     ghost use Rattle.happening_writes.specs.Left.{left};
 
-    #[tactic(auto, using(crate::proofs::Showing::shown_whole))]
     pub fn new(rows: &'a [u8], objects: &'a [u8; 256], k: usize, from: usize) -> Self
         requires { k < 64 }
         ensures { left result ≡ marks_at rows.now (four_at objects.now k) from }
-    {
-        Marks::asking(rows, objects, k, from, Asked::All)
-    }
-
-    pub fn asking(
-        rows: &'a [u8],
-        objects: &'a [u8; 256],
-        k: usize,
-        from: usize,
-        asked: Asked,
-    ) -> Self
-        requires { k < 64 }
-        ensures { left result ≡ shown_all asked (marks_at rows.now (four_at objects.now k) from) }
     {
         Marks {
             rows,
             objects,
             k,
             at: from,
-            asked,
         }
     }
 
@@ -95,26 +87,13 @@ impl<'a> Marks<'a> {
             0
         }
     }
-}
 
-impl Iterator for Marks<'_> {
-    ghost use Rattle.std.specs.Iterator.{YieldsFirst, item_count};
-    ghost use Rattle.happening_writes.specs.Left.{left};
-
-    type Item = Mark;
-
-    ghost next_gives = { YieldsFirst left };
-
-    ghost remaining = { item_count left };
-
+    // The next effect, with the index 0 if it isn't asked for. Inlined, so that a walk has no code for an index that it never asks for.
     #[inline(always)]
-    fn next(&mut self) -> Option<Mark> {
-        let Marks {
-            rows,
-            at,
-            asked,
-            ..
-        } = *self;
+    fn step(&mut self, asked: Asked) -> Option<Mark>
+        ensures { YieldsFirst (λ w. shown_all asked (left w)) self.old result self.new }
+    {
+        let Marks { rows, at, .. } = *self;
         let row = rows::effect_at(rows, at)?;
         match row {
             Row::Fact {
@@ -132,5 +111,98 @@ impl Iterator for Marks<'_> {
                 Some(Mark::Number(how.assigns(), x))
             }
         }
+    }
+}
+
+impl Iterator for Marks<'_> {
+    ghost use Rattle.std.specs.Iterator.{YieldsFirst, item_count};
+    ghost use Rattle.happening_writes.specs.Left.{left};
+
+    type Item = Mark;
+
+    ghost next_gives = { YieldsFirst left };
+
+    ghost remaining = { item_count left };
+
+    #[inline(always)]
+    fn next(&mut self) -> Option<Mark> {
+        self.step(Asked::All)
+    }
+}
+
+impl<'a> Walk<'a> {
+    ghost use Rattle.happening_forms.specs.Summed.{four_at};
+    ghost use Rattle.happening_writes.specs.Rows.{marks_at};
+    ghost use Rattle.happening_writes.specs.Asking.{shown_all};
+    ghost use Rattle.happening_writes.specs.Left.{shown_left};
+
+    pub fn asking(
+        rows: &'a [u8],
+        objects: &'a [u8; 256],
+        k: usize,
+        from: usize,
+        asked: Asked,
+    ) -> Self
+        requires { k < 64 }
+        ensures { shown_left result ≡ shown_all asked (marks_at rows.now (four_at objects.now k) from) }
+    {
+        Walk {
+            marks: Marks::new(rows, objects, k, from),
+            asked,
+        }
+    }
+}
+
+impl Iterator for Walk<'_> {
+    ghost use Rattle.std.specs.Iterator.{YieldsFirst, item_count};
+    ghost use Rattle.happening_writes.specs.Left.{shown_left};
+
+    type Item = Mark;
+
+    ghost next_gives = { YieldsFirst shown_left };
+
+    ghost remaining = { item_count shown_left };
+
+    #[inline(always)]
+    fn next(&mut self) -> Option<Mark> {
+        self.marks.step(self.asked)
+    }
+}
+
+#[cfg(test)]
+mod tests {
+    use super::*;
+    use std::test::*;
+
+    // Of point 1, whose first object is 2 of three: a fact is added whose index is 10 and three times that object, fact 20 is deleted, number 7 is raised
+    // by 0, and number 265 becomes 200 thousandths.
+    const ROWS: [u8; 18] = [3, 5, 10, 0, 4, 8, 20, 0, 15, 7, 0, 16, 12, 9, 1, 17, 200, 0];
+
+    fn objects() -> [u8; 256] {
+        let mut objects = [0; 256];
+        objects[4] = 2;
+        objects
+    }
+
+    #[test]
+    fn all_effects_are_given_in_turn(rt: HostRuntime) {
+        let objects = objects();
+        let mut marks = Marks::new(&ROWS, &objects, 1, 1);
+        assert!(rt; matches!(marks.next(), Some(Mark::Fact(true, 16))));
+        assert!(rt; matches!(marks.next(), Some(Mark::Fact(false, 20))));
+        assert!(rt; matches!(marks.next(), Some(Mark::Number(false, 7))));
+        assert!(rt; matches!(marks.next(), Some(Mark::Number(true, 265))));
+        assert!(rt; marks.next().is_none());
+    }
+
+    #[test]
+    fn an_effect_that_is_not_asked_for_has_index_0(rt: HostRuntime) {
+        let objects = objects();
+        let mut walk = Walk::asking(&ROWS, &objects, 1, 1, Asked::Facts(false));
+        assert!(rt; matches!(walk.next(), Some(Mark::Fact(true, 0))));
+        assert!(rt; matches!(walk.next(), Some(Mark::Fact(false, 20))));
+        assert!(rt; matches!(walk.next(), Some(Mark::Number(false, 0))));
+        assert!(rt; matches!(walk.next(), Some(Mark::Number(true, 0))));
+        assert!(rt; walk.next().is_none());
     }
 }

@@ -9,7 +9,7 @@ ghost use Rattle.happening_forms.specs.Summed.{summed, four_at};
 ghost use Rattle.happening_writes.specs.Rows.{marks_at};
 ghost use Rattle.happening_writes.specs.Changing.{Bounded, Room, change_in, blamed, shifted, change_by, settle_all};
 
-use crate::marks::{Asked, Marks};
+use crate::marks::{Asked, Walk};
 use crate::rows;
 use happening_expressions::values;
 use happening_meaning::{Mark, Outcome, Value};
@@ -124,7 +124,7 @@ pub fn leaves<'a>(
     requires { k < 64 }
     ensures { result ≡ some (leaves fresh.now) (marks_at rows.now (four_at objects.now k) from) }
 {
-    Marks::asking(rows, objects, k, from, Asked::Numbers).any(|m| leaves_range(fresh, m))
+    Walk::asking(rows, objects, k, from, Asked::Numbers).any(|m| leaves_range(fresh, m))
 }
 
 // Each number that a point writes becomes what it is in the source.
@@ -141,7 +141,7 @@ pub fn settle<'a>(
     ensures { target.new ≡ settle_all source.now target.old
         (marks_at rows.now (four_at objects.now k) from) }
 {
-    for m in Marks::asking(rows, objects, k, from, Asked::Numbers) {
+    for m in Walk::asking(rows, objects, k, from, Asked::Numbers) {
         if let Mark::Number(_, x) = m {
             happening_state::put(target, x, happening_state::number(source, x));
         }
