@@ -1,5 +1,5 @@
 -- What a walk over the effects of a list asks for: a fact or number that it doesn't ask for has the index 0.
-use Rattle.std.specs.Prelude.{ℕ, List, map, Bool, true, false, cond, not}
+use Rattle.std.specs.Prelude.{List, map, Bool, true, false, cond, not}
 use Rattle.happening_meaning.specs.declared.Mark.{Mark}
 use Rattle.happening_meaning.specs.declared.Mark.TheVariants.{Nothing, Fact, Number}
 use Rattle.happening_writes.specs.declared.marks.Asked.{Asked}

@@ -25,7 +25,7 @@ pub struct Marks<'a> {
     ghost point: { k < 64 },
 }
 
-// The same effects, with the index 0 in place of one that isn't asked for.
+// The same effects; a fact or number that isn't asked for has the index 0.
 #[derive(Clone, Copy)]
 pub struct Walk<'a> {
     marks: Marks<'a>,
@@ -174,9 +174,15 @@ mod tests {
     use super::*;
     use std::test::*;
 
-    // Of point 1, whose first object is 2 of three: a fact is added whose index is 10 and three times that object, fact 20 is deleted, number 7 is raised
-    // by 0, and number 265 becomes 200 thousandths.
-    const ROWS: [u8; 18] = [3, 5, 10, 0, 4, 8, 20, 0, 15, 7, 0, 16, 12, 9, 1, 17, 200, 0];
+    // Effects over three objects, for point 1, whose first parameter is object 2.
+    const ROWS: [u8; 18] = [
+        3, // objects
+        5, 10, 0, 4, // fact 10 + 3 * the first parameter is added
+        8, 20, 0, // fact 20 is deleted
+        15, 7, 0, 16, // number 7 is raised by 0
+        12, 9, 1, 17, 200, // number 9 + 256 becomes 0.2
+        0, // the end
+    ];
 
     fn objects() -> [u8; 256] {
         let mut objects = [0; 256];

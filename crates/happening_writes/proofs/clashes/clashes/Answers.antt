@@ -1,5 +1,4 @@
 use mathlib.Core.Path.{◌∙◌, ap}
-use mathlib.Core.Bool.{Bool}
 use mathlib.Core.List.{List}
 use Rattle.std.proofs.Common.{rules}
 use Rattle.happening_forms.specs.Summed.{four_at}
